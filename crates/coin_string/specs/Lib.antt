@@ -1,0 +1,4 @@
+pub mod Amount
+pub mod AmountLaws
+pub mod Coin
+pub mod Build
