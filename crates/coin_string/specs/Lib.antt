@@ -2,3 +2,9 @@ pub mod Amount
 pub mod AmountLaws
 pub mod Coin
 pub mod Build
+pub mod Part
+pub mod CoinList
+pub mod CoinListLaws
+pub mod CoinIds
+pub mod Order
+pub mod OrderLaws
