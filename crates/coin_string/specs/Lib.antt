@@ -1,5 +1,6 @@
 pub mod Amount
 pub mod AmountLaws
+pub mod Shortest
 pub mod Coin
 pub mod Build
 pub mod Part
