@@ -1,0 +1,5 @@
+pub mod Lists
+pub mod Laws
+pub mod Keep
+pub mod Sub
+pub mod Bytes

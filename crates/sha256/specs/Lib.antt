@@ -1,0 +1,4 @@
+pub mod Fips
+pub mod Code
+pub mod Laws
+pub mod Vector
