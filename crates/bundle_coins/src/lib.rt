@@ -1,0 +1,1 @@
+// The coins that a bundle spends and makes.
