@@ -1,3 +1,4 @@
 pub mod Zero
 pub mod Model
 pub mod Sound
+pub mod Typed
