@@ -2,3 +2,4 @@ pub mod Zero
 pub mod Model
 pub mod Sound
 pub mod Typed
+pub mod ZeroLaws
