@@ -3,3 +3,4 @@ pub mod Model
 pub mod Sound
 pub mod Typed
 pub mod ZeroLaws
+pub mod SoundLaws
