@@ -4,3 +4,4 @@ pub mod Sound
 pub mod Typed
 pub mod ZeroLaws
 pub mod SoundLaws
+pub mod Counted
