@@ -2,26 +2,19 @@
 use mathlib.Core.Path.{_≡_, refl, sym, ap, _∙_}
 use mathlib.Core.Bool.{Bool, true, false, cond, _&&_, and-assoc}
 use mathlib.Core.List.{List, [], _∷_, _++_, map}
-use Prim.Native.Nat.{ℕ, zero, suc, _+_, _≤_, _<_, min}
-use native.Mathlib.Nat.{suc-min-suc, zero-min, min-zero}
+use Prim.Native.Nat.{ℕ, _+_, _<_, min}
 use native.Mathlib.Numerals.{add-one}
 use native.Mathlib.Omega.{arith}
 use lib.Dec.{ltb}
 use lib.ListN.{length, getD, take, drop, set, length-map, length-take}
-use lib.Seq.{length-take-le, take-suc, take-nil}
+use lib.Seq.{length-take-le, take-suc}
 use Rattle.lists.specs.Lists.{cells}
-use Rattle.lists.specs.Laws.{push-cells}
+use Rattle.lists.specs.Laws.{push-cells, take-min}
 use Rattle.book_data.specs.Sound.{risingFrom, risingb}
 
--- a count that is cut at the length takes the same
-pub take-min : {A : Type 0} (n : ℕ) (xs : List A) → take (min n (length xs)) xs ≡ take n xs
-take-min n [] = ap (λ (k : ℕ). take k []) (min-zero n) ∙ sym (take-nil n)
-take-min zero (x ∷ xs) = ap (λ (k : ℕ). take k (x ∷ xs)) (zero-min (suc (length xs)))
-take-min {A} (suc n) (x ∷ xs) = ap (λ (k : ℕ). take k (x ∷ xs)) (suc-min-suc n (length xs)) ∙ ap (λ (l : List A). x ∷ l) (take-min n xs)
-
--- the same for an array of N and a count k that a call has cut
+-- a count k that a call has cut at the length N of an array takes the same
 pub take-cut : {A : Type 0} (N n k : ℕ) (xs : List A) → length xs ≡ N → k ≡ min n N → take k xs ≡ take n xs
-take-cut N n k xs e h = ap (λ (j : ℕ). take j xs) (h ∙ ap (min n) (sym e)) ∙ take-min n xs
+take-cut N n k xs e h = ap (λ (j : ℕ). take j xs) h ∙ take-min N n xs e
 
 pub count-cut : {A : Type 0} (N n k : ℕ) (xs : List A) → length xs ≡ N → k ≡ min n N → k ≡ length (take n xs)
 count-cut N n k xs e h = h ∙ ap (min n) (sym e) ∙ sym (length-take n xs)
