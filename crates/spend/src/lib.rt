@@ -1,0 +1,1 @@
+// Forms, fingerprints and coins of a bundle.

@@ -1,0 +1,1 @@
+// The parts that archive forms are made of.
