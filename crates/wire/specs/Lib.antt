@@ -1,2 +1,4 @@
 pub mod Wire
-pub mod More
+pub mod Number
+pub mod Lawful
+pub mod Items
