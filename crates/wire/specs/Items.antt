@@ -9,21 +9,21 @@ use lib.Seq.{take-at, drop-drop, getD-drop}
 use lib.Dec.{leb}
 use borrow.Author.Tests.{le-leb, leb-true}
 use Rattle.wire.specs.Wire.{Ans, got, bad, andThen, Parser, _>>=_, done, pick, run, be, beFrom, number, checked, upTo, mapped, chosen, optional, manyFrom, counted, listFrom, end, encMany, encList, encOpt}
-use Rattle.wire.specs.Lawful.{Lawful, Spans, Bytes, step, finish, recode, regood, bad-got}
+use Rattle.wire.specs.Lawful.{Lawful, Spans, IsBytes, step, finish, recode, regood, bad-got}
 use Rattle.wire.specs.Number.{be-length, from-be, be-from, from-bound, bytes-take, be-bytes}
 
 -- the bytes of a part are bytes
-span-bytes : (s : List ℕ) (at e : ℕ) (l : List ℕ) → Bytes s → Spans s at e l → Bytes l
+span-bytes : (s : List ℕ) (at e : ℕ) (l : List ℕ) → IsBytes s → Spans s at e l → IsBytes l
 span-bytes s at e l b x =
     let q : take (length l) (drop at s) ≡ l = ap (λ (u : List ℕ). take (length l) u) (x .holds) ∙ take-at l (drop e s) (length l) refl in
-    let d : Bytes (drop at s) = λ i. subst (λ (v : ℕ). v < 256) (sym (getD-drop at s i 0)) (b (at + i)) in
-    subst Bytes q (bytes-take (length l) (drop at s) d)
+    let d : IsBytes (drop at s) = λ i. subst (λ (v : ℕ). v < 256) (sym (getD-drop at s i 0)) (b (at + i)) in
+    subst IsBytes q (bytes-take (length l) (drop at s) d)
 
 -- ---- a byte run
 -- n bytes
 pub record RunOf (n : ℕ) (l : List ℕ) : Type 0 where
   pub long : length l ≡ n
-  pub bytes : Bytes l
+  pub bytes : IsBytes l
 
 run-reads : (n : ℕ) (s : List ℕ) (at e : ℕ) (l : List ℕ) → RunOf n l → Spans s at e l → run n s at ≡ got l e
 unfolding run
@@ -33,7 +33,7 @@ run-reads n s at e l g x =
     let m : at + n ≡ e = omega (arith, x .ends, g .long) in
     rw w (cc)
 
-run-exact : (n : ℕ) (s : List ℕ) (at e : ℕ) (l : List ℕ) → Bytes s → (b : Bool) → leb (at + n) (length s) ≡ b → pick b (got (take n (drop at s)) (at + n)) (bad at) ≡ got l e → RunOf n l × Spans s at e l
+run-exact : (n : ℕ) (s : List ℕ) (at e : ℕ) (l : List ℕ) → IsBytes s → (b : Bool) → leb (at + n) (length s) ≡ b → pick b (got (take n (drop at s)) (at + n)) (bad at) ≡ got l e → RunOf n l × Spans s at e l
 run-exact n s at e l bs false q y = bad-got y
 run-exact n s at e l bs true q y =
     let w : at + n ≤ length s = leb-true _ _ q in
@@ -52,11 +52,11 @@ unfolding run
 run-lawful n = record { reads = run-reads n; exact = λ s at e l b h y. run-exact n s at e l b (leb (at + n) (length s)) refl y }
 
 -- ---- a number of w bytes
-number-exact : (w : ℕ) (s : List ℕ) (at e n : ℕ) → Bytes s → at ≤ length s → (r : Ans (List ℕ)) → run w s at ≡ r → andThen r (λ l m. got (beFrom 0 l) m) ≡ got n e → (n < 256 ^ w) × Spans s at e (be w n)
+number-exact : (w : ℕ) (s : List ℕ) (at e n : ℕ) → IsBytes s → at ≤ length s → (r : Ans (List ℕ)) → run w s at ≡ r → andThen r (λ l m. got (beFrom 0 l) m) ≡ got n e → (n < 256 ^ w) × Spans s at e (be w n)
 number-exact w s at e n b h (bad m) q y = bad-got y
 number-exact w s at e n b h (got l m) q y =
     let x = run-lawful w .exact s at m l b h q in
-    let c : Bytes l = x .0 .bytes in
+    let c : IsBytes l = x .0 .bytes in
     let v : beFrom 0 l ≡ n = cc in
     let k : m ≡ e = cc in
     let t : l ≡ be w n = sym (be-from w l (x .0 .long) c) ∙ ap (be w) v in
@@ -72,7 +72,7 @@ number-lawful w = record {
 }
 
 -- ---- a rule on an item
-checked-exact : {A : Type 0} (test : A → Bool) {G : A → Type 0} {enc : A → List ℕ} {p : Parser A} → Lawful G enc p → (s : List ℕ) (at e : ℕ) (a : A) → Bytes s → at ≤ length s → (r : Ans A) → p s at ≡ r → andThen r (λ x d. pick (test x) (got x d) (bad at)) ≡ got a e → (G a × (test a ≡ true)) × Spans s at e (enc a)
+checked-exact : {A : Type 0} (test : A → Bool) {G : A → Type 0} {enc : A → List ℕ} {p : Parser A} → Lawful G enc p → (s : List ℕ) (at e : ℕ) (a : A) → IsBytes s → at ≤ length s → (r : Ans A) → p s at ≡ r → andThen r (λ x d. pick (test x) (got x d) (bad at)) ≡ got a e → (G a × (test a ≡ true)) × Spans s at e (enc a)
 checked-exact test law s at e a b h (bad d) q y = bad-got y
 checked-exact {A} test {G} {enc} {p} law s at e a b h (got x d) q y = go (test x) refl y
   where

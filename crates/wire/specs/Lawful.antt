@@ -14,12 +14,12 @@ pub record Spans (s : List ℕ) (at e : ℕ) (l : List ℕ) : Type 0 where
   pub inside : e ≤ length s
   pub holds : drop at s ≡ l ++ drop e s
 
-abbrev pub Bytes : List ℕ → Type 0
-Bytes s = (i : ℕ) → getD s i 0 < 256
+abbrev pub IsBytes : List ℕ → Type 0
+IsBytes s = (i : ℕ) → getD s i 0 < 256
 
 pub record Lawful {A : Type 0} (Good : A → Type 0) (enc : A → List ℕ) (p : Parser A) : Type 0 where
   pub reads : (s : List ℕ) (at e : ℕ) (a : A) → Good a → Spans s at e (enc a) → p s at ≡ got a e
-  pub exact : (s : List ℕ) (at e : ℕ) (a : A) → Bytes s → at ≤ length s → p s at ≡ got a e → Good a × Spans s at e (enc a)
+  pub exact : (s : List ℕ) (at e : ℕ) (a : A) → IsBytes s → at ≤ length s → p s at ≡ got a e → Good a × Spans s at e (enc a)
 
 -- ---- spans
 pub span-join : (s : List ℕ) (at m e : ℕ) (l k : List ℕ) → Spans s at m l → Spans s m e k → Spans s at e (l ++ k)
@@ -67,7 +67,7 @@ module _ {A C : Type 0} {GA : A → Type 0} {encA : A → List ℕ} {p : Parser 
       ap (λ (r : Ans A). andThen r (λ a m. k a s m)) (first .reads s at (at + length (encA (π c))) (π c) (part c g) (span-left s at e (encA (π c)) (encC c) x))
       ∙ rest (π c) (part c g) .reads s (at + length (encA (π c))) e c (g, refl) (span-right s at e (encA (π c)) (encC c) x)
 
-  step-exact : (s : List ℕ) (at e : ℕ) (c : C) → Bytes s → at ≤ length s → (r : Ans A) → p s at ≡ r → andThen r (λ a m. k a s m) ≡ got c e → G c × Spans s at e (encA (π c) ++ encC c)
+  step-exact : (s : List ℕ) (at e : ℕ) (c : C) → IsBytes s → at ≤ length s → (r : Ans A) → p s at ≡ r → andThen r (λ a m. k a s m) ≡ got c e → G c × Spans s at e (encA (π c) ++ encC c)
   step-exact s at e c b h (bad m) q y = bad-got y
   step-exact s at e c b h (got a m) q y =
       let x = first .exact s at m a b h q in

@@ -8,7 +8,7 @@ use native.Mathlib.Omega.{arith}
 use lib.ListN.{length, getD, take, drop, length-append, List·getD-append}
 use lib.Seq.{take-suc, take-all, getD-take, length-take-le, getD-at}
 use Rattle.wire.specs.Wire.{be, beFrom}
-use Rattle.wire.specs.Lawful.{Bytes}
+use Rattle.wire.specs.Lawful.{IsBytes}
 
 pub be-length : (w n : ℕ) → length (be w n) ≡ w
 unfolding be
@@ -31,13 +31,13 @@ from-be (suc w) n h =
 pub last-split : (w : ℕ) (l : List ℕ) → length l ≡ suc w → l ≡ take w l ++ (getD l w 0 ∷ [])
 last-split w l h = sym (take-all (suc w) l (omega arith)) ∙ take-suc l w 0 (omega arith)
 
-pub bytes-take : (w : ℕ) (l : List ℕ) → Bytes l → Bytes (take w l)
+pub bytes-take : (w : ℕ) (l : List ℕ) → IsBytes l → IsBytes (take w l)
 bytes-take zero l b i = omega arith
 bytes-take (suc w) [] b i = omega arith
 bytes-take (suc w) (x ∷ l) b zero = b 0
 bytes-take (suc w) (x ∷ l) b (suc i) = bytes-take w l (λ j. b (suc j)) i
 
-pub from-bound : (w : ℕ) (l : List ℕ) → length l ≡ w → Bytes l → beFrom 0 l < 256 ^ w
+pub from-bound : (w : ℕ) (l : List ℕ) → length l ≡ w → IsBytes l → beFrom 0 l < 256 ^ w
 unfolding beFrom
 from-bound zero [] h b = omega arith
 from-bound zero (x ∷ l) h b = absurd (omega arith)
@@ -46,7 +46,7 @@ from-bound (suc w) l h b =
     let e : beFrom 0 l ≡ beFrom 0 (take w l) * 256 + getD l w 0 = ap (beFrom 0) (last-split w l h) ∙ from-snoc 0 (take w l) (getD l w 0) in
     omega (arith, b w, pow-suc 256 w)
 
-pub be-from : (w : ℕ) (l : List ℕ) → length l ≡ w → Bytes l → be w (beFrom 0 l) ≡ l
+pub be-from : (w : ℕ) (l : List ℕ) → length l ≡ w → IsBytes l → be w (beFrom 0 l) ≡ l
 unfolding be
 be-from zero [] h b = refl
 be-from zero (x ∷ l) h b = absurd (omega arith)
@@ -57,13 +57,13 @@ be-from (suc w) l h b =
     let i = be-from w (take w l) (length-take-le w l (omega arith)) (bytes-take w l b) in
     rw (q, r, i) (sym (last-split w l h))
 
-snoc-bytes : (l : List ℕ) (x : ℕ) → Bytes l → x < 256 → Bytes (l ++ (x ∷ []))
+snoc-bytes : (l : List ℕ) (x : ℕ) → IsBytes l → x < 256 → IsBytes (l ++ (x ∷ []))
 snoc-bytes [] x b h zero = h
 snoc-bytes [] x b h (suc i) = omega arith
 snoc-bytes (y ∷ l) x b h zero = b 0
 snoc-bytes (y ∷ l) x b h (suc i) = snoc-bytes l x (λ j. b (suc j)) h i
 
-pub be-bytes : (w n : ℕ) → Bytes (be w n)
+pub be-bytes : (w n : ℕ) → IsBytes (be w n)
 unfolding be
 be-bytes zero n i = omega arith
 be-bytes (suc w) n i = snoc-bytes (be w (n / 256)) (n % 256) (be-bytes w (n / 256)) (omega arith) i

@@ -1,0 +1,9 @@
+pub mod Zeros
+pub mod Cells
+pub mod Bundles
+pub mod Parts
+pub mod Entries
+pub mod Rules
+pub mod Books
+pub mod Back
+pub mod Theorems
