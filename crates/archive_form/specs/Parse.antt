@@ -3,10 +3,10 @@
 use mathlib.Core.Bool.{Bool, true, false, not, _&&_, _||_}
 use mathlib.Core.List.{List, [], _∷_, _++_, map}
 use Prim.Native.Nat.{ℕ, zero, suc}
-use lib.Dec.{eqb, ltb}
+use lib.Dec.{eqb, leb, ltb}
 use lib.ListN.{length}
 use Rattle.lists.specs.Lists.{cells, elemb, flatMap}
-use Rattle.wire.specs.Wire.{Ans, got, bad, Parser, _>>=_, done, andThen, run, number, checked, upTo, mapped, optional, counted, listFrom, listOf, end}
+use Rattle.wire.specs.Wire.{Ans, got, bad, Parser, _>>=_, done, andThen, run, number, checked, upTo, mapped, optionalBy, optional, counted, listFrom, listOf, end}
 use Rattle.book_data.specs.Zero.{zeros, zeroOutput, zeroSpend, zeroHash, noAttempt, baseVariant}
 use Rattle.book_data.specs.Sound.{idOf, attemptToken, tokensOf}
 use Rattle.book_data.specs.Model.{Book, back}
@@ -59,20 +59,20 @@ pub record Run : Type 0 where
 abbrev pub unreadable : Run
 unreadable = record { readable = false; outputs = [] }
 
--- 0 unreadable, 1 then output count and outputs
-unfoldable pub parseRun : Parser Run
-unfolding optional listFrom parseOutput
-parseRun = optional unreadable (do
+-- 0 unreadable, 1 then output count and outputs; in a base bundle the kind may not be 0
+unfoldable pub parseRun : Bool → Parser Run
+unfolding optionalBy listFrom parseOutput
+parseRun base = optionalBy (λ k. not base || leb 1 k) unreadable (do
   os ← listOf 4 parseOutput
   done (record { readable = true; outputs = os }))
 
--- length byte, coin, digest, run; in a base bundle the run's kind may not be 0
+-- length byte, coin, digest, run
 unfoldable pub parseSpend : Bool → Parser CoinSpend
-unfolding counted run checked parseRun zeroOutput
+unfolding counted run parseRun zeroOutput
 parseSpend base = do
   c ← counted 73 run
   d ← run 32
-  r ← checked (λ (r : Run). not base || r .readable) parseRun
+  r ← parseRun base
   done (record {
     «coin_len» = length c;
     coin = cells 73 0 c;

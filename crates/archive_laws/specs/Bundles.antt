@@ -11,7 +11,7 @@ use Rattle.lists.specs.Lists.{allb, cells, tailOf, isZero}
 use Rattle.lists.specs.Laws.{trues, cells-take, take-cells, tail-cells, tail-length}
 use Rattle.wire.specs.Wire.{be, encMany, encList, encOpt, Parser, run, number, counted, checked, listOf}
 use Rattle.wire.specs.Lawful.{Lawful, IsBytes, step, finish, recode, regood}
-use Rattle.wire.specs.Items.{number-lawful, checked-lawful, counted-lawful, listFrom-lawful, optional-lawful, AllFrom}
+use Rattle.wire.specs.Items.{number-lawful, checked-lawful, counted-lawful, listFrom-lawful, optionalBy-lawful, mark, AllFrom}
 use Rattle.spend.specs.Forms.{encodeOutput, encodeRun, encodeSpend, encodeBundle}
 use Rattle.book_data.specs.Zero.{zeroOutput, zeroSpend, zeroBundle, isZeroOutput, isZeroSpend, isZeroBundle}
 use Rattle.book_data.specs.Sound.{soundSpend, soundBundle, spendsOf, outputsOf}
@@ -47,16 +47,23 @@ unfolding encOpt encList encodeRun
 run-bytes false os = refl
 run-bytes true os = sym (append-assoc (be 1 1) (be 1 (length os)) (encMany encodeOutput os))
 
-run-lawful : Lawful GoodRun (λ (r : Run). encodeRun (r .readable) (r .outputs)) parseRun
+mark-rule : (base b : Bool) → (not base || leb 1 (mark b)) ≡ (not base || b)
+unfolding mark
+mark-rule base false = refl
+mark-rule base true = refl
+
+run-lawful : (base : Bool) → Lawful (λ (r : Run). GoodRun r × ((not base || r .readable) ≡ true)) (λ (r : Run). encodeRun (r .readable) (r .outputs)) (parseRun base)
 unfolding parseRun
-run-lawful =
+run-lawful base =
     recode (λ (r : Run). encodeRun (r .readable) (r .outputs)) (λ r x. run-bytes (r .readable) (r .outputs))
-    (optional-lawful (λ (r : Run). r .readable) GoodRun unreadable
+    (regood (λ r x. (x .0, mark-rule base (r .readable) ∙ x .1)) (λ r x. (x .0, sym (mark-rule base (r .readable)) ∙ x .1))
+    (optionalBy-lawful (λ (r : Run). r .readable) GoodRun unreadable
     (recode (λ (r : Run). encList encodeOutput (r .outputs)) (λ r x. append-nil (encList encodeOutput (r .outputs)))
     (step (λ (r : Run). r .outputs) outputs-lawful (λ r x. (x .0 .typed, x .0 .few)) (λ l gl.
     finish (record { readable = true; outputs = l }) ((record { typed = gl .0; few = gl .1; none = λ e. absurd (false≢true (sym e)) }, refl), refl) (λ r x i. record { readable = x .0 .1 i; outputs = x .1 i }))))
     (record { typed = tt; few = omega arith; none = λ e. refl }, refl)
-    (λ r g e. let n = g .none e in λ i. record { readable = e i; outputs = n i }))
+    (λ r g e. let n = g .none e in λ i. record { readable = e i; outputs = n i })
+    (λ k. not base || leb 1 k)))
 
 -- ---- a spend; in a base bundle it is readable
 pub record GoodSpend (base : Bool) (s : CoinSpend) : Type 0 where
@@ -166,7 +173,7 @@ spend-lawful base =
     recode encodeSpend (λ s x. spend-bytes s (spend-facts s (x .sound)))
     (step coinOf coin-lawful (λ s x. coin-good s x) (λ c gc.
     step (λ (s : CoinSpend). s .digest) (bytes-lawful 32) (λ s x. x .0 .typed .digest) (λ d gd.
-    step runOf (checked-lawful (λ (r : Run). not base || r .readable) run-lawful) (λ s x. (run-good s (x .0 .0 .typed) (spend-facts s (x .0 .0 .sound)), x .0 .0 .readable)) (λ r gr.
+    step runOf (run-lawful base) (λ s x. (run-good s (x .0 .0 .typed) (spend-facts s (x .0 .0 .sound)), x .0 .0 .readable)) (λ r gr.
     finish (spend-of c d r) (((spend-of-good base c d r (gc .0) (gc .1) gd (gr .0) (gr .1), take-cells 73 0 c), refl), run-of c d r)
     (λ s x. spend-is s (spend-facts s (x .0 .0 .0 .sound)) ∙ λ i. spend-of (x .0 .0 .1 i) (x .0 .1 i) (x .1 i))))))
   where

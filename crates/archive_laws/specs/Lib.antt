@@ -7,3 +7,5 @@ pub mod Rules
 pub mod Books
 pub mod Back
 pub mod Theorems
+pub mod Sizes
+pub mod Places

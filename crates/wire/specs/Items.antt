@@ -8,7 +8,7 @@ use lib.ListN.{length, getD, take, drop, take-append-drop, length-take, length-d
 use lib.Seq.{take-at, drop-drop, getD-drop}
 use lib.Dec.{leb}
 use borrow.Author.Tests.{le-leb, leb-true}
-use Rattle.wire.specs.Wire.{Ans, got, bad, andThen, Parser, _>>=_, done, pick, run, be, beFrom, number, checked, upTo, mapped, chosen, optional, manyFrom, counted, listFrom, end, encMany, encList, encOpt}
+use Rattle.wire.specs.Wire.{Ans, got, bad, andThen, Parser, _>>=_, done, pick, run, be, beFrom, number, checked, upTo, mapped, chosen, optionalBy, optional, manyFrom, counted, listFrom, end, encMany, encList, encOpt}
 use Rattle.wire.specs.Lawful.{Lawful, Spans, IsBytes, step, finish, recode, regood, bad-got}
 use Rattle.wire.specs.Number.{be-length, from-be, be-from, from-bound, bytes-take, be-bytes}
 
@@ -109,7 +109,7 @@ mapped-lawful f g {GA} {GB} {enc} law back forth =
     finish (f a) (forth a ga .0, forth a ga .1) (λ b x. sym (back b (x .0) .1) ∙ ap f (x .1))))
 
 -- ---- an optional part: `present` says whether a value is there, and only z is not
-mark : Bool → ℕ
+unfoldable pub mark : Bool → ℕ
 mark false = 0
 mark true = 1
 
@@ -154,6 +154,14 @@ module _ {A : Type 0} (present : A → Bool) (G : A → Type 0) (z : A) {enc : A
   optional-lawful =
       recode (λ a. encOpt (present a) (enc a)) (λ a x. opt-bytes (present a) (enc a))
       (step (λ a. mark (present a)) (upTo-lawful 1 (omega arith)) (λ a x. mark-small (present a)) chosen-lawful)
+
+  -- the same with a rule on the mark
+  pub optionalBy-lawful : (rule : ℕ → Bool) → Lawful (λ a. G a × (rule (mark (present a)) ≡ true)) (λ a. encOpt (present a) (enc a)) (optionalBy rule z p)
+  unfolding optionalBy
+  optionalBy-lawful rule =
+      recode (λ a. encOpt (present a) (enc a)) (λ a x. opt-bytes (present a) (enc a))
+      (step (λ a. mark (present a)) (checked-lawful rule (upTo-lawful 1 (omega arith))) (λ a x. (mark-small (present a), x .1)) (λ k gk.
+      regood (λ a x. (x .0 .0, x .1)) (λ a x. ((x .0, ap rule (x .1) ∙ gk .1), x .1)) (chosen-lawful k (gk .0))))
 
 -- ---- elements that go by those before them
 abbrev pub AllFrom : {A : Type 0} → (List A → A → Type 0) → List A → List A → Type 0

@@ -2,3 +2,4 @@ pub mod Wire
 pub mod Number
 pub mod Lawful
 pub mod Items
+pub mod Steady
