@@ -2,3 +2,5 @@ pub mod Zero
 pub mod Model
 pub mod Sound
 pub mod Typed
+pub mod ZeroLaws
+pub mod SoundLaws
