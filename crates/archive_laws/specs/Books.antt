@@ -8,13 +8,14 @@ use lib.Dec.{eqb, ltb}
 use lib.ListN.{length}
 use borrow.Author.Tests.{eqb-true}
 use Rattle.lists.specs.Lists.{allb, elemb, distinctb, flatMap}
-use Rattle.lists.specs.Laws.{trues, and-split, and-both}
+use Rattle.lists.specs.Laws.{and-split, and-both}
 use Rattle.wire.specs.Wire.{be, encMany, encList, Parser, number, checked, listFrom, listOf}
 use Rattle.wire.specs.Lawful.{Lawful, step, finish, recode, regood}
 use Rattle.wire.specs.Items.{number-lawful, checked-lawful, listFrom-lawful, AllFrom}
 use Rattle.spend.specs.Forms.{encodeHeight}
 use Rattle.book_data.specs.Zero.{zeroSubmitted, zeroDelivery}
 use Rattle.book_data.specs.Sound.{soundSubmitted, soundDelivery, idOf, tokensOf, risingb, soundLists}
+use Rattle.book_data.specs.SoundLaws.{sound-lists, lists-sound}
 use Rattle.book_data.specs.Model.{Book}
 use Rattle.book_data.specs.Typed.{Every, U64, TypedOptionalHeight, TypedSubmitted, TypedDelivery}
 use Rattle.book_data.specs.declared.Token.{Token}
@@ -25,7 +26,7 @@ use Rattle.book_data.specs.declared.SubmittedTx.{SubmittedTx}
 use Rattle.book_data.specs.declared.PendingDelivery.{PendingDelivery}
 use Rattle.archive_form.specs.Encode.{encodeSubmitted, encodeDelivery, encodeNumbers, encodeModel}
 use Rattle.archive_form.specs.Parse.{above, parseSubmitted, parseDelivery, parseRetired, parseReplayed, Numbers, parseNumbers, parseModel}
-use Rattle.archive_laws.specs.Cells.{all-true, every-from, from-every, every-test, test-every, every-map, every-both}
+use Rattle.archive_laws.specs.Cells.{every-from, from-every, every-test, test-every, every-map, every-both}
 use Rattle.archive_laws.specs.Parts.{height-lawful}
 use Rattle.archive_laws.specs.Entries.{GoodSubmitted, submitted-lawful, GoodDelivery, delivery-lawful}
 use Rattle.archive_laws.specs.Rules.{whole-from, from-whole, from-both, from-map, distinct-grow, distinct-last, distinct-start, keys-grow, keys-last, keys-start, Held, FreshSlots, slots-grow, slots-last, slots-start, rising-grow, rising-last, rising-start}
@@ -119,40 +120,6 @@ pub record TypedModel (m : Book) : Type 0 where
   pub replayed : Every U64 (m .replayed)
   pub replayed-few : length (m .replayed) ≤ 16
 
-record ListFacts (m : Book) : Type 0 where
-  pub submitted : allb soundSubmitted (m .submitted) ≡ true
-  pub ids : distinctb (map idOf (m .submitted)) ≡ true
-  pub once : distinctb (flatMap tokensOf (m .submitted)) ≡ true
-  pub below : allb (λ t. ltb t (m .nextToken .0)) (flatMap tokensOf (m .submitted)) ≡ true
-  pub pending : allb soundDelivery (m .pending) ≡ true
-  pub retired : distinctb (m .retired) ≡ true
-  pub rising : risingb (m .replayed) ≡ true
-  pub retained : allb (λ i. elemb i (map idOf (m .submitted))) (m .replayed) ≡ true
-
-abbrev tests : Book → List Bool
-tests m =
-    distinctb (map idOf (m .submitted)) ∷ distinctb (flatMap tokensOf (m .submitted)) ∷ allb (λ t. ltb t (m .nextToken .0)) (flatMap tokensOf (m .submitted))
-    ∷ allb soundDelivery (m .pending) ∷ distinctb (m .retired) ∷ risingb (m .replayed) ∷ allb (λ i. elemb i (map idOf (m .submitted))) (m .replayed) ∷ []
-
-list-facts : (m : Book) → soundLists m ≡ true → ListFacts m
-unfolding soundLists
-list-facts m h =
-    let t = trues (allb soundSubmitted (m .submitted)) (tests m) h in
-    record {
-      submitted = t .0;
-      ids = t .1 .0;
-      once = t .1 .1 .0;
-      below = t .1 .1 .1 .0;
-      pending = t .1 .1 .1 .1 .0;
-      retired = t .1 .1 .1 .1 .1 .0;
-      rising = t .1 .1 .1 .1 .1 .1 .0;
-      retained = t .1 .1 .1 .1 .1 .1 .1 .0;
-    }
-
-facts-list : (m : Book) → ListFacts m → soundLists m ≡ true
-unfolding soundLists
-facts-list m f = all-true (allb soundSubmitted (m .submitted)) (tests m) (f .submitted) (f .ids, (f .once, (f .below, (f .pending, (f .retired, (f .rising, (f .retained, tt)))))))
-
 -- what one submission keeps, taken apart
 abbrev Kept : SubmittedTx → Type 0
 Kept t = TypedSubmitted t × (soundSubmitted t ≡ true)
@@ -231,13 +198,13 @@ replayed-every retained l g = (
 
 pub model-good : (m : Book) → TypedModel m → soundLists m ≡ true → GoodModel m
 model-good m t h =
-    let f = list-facts m h in
+    let f = sound-lists m h in
     record {
       token = t .token;
       id = t .id;
       submitted = (
         submitted-from (m .nextToken .0) (m .submitted) (every-both TypedSubmitted (λ x. soundSubmitted x ≡ true) (m .submitted) (t .submitted) (every-test soundSubmitted (m .submitted) (f .submitted)))
-            (f .ids) (record { once = f .once; below = f .below }),
+            (f .ids) (record { once = f .tokens; below = f .below }),
         t .submitted-few,
       );
       pending = (
@@ -246,7 +213,7 @@ model-good m t h =
       );
       retired = (retired-from (m .retired) (t .retired) (f .retired), t .retired-few);
       rollback = t .rollback;
-      replayed = (replayed-from (map idOf (m .submitted)) (m .replayed) (t .replayed) (f .rising) (f .retained), t .replayed-few);
+      replayed = (replayed-from (map idOf (m .submitted)) (m .replayed) (t .replayed) (f .rising) (f .replayed), t .replayed-few);
     }
 
 pub good-typed : (m : Book) → GoodModel m → TypedModel m
@@ -268,13 +235,13 @@ pub good-sound : (m : Book) → GoodModel m → soundLists m ≡ true
 good-sound m g =
     let t = submitted-tokens (m .nextToken .0) (m .submitted) (g .submitted .0) in
     let p = replayed-every (map idOf (m .submitted)) (m .replayed) (g .replayed .0) in
-    facts-list m (record {
+    lists-sound m (record {
       submitted = test-every soundSubmitted (m .submitted) (every-map (λ t x. x .1) (m .submitted) (submitted-every (m .nextToken .0) (m .submitted) (g .submitted .0)));
       ids = submitted-ids (m .nextToken .0) (m .submitted) (g .submitted .0);
-      once = t .once;
+      tokens = t .once;
       below = t .below;
       pending = test-every soundDelivery (m .pending) (every-map (λ d x. x .sound) (m .pending) (g .pending .0));
       retired = retired-every (m .retired) (g .retired .0) .1;
       rising = p .0 .1;
-      retained = p .1;
+      replayed = p .1;
     })

@@ -4,12 +4,13 @@ use mathlib.Core.Bool.{Bool, true, false, not, _&&_, _||_}
 use mathlib.Core.List.{List, [], _∷_, _++_, map, append-nil, append-assoc}
 use Prim.Native.Nat.{ℕ, _<_, _^_}
 use Rattle.lists.specs.Lists.{allb, elemb, flatMap}
-use Rattle.lists.specs.Laws.{trues, and-split, and-both}
+use Rattle.lists.specs.Laws.{and-split, and-both}
 use Rattle.wire.specs.Wire.{be, Parser, number}
 use Rattle.wire.specs.Lawful.{Lawful, step, finish, recode}
 use Rattle.wire.specs.Items.{number-lawful, checked-lawful}
 use Rattle.spend.specs.Forms.{encodeBundle, encodeHeight, encodeFeeIntent}
 use Rattle.book_data.specs.Sound.{soundFeeIntent, soundHash, soundAttempt, soundSlots, soundVariant, soundBundle, readableBundle, soundEntry, soundSubmitted, soundIntent, soundDelivery, idOf, attemptToken, tokensOf, spendsOf}
+use Rattle.book_data.specs.SoundLaws.{SoundEntry, sound-entry, entry-sound, sound-submitted, submitted-sound}
 use Rattle.book_data.specs.Typed.{Bytes, TypedOptionalHeight, TypedOptionalId, TypedFeeIntent, TypedHash, TypedSlots, TypedVariant, TypedBundle, TypedEntry, TypedSubmitted, TypedIntent, TypedDelivery}
 use Rattle.book_data.specs.declared.Height.{Height}
 use Rattle.book_data.specs.declared.SubmissionId.{SubmissionId}
@@ -39,7 +40,7 @@ use Rattle.book_data.specs.declared.SpendBundle.{SpendBundle}
 use Rattle.book_data.specs.declared.CoinSpend.{CoinSpend}
 use Rattle.archive_form.specs.Encode.{goalNumber, triggerNumber, chainNumber, resolutionNumber, encodeHash, encodeSlot, encodeSlots, encodeVariant, encodeFacts, encodeSubmitted, encodeId, encodeDelivery}
 use Rattle.archive_form.specs.Parse.{freshToken, parseSlots, Facts, parseFacts, parseSubmitted, parseDelivery}
-use Rattle.archive_laws.specs.Cells.{all-true, bytes-lawful}
+use Rattle.archive_laws.specs.Cells.{bytes-lawful}
 use Rattle.archive_laws.specs.Bundles.{GoodBundle, bundle-lawful}
 use Rattle.archive_laws.specs.Parts.{height-lawful, id-lawful, goal-lawful, trigger-lawful, chain-lawful, resolution-lawful, GoodFeeIntent, fee-intent-lawful, GoodHash, hash-lawful, GoodSlot, slot-lawful, GoodVariant, variant-lawful, any-bundle}
 
@@ -105,26 +106,18 @@ pub record GoodSubmitted (next : ℕ) (before : List SubmittedTx) (t : Submitted
 record SubmittedFacts (t : SubmittedTx) : Type 0 where
   pub active : soundAttempt (t .slots .«active_attempt») ≡ true
   pub completed : soundAttempt (t .slots .«completed_attempt») ≡ true
-  pub base : soundBundle (t .entry .«base_bundle») ≡ true
-  pub readable : readableBundle (t .entry .«base_bundle») ≡ true
-  pub variant : soundVariant (t .entry .«current_variant») ≡ true
-  pub fee : soundFeeIntent (t .entry .«fee_intent») ≡ true
-  pub acknowledged : soundHash (t .entry .«wallet_acknowledged_variant») ≡ true
+  pub entry : SoundEntry (t .entry)
 
 submitted-facts : (t : SubmittedTx) → soundSubmitted t ≡ true → SubmittedFacts t
-unfolding soundSubmitted soundSlots soundEntry
+unfolding soundSlots
 submitted-facts t h =
-    let p = and-split (soundSlots (t .slots)) (soundEntry (t .entry)) h in
-    let s = and-split (soundAttempt (t .slots .«active_attempt»)) (soundAttempt (t .slots .«completed_attempt»)) (p .0) in
-    let e = trues (soundBundle (t .entry .«base_bundle»)) (readableBundle (t .entry .«base_bundle») ∷ soundVariant (t .entry .«current_variant») ∷ soundFeeIntent (t .entry .«fee_intent») ∷ soundHash (t .entry .«wallet_acknowledged_variant») ∷ []) (p .1) in
-    record { active = s .0; completed = s .1; base = e .0; readable = e .1 .0; variant = e .1 .1 .0; fee = e .1 .1 .1 .0; acknowledged = e .1 .1 .1 .1 .0 }
+    let p = sound-submitted t h in
+    let s = and-split (soundAttempt (t .slots .«active_attempt»)) (soundAttempt (t .slots .«completed_attempt»)) (p .slots) in
+    record { active = s .0; completed = s .1; entry = sound-entry (t .entry) (p .entry) }
 
 facts-submitted : (t : SubmittedTx) → SubmittedFacts t → soundSubmitted t ≡ true
-unfolding soundSubmitted soundSlots soundEntry
-facts-submitted t f =
-    and-both (and-both (f .active) (f .completed))
-    (all-true (soundBundle (t .entry .«base_bundle»)) (readableBundle (t .entry .«base_bundle») ∷ soundVariant (t .entry .«current_variant») ∷ soundFeeIntent (t .entry .«fee_intent») ∷ soundHash (t .entry .«wallet_acknowledged_variant») ∷ [])
-    (f .base) (f .readable, (f .variant, (f .fee, (f .acknowledged, tt)))))
+unfolding soundSlots
+facts-submitted t f = submitted-sound t (record { slots = and-both (f .active) (f .completed); entry = entry-sound (t .entry) (f .entry) })
 
 slots-good : (next : ℕ) (before : List SubmittedTx) (t : SubmittedTx) → GoodSubmitted next before t → GoodSlots next (heldBy before) (t .slots)
 slots-good next before t g =
@@ -167,11 +160,7 @@ submitted-good next before i s p b v f gi new gs gp gb gv gf = record {
   sound = facts-submitted (submittedOf i s p b v f) (record {
     active = gs .live .sound;
     completed = gs .aside .sound;
-    base = gb .sound;
-    readable = good-base b gb;
-    variant = gv .sound;
-    fee = gf .fee .sound;
-    acknowledged = gf .acknowledged .sound;
+    entry = record { base = gb .sound; readable = good-base b gb; current = gv .sound; fee-intent = gf .fee .sound; acknowledged = gf .acknowledged .sound };
   });
   new = new;
   live = gs .live .fresh;
@@ -191,11 +180,11 @@ submitted-lawful next before =
     (step idOf (checked-lawful (λ i. not (elemb i (map idOf before))) (number-lawful 8)) (λ t x. (x .typed .entry .id, x .new)) (λ i gi.
     step (λ (t : SubmittedTx). t .slots) (slots-lawful next (heldBy before)) (λ t x. slots-good next before t (x .0)) (λ s gs.
     step (λ (t : SubmittedTx). t .entry .«intent_fingerprint») (bytes-lawful 32) (λ t x. x .0 .0 .typed .entry .fingerprint) (λ p gp.
-    step (λ (t : SubmittedTx). t .entry .«base_bundle») (bundle-lawful true) (λ t x. let f = submitted-facts t (x .0 .0 .0 .sound) in base-good (t .entry .«base_bundle») (x .0 .0 .0 .typed .entry .base) (f .base) (f .readable)) (λ b gb.
-    step (λ (t : SubmittedTx). t .entry .«current_variant») variant-lawful (λ t x. record { typed = x .0 .0 .0 .0 .typed .entry .current; sound = submitted-facts t (x .0 .0 .0 .0 .sound) .variant }) (λ v gv.
+    step (λ (t : SubmittedTx). t .entry .«base_bundle») (bundle-lawful true) (λ t x. let f = submitted-facts t (x .0 .0 .0 .sound) in base-good (t .entry .«base_bundle») (x .0 .0 .0 .typed .entry .base) (f .entry .base) (f .entry .readable)) (λ b gb.
+    step (λ (t : SubmittedTx). t .entry .«current_variant») variant-lawful (λ t x. record { typed = x .0 .0 .0 .0 .typed .entry .current; sound = submitted-facts t (x .0 .0 .0 .0 .sound) .entry .current }) (λ v gv.
     step (λ (t : SubmittedTx). factsOf (t .entry)) facts-lawful (λ t x. let y = x .0 .0 .0 .0 .0 in let f = submitted-facts t (y .sound) in record {
-      fee = record { typed = y .typed .entry .fee-intent; sound = f .fee };
-      acknowledged = record { typed = y .typed .entry .acknowledged; sound = f .acknowledged };
+      fee = record { typed = y .typed .entry .fee-intent; sound = f .entry .fee-intent };
+      acknowledged = record { typed = y .typed .entry .acknowledged; sound = f .entry .acknowledged };
       expiry = y .typed .entry .status;
     }) (λ f gf.
     finish (submittedOf i s p b v f) ((((((submitted-good next before i s p b v f (gi .0) (gi .1) gs gp gb gv gf, refl), refl), refl), refl), refl), refl)

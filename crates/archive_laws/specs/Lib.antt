@@ -1,4 +1,3 @@
-pub mod Zeros
 pub mod Cells
 pub mod Bundles
 pub mod Parts

@@ -39,9 +39,9 @@ use Rattle.book_data.specs.declared.SpendBundle.{SpendBundle}
 use Rattle.book_data.specs.declared.CoinSpend.{CoinSpend}
 use Rattle.archive_form.specs.Encode.{goalNumber, triggerNumber, chainNumber, resolutionNumber, encodeHash, encodeAttempt, encodeSlot, encodeVariant, encodeId}
 use Rattle.archive_form.specs.Parse.{parseHeight, parseId, parseAttached, parseFeeIntent, goalOf, triggerOf, chainOf, resolutionOf, parseGoal, parseTrigger, parseChain, parseResolution, parseHash, freshToken, parseSlot, parseBundle, parseVariant}
-use Rattle.archive_laws.specs.Zeros.{hash-zero, slot-zero, variant-zero}
+use Rattle.book_data.specs.ZeroLaws.{hash-zero, no-attempt, base-variant, bundle-zero-is}
 use Rattle.archive_laws.specs.Cells.{every-replicate, bytes-lawful}
-use Rattle.archive_laws.specs.Bundles.{GoodBundle, bundle-lawful, zero-bundle-typed, bundle-test}
+use Rattle.archive_laws.specs.Bundles.{GoodBundle, bundle-lawful, zero-bundle-typed}
 
 -- a test that every element passes
 pub all-always : {A : Type 0} (xs : List A) → allb (λ x. true) xs ≡ true
@@ -290,7 +290,7 @@ slot-fresh next held a h e =
 slot-only : (next : ℕ) (held : List ℕ) (a : OptionalAttempt) → GoodSlot next held a → a .present ≡ false → a ≡ noAttempt
 unfolding soundAttempt
 slot-only next held a g e =
-    slot-zero a (ap (λ (b : Bool). cond b (soundHash (a .attempt .«finalized_variant_fingerprint»)) (isNoAttempt a)) (sym e) ∙ g .sound)
+    no-attempt a (ap (λ (b : Bool). cond b (soundHash (a .attempt .«finalized_variant_fingerprint»)) (isNoAttempt a)) (sym e) ∙ g .sound)
 
 slot-none : (next : ℕ) (held : List ℕ) → GoodSlot next held noAttempt × (noAttempt .present ≡ false)
 unfolding soundAttempt noAttempt zeroAttempt isNoAttempt isZeroAttempt zeroHash isZeroHash
@@ -348,11 +348,11 @@ variant-bundle v g e = any-bundle (v .bundle) (g .typed .bundle) (ap (λ (b : Bo
 
 variant-only : (v : SubmissionBroadcastVariant) → GoodVariant v → v .«fee_bearing» ≡ false → v ≡ baseVariant
 unfolding soundVariant
-variant-only v g e = variant-zero v (ap (λ (b : Bool). cond b (soundBundle (v .bundle)) (isBaseVariant v)) (sym e) ∙ g .sound)
+variant-only v g e = base-variant v (ap (λ (b : Bool). cond b (soundBundle (v .bundle)) (isBaseVariant v)) (sym e) ∙ g .sound)
 
 variant-none : GoodVariant baseVariant × (baseVariant .«fee_bearing» ≡ false)
 unfolding soundVariant baseVariant isBaseVariant
-variant-none = (record { typed = record { bundle = zero-bundle-typed; applied-fee = omega arith }; sound = bundle-test }, refl)
+variant-none = (record { typed = record { bundle = zero-bundle-typed; applied-fee = omega arith }; sound = bundle-zero-is }, refl)
 
 variantOf : SpendBundle → ℕ → SubmissionBroadcastVariant
 variantOf b n = record { «fee_bearing» = true; bundle = b; «applied_fee» = n }

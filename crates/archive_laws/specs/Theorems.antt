@@ -10,6 +10,7 @@ use Rattle.wire.specs.Wire.{Ans, got, bad, andThen, end}
 use Rattle.wire.specs.Lawful.{Lawful, Spans, IsBytes, bad-got}
 use Rattle.wire.specs.Items.{end-reads, end-got}
 use Rattle.book_data.specs.Sound.{soundb, soundLists}
+use Rattle.book_data.specs.SoundLaws.{sound, lists-sound, back-view, view-back}
 use Rattle.book_data.specs.Model.{Book, view, back}
 use Rattle.book_data.specs.Typed.{Every, U8, Typed}
 use Rattle.book_data.specs.declared.BookData.{BookData}
@@ -17,7 +18,7 @@ use Rattle.archive_form.specs.Encode.{encodeModel, encodeBook}
 use Rattle.archive_form.specs.Parse.{parseModel, parseWhole, readArchive, ArchiveRead, book, broken, archiveRead}
 use Rattle.archive_laws.specs.Cells.{every-bytes}
 use Rattle.archive_laws.specs.Books.{GoodModel, TypedModel, model-lawful, model-good, good-typed, good-sound}
-use Rattle.archive_laws.specs.Back.{CellFacts, back-view, view-back, view-typed, back-typed, back-sound, sound-parts}
+use Rattle.archive_laws.specs.Back.{view-typed, back-typed, back-sound}
 
 -- ---- reading what was written
 model-read : (m : Book) → GoodModel m → parseWhole (encodeModel m) 0 ≡ got m (length (encodeModel m))
@@ -33,9 +34,8 @@ model-read m g =
 pub restored : (b : BookData) → Typed b → soundb b ≡ true → readArchive (encodeBook b) ≡ book b
 unfolding readArchive encodeBook
 restored b t h =
-    let p = sound-parts b h in
-    let g = model-good (view b) (view-typed b t (p .0)) (p .1) in
-    ap archiveRead (model-read (view b) g) ∙ ap book (back-view b (p .0))
+    let g = model-good (view b) (view-typed b t h) (lists-sound (view b) (sound b h .lists)) in
+    ap archiveRead (model-read (view b) g) ∙ ap book (back-view b h)
 
 -- ---- what is accepted
 whole-exact : (s : List ℕ) (m : Book) (e : ℕ) → IsBytes s → (r : Ans Book) → parseModel s 0 ≡ r → andThen r (λ m e. end m s e) ≡ got m e → GoodModel m × (encodeModel m ≡ s)
