@@ -3,3 +3,5 @@ pub mod Number
 pub mod Lawful
 pub mod Items
 pub mod Steady
+pub mod Puts
+pub mod Overlay
