@@ -1,11 +1,12 @@
 -- Bytes written at a place of a buffer: what they leave, and the same for parts written one after the other.
-use Prim.Native.Nat.{ℕ, zero, suc, _+_, _-_, _≤_, _<_, zero-le}
+use Prim.Native.Nat.{ℕ, zero, suc, _+_, _-_, _*_, _≤_, _<_, zero-le, min}
 use mathlib.Core.Path.{_≡_, refl, sym, ap, _∙_, subst}
 use mathlib.Core.List.{List, [], _∷_, _++_, append-assoc, append-nil}
-use native.Mathlib.Nat.{zero-add, add-zero}
+use native.Mathlib.Nat.{zero-add, add-zero, one-mul, add-mul}
+use native.Mathlib.Decide.{decLe}
 use native.Mathlib.Numerals.{add-one}
 use native.Mathlib.Omega.{arith}
-use lib.ListN.{length, getD, take, drop, set, length-append, length-drop, drop-of-length-le, take-append-drop}
+use lib.ListN.{length, getD, take, drop, set, length-append, length-drop, length-take, drop-of-length-le, take-append-drop}
 use lib.Seq.{take-at, drop-at, drop-drop, take-all, take-length, length-take-le, paste, paste-zero, paste-suc, length-paste}
 use Rattle.wire.specs.Wire.{overlay, encMany}
 
@@ -172,3 +173,48 @@ rest-puts l xs ys n e h p =
           ∙ ap (λ (t : List ℕ). take n xs ++ t) (append-nil ys ∙ y)
           ∙ sym (append-assoc (take n xs) l (drop (n + length l) xs));
     }
+
+-- ---- sizes
+-- r is the length of l, which is at most `most`
+pub record Size (l : List ℕ) (most r : ℕ) : Type 0 where
+  pub is : r ≡ length l
+  pub few : r ≤ most
+
+pub size-as : {a b : List ℕ} {most r : ℕ} → a ≡ b → Size a most r → Size b most r
+size-as {a} {b} {most} {r} q s = subst (λ (l : List ℕ). Size l most r) q s
+
+pub size-join : {a b : List ℕ} {m n x y : ℕ} → Size a m x → Size b n y → Size (a ++ b) (m + n) (x + y)
+size-join {a} {b} s t = record { is = omega (arith, s .is, t .is, length-append a b); few = omega (arith, s .few, t .few) }
+
+-- of the first n elements of l, each of at most m bytes, the first i take r bytes
+pub record Sizing {A : Type 0} (enc : A → List ℕ) (l : List A) (m n r i : ℕ) : Type 0 where
+  pub some : i ≤ n
+  pub sum : Size (encMany enc (take i l)) (i * m) r
+
+pub sizing-start : {A : Type 0} (enc : A → List ℕ) (l : List A) (m n : ℕ) → Sizing enc l m n 0 0
+unfolding encMany
+sizing-start enc l m n = record { some = zero-le; sum = record { is = refl; few = zero-le } }
+
+pub sizing-more : {A : Type 0} (z : A) (enc : A → List ℕ) (l : List A) (m n r i k : ℕ) → Sizing enc l m n r i → i < n → n ≤ length l → Size (enc (getD l i z)) m k → Sizing enc l m n (r + k) (i + 1)
+sizing-more z enc l m n r i k s h a t =
+    let q : i * m + m ≡ (i + 1) * m = ap (λ (x : ℕ). i * m + x) (sym (one-mul m)) ∙ sym (add-mul i 1 m) in
+    record {
+      some = omega arith;
+      sum = size-as (sym (many-suc z enc l i (omega arith))) (subst (λ (x : ℕ). Size (encMany enc (take i l) ++ enc (getD l i z)) x (r + k)) q (size-join (s .sum) t));
+    }
+
+pub sizing-done : {A : Type 0} (enc : A → List ℕ) (l : List A) (m n r i : ℕ) → Sizing enc l m n r i → n ≤ i → Size (encMany enc (take n l)) (n * m) r
+sizing-done enc l m n r i s h =
+    let q : i ≡ n = omega (arith, s .some) in
+    subst (λ (x : ℕ). Size (encMany enc (take x l)) (x * m) r) q (s .sum)
+
+-- ---- a count that is cut to the cells there are
+pub take-cut : {A : Type 0} (N n k : ℕ) (l : List A) → length l ≡ N → k ≡ min n N → take k l ≡ take n l
+take-cut N n k l h e = go (decLe n N)
+  where
+    go : Dec (n ≤ N) → take k l ≡ take n l
+    go (yes y) = let q : k ≡ n = omega arith in ap (λ (x : ℕ). take x l) q
+    go (no y) = take-all k l (omega arith) ∙ sym (take-all n l (omega arith))
+
+pub length-cut : {A : Type 0} (N n k : ℕ) (l : List A) → length l ≡ N → k ≡ min n N → length (take n l) ≡ k
+length-cut N n k l h e = length-take n l ∙ ap (λ (x : ℕ). min n x) h ∙ sym e
