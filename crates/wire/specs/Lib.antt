@@ -1,2 +1,7 @@
 pub mod Wire
-pub mod More
+pub mod Number
+pub mod Lawful
+pub mod Items
+pub mod Steady
+pub mod Puts
+pub mod Overlay

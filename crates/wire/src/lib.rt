@@ -1,1 +1,2 @@
-// The parts that archive forms are made of.
+// Byte runs, big-endian numbers and marks, written into lent buffers and read from a cursor.
+pub mod write;

@@ -1,0 +1,1 @@
+// The archive form of a book: definitions and theorems, in specs/.

@@ -1,0 +1,10 @@
+pub mod Cells
+pub mod Bundles
+pub mod Parts
+pub mod Entries
+pub mod Rules
+pub mod Books
+pub mod Back
+pub mod Theorems
+pub mod Sizes
+pub mod Places

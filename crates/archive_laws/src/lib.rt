@@ -1,0 +1,1 @@
+// The archive's theorems, in specs/.
