@@ -6,3 +6,4 @@ pub mod Doors
 pub mod CoinLists
 pub mod Call
 pub mod Calls
+pub mod Opened

@@ -62,15 +62,15 @@ abbrev pub withResolution : FeeResolution → SubmissionStatus → SubmissionSta
 withResolution r s = record { «fee_resolution» = r; «chain_terminality» = s .«chain_terminality»; expiry = s .expiry }
 
 -- the applied fee is the amount asked for
-abbrev pub attached : SpendBundle → SubmittedEntry → SubmittedEntry
-attached j e =
+abbrev pub withJoined : SpendBundle → SubmittedEntry → SubmittedEntry
+withJoined j e =
     withStatus (withResolution Attached (e .status)) (withVariant (record { «fee_bearing» = true; bundle = j; «applied_fee» = e .«fee_intent» .amount }) e)
 
 unfoldable pub revised : Revision → SubmittedEntry → SubmittedEntry
 unfolding minExpiry soundBundle zeroHash
 revised (tighten x) e = withStatus (withExpiry (minExpiry (e .status .expiry) x) (e .status)) e
 revised (acknowledge f) e = withAcknowledged (record { present = true; hash = f }) e
-revised (attach j) e = cond (soundBundle j) (attached j e) e
+revised (attach j) e = cond (soundBundle j) (withJoined j e) e
 revised (terminality c) e = withStatus (withTerminality c (e .status)) e
 revised reopen e = withStatus (withTerminality Active (e .status)) (withAcknowledged zeroHash e)
 
