@@ -10,12 +10,12 @@ use lib.ListN.{length}
 use Rattle.book_data.specs.declared.SubmittedTx.{SubmittedTx}
 use Rattle.book_data.specs.Model.{Book}
 use Rattle.book_data.specs.Sound.{idOf}
+use Rattle.rules.specs.Books.{callBook, answerBook, issuedBook, bookAfter, answersBook}
 use Rattle.rules.specs.Call.{Call, Value}
 use Rattle.rules.specs.Calls.{rules}
 use Rattle.rules.specs.Keyed.{pick}
 use Rattle.rules.specs.Opened.{opened}
-use Rattle.rules.specs.Rule.{DrainedSubmission, book, Answer, answered, left, issuedBy}
-use Rattle.rules.specs.Steps.{runBook}
+use Rattle.rules.specs.Rule.{book, Answer, answered, left}
 use Rattle.ledger.specs.Account.Counts.{count, counts}
 use Rattle.ledger.specs.Account.Exact.{Exact, exact, one-open, one-slot, single}
 use Rattle.ledger.specs.Account.Tokens.{downTo, next-token, tokens-run}
@@ -25,16 +25,7 @@ use Rattle.ledger.specs.Tidy.{Open, history, Tidy, grown, Chained}
 use Rattle.ledger.specs.View.{bookOf}
 
 module _ (encode : Book → List ℕ) where
-  -- one call: the state left, the answer, and what was issued (also by a drain that ended with 11)
-  unfoldable pub callBook : Call → Book → Book
-  callBook c b = left b (runBook (rules encode c) b)
-
-  unfoldable pub answerBook : Call → Book → Answer Value
-  answerBook c b = answered (runBook (rules encode c) b)
-
-  unfoldable pub issuedBook : Call → Book → List DrainedSubmission
-  issuedBook c b = issuedBy (runBook (rules encode c) b)
-
+  -- one call: the ledger left, and the answer
   unfoldable pub callLedger : Call → Ledger → Ledger
   callLedger c l = left l (runLedger (rules encode c) l)
 
@@ -42,17 +33,9 @@ module _ (encode : Book → List ℕ) where
   answerLedger c l = answered (runLedger (rules encode c) l)
 
   -- a list of calls
-  unfoldable pub bookAfter : List Call → Book → Book
-  bookAfter [] b = b
-  bookAfter (c ∷ cs) b = bookAfter cs (callBook c b)
-
   unfoldable pub ledgerAfter : List Call → Ledger → Ledger
   ledgerAfter [] l = l
   ledgerAfter (c ∷ cs) l = ledgerAfter cs (callLedger c l)
-
-  unfoldable pub answersBook : List Call → Book → List (Answer Value)
-  answersBook [] b = []
-  answersBook (c ∷ cs) b = answerBook c b ∷ answersBook cs (callBook c b)
 
   unfoldable pub answersLedger : List Call → Ledger → List (Answer Value)
   answersLedger [] l = []
@@ -61,32 +44,32 @@ module _ (encode : Book → List ℕ) where
   -- what holds of the book and the ledger after a list of calls on a book opened with next token o and next id n
   pub record Accounted (o n : ℕ) (cs : List Call) : Type 0 where
     -- every call is answered as the ledger foretells, and the book left is the one foretold
-    pub answers : answersBook cs (opened o n) ≡ answersLedger cs (begun o n)
-    pub foretold : bookAfter cs (opened o n) ≡ bookOf (ledgerAfter cs (begun o n))
+    pub answers : answersBook encode cs (opened o n) ≡ answersLedger cs (begun o n)
+    pub foretold : bookAfter encode cs (opened o n) ≡ bookOf (ledgerAfter cs (begun o n))
     -- the issued tokens are those from the opening one to the next one, a row each, the last first
-    pub next : bookAfter cs (opened o n) .nextToken .0 ≡ ledgerAfter cs (begun o n) .nextToken
+    pub next : bookAfter encode cs (opened o n) .nextToken .0 ≡ ledgerAfter cs (begun o n) .nextToken
     pub since : o ≤ ledgerAfter cs (begun o n) .nextToken
     pub tokens : map rowToken (ledgerAfter cs (begun o n) .rows) ≡ downTo o (ledgerAfter cs (begun o n) .nextToken - o)
     -- each has one of the four fates
     pub fates : count displaced (ledgerAfter cs (begun o n) .rows) + count struck (ledgerAfter cs (begun o n) .rows) + count aside (ledgerAfter cs (begun o n) .rows) + count live (ledgerAfter cs (begun o n) .rows)
         ≡ ledgerAfter cs (begun o n) .nextToken - o
     -- the live slots are the live rows and the set-aside slots the set-aside rows, under their own submissions
-    pub lives : Exact live (bookAfter cs (opened o n)) (ledgerAfter cs (begun o n) .rows)
-    pub asides : Exact aside (bookAfter cs (opened o n)) (ledgerAfter cs (begun o n) .rows)
+    pub lives : Exact live (bookAfter encode cs (opened o n)) (ledgerAfter cs (begun o n) .rows)
+    pub asides : Exact aside (bookAfter encode cs (opened o n)) (ledgerAfter cs (begun o n) .rows)
     -- at most one a submission
-    pub once : (i : ℕ) → length (pick idOf i (bookAfter cs (opened o n) .submitted)) ≤ 1
-    pub oneSlot : (t : SubmittedTx) → List·Memᴰ t (bookAfter cs (opened o n) .submitted) → (t .slots .«active_attempt» .present ≡ false) ⊎ (t .slots .«completed_attempt» .present ≡ false)
+    pub once : (i : ℕ) → length (pick idOf i (bookAfter encode cs (opened o n) .submitted)) ≤ 1
+    pub oneSlot : (t : SubmittedTx) → List·Memᴰ t (bookAfter encode cs (opened o n) .submitted) → (t .slots .«active_attempt» .present ≡ false) ⊎ (t .slots .«completed_attempt» .present ≡ false)
     pub oneRow : (r s : Row) → List·Memᴰ r (ledgerAfter cs (begun o n) .rows) → List·Memᴰ s (ledgerAfter cs (begun o n) .rows) → Open r → Open s → r .id ≡ s .id → r ≡ s
     -- at every call of the list, what it issued names as predecessor the token of the id's last row before, and is what the rows grow by
     pub predecessors : (before : List Call) (c : Call) (after : List Call) → cs ≡ before ++ c ∷ after
-        → Chained (history (ledgerAfter before (begun o n))) (issuedBook c (bookAfter before (opened o n)))
-        × (history (ledgerAfter (before ++ c ∷ []) (begun o n)) ≡ grown (issuedBook c (bookAfter before (opened o n))) (history (ledgerAfter before (begun o n))))
+        → Chained (history (ledgerAfter before (begun o n))) (issuedBook encode c (bookAfter encode before (opened o n)))
+        × (history (ledgerAfter (before ++ c ∷ []) (begun o n)) ≡ grown (issuedBook encode c (bookAfter encode before (opened o n))) (history (ledgerAfter before (begun o n))))
 
   -- ---- the proof
   record Stepped (o : ℕ) (c : Call) (l : Ledger) : Type 0 where
-    book : callBook c (bookOf l) ≡ bookOf (callLedger c l)
-    says : answerBook c (bookOf l) ≡ answerLedger c l
-    goes : Continued o (history l) (callLedger c l) (issuedBook c (bookOf l))
+    book : callBook encode c (bookOf l) ≡ bookOf (callLedger c l)
+    says : answerBook encode c (bookOf l) ≡ answerLedger c l
+    goes : Continued o (history l) (callLedger c l) (issuedBook encode c (bookOf l))
 
   stepped : {o : ℕ} (c : Call) (l : Ledger) → Tidy o l → Stepped o c l
   unfolding callBook callLedger answerBook answerLedger issuedBook
@@ -98,8 +81,8 @@ module _ (encode : Book → List ℕ) where
   }
 
   record After (o : ℕ) (cs : List Call) (l : Ledger) : Type 0 where
-    book : bookAfter cs (bookOf l) ≡ bookOf (ledgerAfter cs l)
-    says : answersBook cs (bookOf l) ≡ answersLedger cs l
+    book : bookAfter encode cs (bookOf l) ≡ bookOf (ledgerAfter cs l)
+    says : answersBook encode cs (bookOf l) ≡ answersLedger cs l
     tidy : Tidy o (ledgerAfter cs l)
 
   after : {o : ℕ} (cs : List Call) (l : Ledger) → Tidy o l → After o cs l
@@ -132,8 +115,8 @@ module _ (encode : Book → List ℕ) where
   book-begun o n = refl
 
   chain-at : (o n : ℕ) (before : List Call) (c : Call)
-      → Chained (history (ledgerAfter before (begun o n))) (issuedBook c (bookAfter before (opened o n)))
-      × (history (ledgerAfter (before ++ c ∷ []) (begun o n)) ≡ grown (issuedBook c (bookAfter before (opened o n))) (history (ledgerAfter before (begun o n))))
+      → Chained (history (ledgerAfter before (begun o n))) (issuedBook encode c (bookAfter encode before (opened o n)))
+      × (history (ledgerAfter (before ++ c ∷ []) (begun o n)) ≡ grown (issuedBook encode c (bookAfter encode before (opened o n))) (history (ledgerAfter before (begun o n))))
   chain-at o n before c =
       let a = after before (begun o n) (tidy-begun o n) in
       let s = stepped c (ledgerAfter before (begun o n)) (a .tidy) in
@@ -166,5 +149,5 @@ module _ (encode : Book → List ℕ) where
       t : Tidy o l
       t = a .tidy
 
-      e : bookAfter cs (opened o n) ≡ bookOf l
+      e : bookAfter encode cs (opened o n) ≡ bookOf l
       e = rw (← book-begun o n) (a .book)

@@ -7,3 +7,4 @@ pub mod CoinLists
 pub mod Call
 pub mod Calls
 pub mod Opened
+pub mod Books
