@@ -8,3 +8,4 @@ pub mod Call
 pub mod Calls
 pub mod Opened
 pub mod Books
+pub mod Specimens

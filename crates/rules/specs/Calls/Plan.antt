@@ -116,4 +116,4 @@ unfoldable pub candidate : ℕ → PendingDelivery → Memory → Rule Memory
 unfolding intentOf pick known unknown
 candidate n c a = do
   b ← book
-  plannedBy n c (intentOf (c .intent)) b a (c .intent .id)
+  let f = intentOf (c .intent) in plannedBy n c f b a (c .intent .id)
