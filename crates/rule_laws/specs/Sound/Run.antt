@@ -36,14 +36,14 @@ pub record SoundBook (b : Book) : Type 0 where
   pub replayed : length (b .replayed) ≤ 16
 
 -- ---- lengths
-not-full : (b : Book) → full b ≡ false → Short b
+pub not-full : (b : Book) → full b ≡ false → Short b
 unfolding full
 not-full b e =
     let pqr = or-false (ltb 16 (length (b .submitted)) || ltb 16 (length (b .pending))) (ltb 64 (length (b .retired))) e in
     let pq = or-false (ltb 16 (length (b .submitted))) (ltb 16 (length (b .pending))) (pqr .0) in
     record { submitted = ltb-false 16 _ (pq .0); pending = ltb-false 16 _ (pq .1); retired = ltb-false 64 _ (pqr .1) }
 
-length-change : (i : ℕ) (f : SubmittedTx → SubmittedTx) (ts : List SubmittedTx) → length (change idOf i f ts) ≡ length ts
+pub length-change : (i : ℕ) (f : SubmittedTx → SubmittedTx) (ts : List SubmittedTx) → length (change idOf i f ts) ≡ length ts
 unfolding change
 length-change i f ts = length-map ts (λ t. cond (eqb (idOf t) i) (f t) t)
 
@@ -93,7 +93,7 @@ short-replay : (i : ℕ) (b : Book) → Short b → Short (replayBook i b)
 unfolding replayBook replayedWith
 short-replay i b s = record { submitted = s .submitted; pending = s .pending; retired = s .retired }
 
-short-step : (p : Step) (b : Book) → Short b → (grows p && full (onBook p b .after)) ≡ false → Short (onBook p b .after)
+pub short-step : (p : Step) (b : Book) → Short b → (grows p && full (onBook p b .after)) ≡ false → Short (onBook p b .after)
 unfolding onBook
 short-step (note n) b s e = short-note n b s e
 short-step (revise i r) b s e = short-revise i r b s
