@@ -17,12 +17,10 @@ inputCoins b = map coinOf (spendsOf b)
 
 -- `spent_coin_ids`
 unfoldable pub inputCoinIds : SpendBundle → List (List ℕ)
-unfolding coinIdOf
 inputCoinIds b = map coinIdOf (inputCoins b)
 
 -- the coin of an output: its parent is the spent coin's id
 unfoldable pub outputCoin : CoinSpend → Output → List ℕ
-unfolding coinIdOf
 outputCoin s o = coinOfParts (coinIdOf (coinOf s)) (o .«puzzle_hash») (o .amount)
 
 -- `expected_output_coins` of a readable bundle, in order

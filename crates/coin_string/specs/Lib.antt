@@ -1,1 +1,11 @@
+pub mod Amount
+pub mod AmountLaws
+pub mod Shortest
 pub mod Coin
+pub mod Build
+pub mod Part
+pub mod CoinList
+pub mod CoinListLaws
+pub mod CoinIds
+pub mod Order
+pub mod OrderLaws

@@ -1,6 +1,6 @@
 -- Equality of lists of bytes, and its laws.
 use mathlib.Core.Path.{_≡_, refl, sym, ap, _∙_}
-use mathlib.Core.Bool.{Bool, true, false, _&&_, false≢true}
+use mathlib.Core.Bool.{Bool, true, false, _&&_, _||_, false≢true}
 use mathlib.Core.List.{List, [], _∷_}
 use Prim.Native.Nat.{ℕ, suc}
 use lib.Dec.{eqb}
@@ -48,3 +48,19 @@ eqs-differ {w} {x} {y} {xs} {ys} {xs′} {ys′} p q e h =
 
 pub eqs-done : {w : Bool} {xs ys : List ℕ} → xs ≡ [] → ys ≡ [] → w ≡ eqs xs ys → true ≡ w
 eqs-done {w} {xs} {ys} p q h = sym (h ∙ ap (λ (l : List ℕ). eqs l ys) p ∙ ap (λ (l : List ℕ). eqs [] l) q)
+
+-- c is one of the lists
+abbrev pub isIn : List (List ℕ) → List ℕ → Bool
+isIn [] c = false
+isIn (x ∷ xs) c = eqs x c || isIn xs c
+
+-- a loop that looks for c: the answer of the whole w is the answer of what is left
+module _ (c : List ℕ) {w : Bool} {xs : List (List ℕ)} where
+  pub in-hit : {x : List ℕ} {xs′ : List (List ℕ)} → xs ≡ x ∷ xs′ → true ≡ eqs x c → w ≡ isIn xs c → true ≡ w
+  in-hit {x} {xs′} e q h = sym (h ∙ ap (λ (l : List (List ℕ)). isIn l c) e ∙ ap (λ (b : Bool). b || isIn xs′ c) (sym q))
+
+  pub in-turn : {x : List ℕ} {xs′ : List (List ℕ)} → xs ≡ x ∷ xs′ → false ≡ eqs x c → w ≡ isIn xs c → w ≡ isIn xs′ c
+  in-turn {x} {xs′} e q h = h ∙ ap (λ (l : List (List ℕ)). isIn l c) e ∙ ap (λ (b : Bool). b || isIn xs′ c) (sym q)
+
+  pub in-done : xs ≡ [] → w ≡ isIn xs c → false ≡ w
+  in-done e h = sym (h ∙ ap (λ (l : List (List ℕ)). isIn l c) e)

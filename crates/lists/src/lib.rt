@@ -1,7 +1,7 @@
 // Tests over slices of numbers, each equal to a function of plain lists.
 ghost use mathlib.Core.Path.{_≡_};
 ghost use lib.Dec.{ltb};
-ghost use Rattle.lists.specs.Lists.{allb, elemb, distinctb, isZero, fullOf};
+ghost use Rattle.lists.specs.Lists.{allb, elemb, distinctb, risingb, isZero, fullOf};
 ghost use Rattle.lists.specs.Bytes.{eqs};
 
 pub fn contains(s: &[u64], x: u64) -> bool
@@ -38,6 +38,19 @@ pub fn all_below(s: &[u64], n: u64) -> bool
     let mut i = 0;
     while i < s.len() {
         ok = ok & (s[i] < n);
+        i += 1;
+    }
+    ok
+}
+
+// Each element is below the next.
+pub fn is_rising(s: &[u64]) -> bool
+    ensures { λ r. ⌜ r ≡ risingb (now (s .entry)) ⌝ }
+{
+    let mut ok = true;
+    let mut i = 1;
+    while i < s.len() {
+        ok = ok & (s[i - 1] < s[i]);
         i += 1;
     }
     ok

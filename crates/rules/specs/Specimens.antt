@@ -17,7 +17,7 @@ use Rattle.rules.specs.Call.{Call, NoRetainedState, FeeIntentDiffers, Id
 use Rattle.rules.specs.Calls.{rules}
 use Rattle.rules.specs.Opened.{opened}
 use Rattle.rules.specs.Rule.{Initial, Exact, full, run, Answer, answer, refused, answered, left}
-use Rattle.rules.specs.Specimens.Pieces.{noArchive, height, named, queuedId, delivery, damaged, drained, failed, noFee, entryOf, spending, seventhId, noCoins, live, holding, fifteen}
+use Rattle.rules.specs.Specimens.Pieces.{noArchive, height, byId, queuedId, delivery, damaged, drained, failed, noFee, entryOf, spending, seventhId, noCoins, liveSlot, holding, fifteen}
 use Rattle.rules.specs.Steps.{onBook, runBook}
 
 -- a list of calls on a book: the answers, and the book left in brief
@@ -77,14 +77,14 @@ table =
     }
     -- P Landed, only an input spent: reorg no Landed; halted
     ∷ record {
-      start = holding (spending Landed) (live 5) [];
+      start = holding (spending Landed) (liveSlot 5) [];
       calls = Call.ReconcileChainTerminality noCoins seventhId false [] ∷ Call.ReconciliationInputCoins noCoins 9 ∷ Call.Attempt 5 ∷ Call.RelinquishCompletedAttempt 5 ∷ [];
       answers = answer [] noValue ∷ answer [] (written noCoins) ∷ answer [] (attemptIs none) ∷ answer [] (statusIs Applied) ∷ [];
       leaves = (6 ∷ []) ∷ (2 ∷ []) ∷ (1 ∷ []) ∷ [] ∷ (1 ∷ []) ∷ [] ∷ [];
     }
     -- P the same, reorg yes InputSpent; halted
     ∷ record {
-      start = holding (spending Landed) (live 5) (1 ∷ []);
+      start = holding (spending Landed) (liveSlot 5) (1 ∷ []);
       calls = Call.ReconcileChainTerminality noCoins seventhId true [] ∷ Call.ReconciliationInputCoins noCoins 9 ∷ Call.Attempt 5 ∷ Call.RelinquishCompletedAttempt 5 ∷ [];
       answers = answer [] noValue ∷ answer [] (written (0 ∷ 1 ∷ 1 ∷ 7 ∷ [])) ∷ answer [] (attemptIs none) ∷ answer [] (statusIs Applied) ∷ [];
       leaves = (6 ∷ []) ∷ (2 ∷ []) ∷ (1 ∷ []) ∷ [] ∷ (1 ∷ []) ∷ [] ∷ [];
@@ -129,8 +129,8 @@ table =
     }
     -- failure indices count the queue as it was; a miss removes the submission with its later entries, and retires it
     ∷ record {
-      start = holding (entryOf noFee Active) (live 5) (1 ∷ []);
-      calls = Call.Queue (delivery (named 1) 7) ∷ Call.Queue (delivery (named 1) 7) ∷ Call.Queue (delivery (named 9) 7) ∷ Call.Drain ∷ [];
+      start = holding (entryOf noFee Active) (liveSlot 5) (1 ∷ []);
+      calls = Call.Queue (delivery (byId 1) 7) ∷ Call.Queue (delivery (byId 1) 7) ∷ Call.Queue (delivery (byId 9) 7) ∷ Call.Drain ∷ [];
       answers = answer [] noValue ∷ answer [] noValue ∷ answer [] noValue
           ∷ answer [] (failures (failed 0 FeeIntentDiffers 1 7 ∷ failed 2 NoRetainedState 9 7 ∷ [])) ∷ [];
       leaves = (6 ∷ []) ∷ (2 ∷ []) ∷ [] ∷ [] ∷ (1 ∷ []) ∷ [] ∷ [];
@@ -144,21 +144,21 @@ table =
     }
     -- an id that is marked as replayed already is offered again
     ∷ record {
-      start = holding (entryOf zeroFeeIntent Active) (live 5) (1 ∷ []);
+      start = holding (entryOf zeroFeeIntent Active) (liveSlot 5) (1 ∷ []);
       calls = Call.CollectRollbackReplayIds (1 ∷ 4 ∷ []) ∷ [];
       answers = answer [] noValue ∷ [];
       leaves = (6 ∷ []) ∷ (2 ∷ []) ∷ (1 ∷ []) ∷ (1 ∷ []) ∷ [] ∷ (1 ∷ []) ∷ [];
     }
     -- a stopped attempt is set aside; a second stop is Stale; an abandoned one takes its submission with it
     ∷ record {
-      start = holding (entryOf zeroFeeIntent Active) (live 5) [];
+      start = holding (entryOf zeroFeeIntent Active) (liveSlot 5) [];
       calls = Call.StopAttempt 5 ∷ Call.StopAttempt 5 ∷ Call.RelinquishCompletedAttempt 5 ∷ Call.AbandonAttempt 5 ∷ Call.RetainSubmitted (1 ∷ 4 ∷ []) ∷ Call.StopAttempt 6 ∷ [];
       answers = answer [] (statusIs Applied) ∷ answer [] (statusIs Stale) ∷ answer [] (statusIs Applied) ∷ answer [] (statusIs Stale) ∷ answer [] (idsAre (1 ∷ [])) ∷ refused 4 ∷ [];
       leaves = (6 ∷ []) ∷ (2 ∷ []) ∷ [] ∷ [] ∷ (1 ∷ []) ∷ [] ∷ [];
     }
     -- the doors 2 and 3, and a buffer that is too short
     ∷ record {
-      start = holding (spending Active) (live 5) [];
+      start = holding (spending Active) (liveSlot 5) [];
       calls = Call.Queue damaged ∷ Call.ReconciliationInputCoins (0 ∷ 1 ∷ []) 9 ∷ Call.ReconciliationInputCoins noCoins 3 ∷ Call.ReconciliationInputCoins noCoins 4 ∷ [];
       answers = refused 3 ∷ refused 2 ∷ refused 12 ∷ answer [] (written (0 ∷ 1 ∷ 1 ∷ 7 ∷ [])) ∷ [];
       leaves = (6 ∷ []) ∷ (2 ∷ []) ∷ (1 ∷ []) ∷ [] ∷ [] ∷ [] ∷ [];
@@ -166,5 +166,5 @@ table =
     ∷ []
 
 pub specimens : map played table ≡ map claimed table
-unfolding play opened height holding spending entryOf live noFee delivery named drained failed fifteen damaged seventhId noCoins zeroFeeIntent Fips.K Fips.sched Fips.round Fips.run Fips.plus Fips.upto Fips.padded Fips.pad
+unfolding play opened height holding spending entryOf liveSlot noFee delivery byId drained failed fifteen damaged seventhId noCoins zeroFeeIntent Fips.K Fips.H0 Fips.pad Fips.schedule Fips.round Fips.rounds Fips.plus Fips.hashed
 specimens = refl

@@ -8,7 +8,8 @@ use lib.Dec.{eqb, leb}
 use lib.ListN.{length}
 use Rattle.lists.specs.Bytes.{eqs}
 use Rattle.lists.specs.Lists.{anyb, filterb, flatMap, elemb, rising}
-use Rattle.coin_string.specs.Coin.{coinsIn}
+use Rattle.coin_string.specs.CoinIds.{idListb, idsIn}
+use Rattle.coin_string.specs.CoinList.{coinsIn, coinListb}
 use Rattle.book_data.specs.declared.Height.{Height}
 use Rattle.book_data.specs.declared.SpendBundle.{SpendBundle}
 use Rattle.book_data.specs.declared.SubmittedTx.{SubmittedTx}
@@ -26,7 +27,7 @@ use Rattle.book_data.specs.Sound.{readableBundle, soundDelivery, idOf}
 use Rattle.rules.specs.Call.{FeeSource, Call, Cause, Value}
 use Rattle.rules.specs.Calls.{rules}
 use Rattle.rules.specs.CoinLists.{encodeCoins}
-use Rattle.rules.specs.Doors.{coinListOk, coinIdsOk, idsOk, coinIdsIn}
+use Rattle.rules.specs.Doors.{idsOk}
 use Rattle.rules.specs.Keyed.{pick}
 use Rattle.rules.specs.Parts.{currentFingerprint, feeUnresolved, activeEntry, intentOf, validate}
 use Rattle.rules.specs.Rule.{done, reopen, revise, replay, Rule, undo, stop, look, act, turn, _>>=_, _>>_, step, guarded, grows, full}
@@ -270,7 +271,7 @@ paced-judges observed spent reorg ids (t ∷ ts) = paced-bind Settled false (jud
 paced-reconcile : (observed spent : List ℕ) (reorg : Bool) (ids : List ℕ) → Paced (reconcileChainTerminality observed spent reorg ids)
 unfolding reconcileChainTerminality
 paced-reconcile observed spent reorg ids =
-    paced-cond Settled false (coinListOk observed && coinIdsOk spent && idsOk ids) _ _ (λ b. paced-judges (coinsIn observed) (coinIdsIn spent) reorg ids (b .submitted)) refl
+    paced-cond Settled false (coinListb observed && idListb spent && idsOk ids) _ _ (λ b. paced-judges (coinsIn observed) (idsIn spent) reorg ids (b .submitted)) refl
 
 paced-offerAgain : (is : List ℕ) → Paced (offerAgain is)
 unfolding offerAgain
@@ -321,14 +322,14 @@ paced encode (Call.RelinquishCompletedAttempt t) = paced-relinquish t
 paced encode (Call.RetainSubmitted is) = paced-retain-submitted is
 paced encode (Call.EmitRetirement i) = (refl, refl)
 paced encode Call.DrainRetirements = λ b. (refl, refl)
-paced encode (Call.ReconciliationInputCoins outputs room) = paced-cond Settled false (coinListOk outputs) _ _ (λ b. paced-writing room (encodeCoins (inputCoinsToReconcile (coinsIn outputs) b))) refl
+paced encode (Call.ReconciliationInputCoins outputs room) = paced-cond Settled false (coinListb outputs) _ _ (λ b. paced-writing room (encodeCoins (inputCoinsToReconcile (coinsIn outputs) b))) refl
 paced encode Call.ActiveIds = λ b. refl
 paced encode (Call.BeginReplay h) = paced-begin h
 paced encode (Call.FinishReplayIfAdvanced h) = paced-finish h
 paced encode Call.ReplayRollbackHeight = λ b. refl
 paced encode (Call.ReconcileChainTerminality observed spent reorg ids) = paced-reconcile observed spent reorg ids
-paced encode (Call.CausallyRolledBackIds absent inputs) = paced-cond Settled false (coinListOk absent && coinIdsOk inputs) _ _ (λ b. refl) refl
-paced encode (Call.AbsentOutputsForIds is absent room) = paced-cond Settled false (idsOk is && coinListOk absent) _ _ (λ b. paced-writing room (encodeCoins (flatMap (λ t. absentOutputs (coinsIn absent) (t .entry)) (filterb (λ t. elemb (idOf t) is) (b .submitted))))) refl
+paced encode (Call.CausallyRolledBackIds absent inputs) = paced-cond Settled false (coinListb absent && idListb inputs) _ _ (λ b. refl) refl
+paced encode (Call.AbsentOutputsForIds is absent room) = paced-cond Settled false (idsOk is && coinListb absent) _ _ (λ b. paced-writing room (encodeCoins (flatMap (λ t. absentOutputs (coinsIn absent) (t .entry)) (filterb (λ t. elemb (idOf t) is) (b .submitted))))) refl
 paced encode (Call.CollectRollbackReplayIds is) = paced-collect is
 paced encode Call.ClearLocalArtifacts = paced-clear
 paced encode Call.RestoreRuntime = λ b. paced-setAsides (map idOf (b .submitted))

@@ -21,6 +21,7 @@ use Rattle.rules.specs.Calls.Common.{withdraw}
 use Rattle.rules.specs.Keyed.{pick}
 use Rattle.rules.specs.Parts.{currentAcknowledged, feeUnresolved, activeEntry, sameFeeIntent, intentOf, validate}
 use Rattle.rules.specs.Rule.{done, tighten, revise, retain, emit, Rule, stop, _>>=_, _>>_, book, step}
+use Rattle.rules.specs.Specimens.Pieces.{failed}
 
 -- what a drain remembers: the ids that were emitted, those that were removed, and the failures
 pub record Memory : Type 0 where

@@ -3,7 +3,8 @@ use Prim.Native.Nat.{ℕ}
 use mathlib.Core.Bool.{Bool, cond, not, _&&_}
 use mathlib.Core.List.{List, [], _∷_}
 use Rattle.lists.specs.Lists.{anyb, elemb}
-use Rattle.coin_string.specs.Coin.{coinsIn}
+use Rattle.coin_string.specs.CoinIds.{idListb, idsIn}
+use Rattle.coin_string.specs.CoinList.{coinsIn, coinListb}
 use Rattle.book_data.specs.declared.SubmittedEntry.{SubmittedEntry}
 use Rattle.book_data.specs.declared.SubmittedTx.{SubmittedTx}
 use Rattle.book_data.specs.declared.SubmissionChainTerminality.{SubmissionChainTerminality}
@@ -12,7 +13,7 @@ use Rattle.book_data.specs.Model.{back}
 use Rattle.book_data.specs.Sound.{idOf}
 use Rattle.bundle_coins.specs.Coins.{inputCoinIds, expectedOutputCoins}
 use Rattle.rules.specs.Call.{Value, noValue}
-use Rattle.rules.specs.Doors.{coinListOk, coinIdsOk, idsOk, coinIdsIn, among}
+use Rattle.rules.specs.Doors.{idsOk, among}
 use Rattle.rules.specs.Parts.{isLanded}
 use Rattle.rules.specs.Rule.{done, terminality, unqueue, retire, unreplay, note, revise, setAside, Rule, undo, _>>=_, _>>_, book, step, endTurn}
 
@@ -54,9 +55,9 @@ judgeEach observed spent reorg back (t ∷ ts) = do
   judgeEach observed spent reorg back ts
 
 unfoldable pub reconcileChainTerminality : List ℕ → List ℕ → Bool → List ℕ → Rule Value
-unfolding coinListOk coinIdsOk coinIdsIn idsOk judgeEach
-reconcileChainTerminality observed spent reorg back = cond (coinListOk observed && coinIdsOk spent && idsOk back)
+unfolding idsOk judgeEach
+reconcileChainTerminality observed spent reorg back = cond (coinListb observed && idListb spent && idsOk back)
     (do
       b ← book
-      judgeEach (coinsIn observed) (coinIdsIn spent) reorg back (b .submitted))
+      judgeEach (coinsIn observed) (idsIn spent) reorg back (b .submitted))
     (undo 2)

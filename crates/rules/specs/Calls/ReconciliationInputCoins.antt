@@ -4,14 +4,14 @@ use Prim.Native.Nat.{ℕ}
 use mathlib.Core.Bool.{Bool, cond, not, _||_}
 use mathlib.Core.List.{List}
 use Rattle.lists.specs.Lists.{anyb, filterb, flatMap}
-use Rattle.coin_string.specs.Coin.{coinsIn}
+use Rattle.coin_string.specs.CoinList.{coinsIn, coinListb}
 use Rattle.book_data.specs.declared.SubmittedEntry.{SubmittedEntry}
 use Rattle.book_data.specs.Model.{Book}
 use Rattle.bundle_coins.specs.Coins.{inputCoins, expectedOutputCoins}
 use Rattle.rules.specs.Call.{Value}
 use Rattle.rules.specs.Calls.Common.{writing}
 use Rattle.rules.specs.CoinLists.{risingCoins, encodeCoins}
-use Rattle.rules.specs.Doors.{coinListOk, among}
+use Rattle.rules.specs.Doors.{among}
 use Rattle.rules.specs.Parts.{isLanded}
 use Rattle.rules.specs.Rule.{Rule, undo, _>>=_, _>>_, book}
 
@@ -24,8 +24,8 @@ unfolding isReconciled risingCoins
 inputCoinsToReconcile outputs b = risingCoins (flatMap (λ t. inputCoins (t .entry .«base_bundle»)) (filterb (λ t. isReconciled outputs (t .entry)) (b .submitted)))
 
 unfoldable pub reconciliationInputCoins : List ℕ → ℕ → Rule Value
-unfolding coinListOk inputCoinsToReconcile encodeCoins writing
-reconciliationInputCoins outputs room = cond (coinListOk outputs)
+unfolding inputCoinsToReconcile encodeCoins writing
+reconciliationInputCoins outputs room = cond (coinListb outputs)
     (do
       b ← book
       writing room (encodeCoins (inputCoinsToReconcile (coinsIn outputs) b)))

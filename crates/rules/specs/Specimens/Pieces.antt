@@ -32,8 +32,8 @@ noArchive b = []
 unfoldable pub height : ℕ → Height
 height n = record { 0 = n }
 
-unfoldable pub named : ℕ → OptionalId
-named i = Of (record { 0 = i })
+unfoldable pub byId : ℕ → OptionalId
+byId i = Of (record { 0 = i })
 
 -- 0 for an entry without id
 abbrev pub queuedId : OptionalId → ℕ
@@ -105,9 +105,9 @@ seventhId = 202 ∷ 53 ∷ 135 ∷ 88 ∷ 246 ∷ 210 ∷ 126 ∷ 108 ∷ 244 �
 unfoldable pub noCoins : List ℕ
 noCoins = 0 ∷ 0 ∷ []
 
-unfoldable pub live : ℕ → AttemptSlots
+unfoldable pub liveSlot : ℕ → AttemptSlots
 unfolding noAttempt zeroHash
-live t = record {
+liveSlot t = record {
   «active_attempt» = record { present = true; attempt = record { token = record { 0 = t }; goal = EnsureBroadcast; «drained_variant_fingerprint» = zeros 32; «finalized_variant_fingerprint» = zeroHash } };
   «completed_attempt» = noAttempt;
 }
