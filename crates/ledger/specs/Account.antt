@@ -1,0 +1,4 @@
+-- What a tidy ledger tells, a file for each part of the theorem.
+pub mod Tokens
+pub mod Counts
+pub mod Exact

@@ -1,0 +1,153 @@
+-- Demand 3: one claim about every list of calls on a book just opened. The ledger is computed from the two opening numbers and the calls
+-- alone; `rules` says what a call emits, removes, acknowledges, stops or halts. It holds for every archive form.
+use Prim.Native.Nat.{ℕ, _+_, _-_, _≤_}
+use mathlib.Core.Bool.{false}
+use mathlib.Core.List.{List, [], _∷_, _++_, map, List·Memᴰ}
+use mathlib.Core.Logic.{_⊎_}
+use mathlib.Core.Path.{_≡_, refl, ap}
+use native.Mathlib.Omega.{arith}
+use lib.ListN.{length}
+use Rattle.book_data.specs.declared.SubmittedTx.{SubmittedTx}
+use Rattle.book_data.specs.Model.{Book}
+use Rattle.book_data.specs.Sound.{idOf}
+use Rattle.rules.specs.Books.{callBook, answerBook, issuedBook, bookAfter, answersBook}
+use Rattle.rules.specs.Call.{Call, Value}
+use Rattle.rules.specs.Calls.{rules}
+use Rattle.rules.specs.Keyed.{pick}
+use Rattle.rules.specs.Opened.{opened}
+use Rattle.rules.specs.Rule.{book, Answer, answered, left}
+use Rattle.ledger.specs.Account.Counts.{count, counts}
+use Rattle.ledger.specs.Account.Exact.{Exact, exact, one-open, one-slot, single}
+use Rattle.ledger.specs.Account.Tokens.{downTo, next-token, tokens-run}
+use Rattle.ledger.specs.Ledger.{live, aside, displaced, struck, Row, Ledger, rowToken, begun}
+use Rattle.ledger.specs.Run.{runLedger, Continued, agrees, good, good-left, left-carry, answered-carry, issued-carry}
+use Rattle.ledger.specs.Tidy.{Open, history, Tidy, grown, Chained}
+use Rattle.ledger.specs.View.{bookOf}
+
+module _ (encode : Book → List ℕ) where
+  -- one call: the ledger left, and the answer
+  unfoldable pub callLedger : Call → Ledger → Ledger
+  callLedger c l = left l (runLedger (rules encode c) l)
+
+  unfoldable pub answerLedger : Call → Ledger → Answer Value
+  answerLedger c l = answered (runLedger (rules encode c) l)
+
+  -- a list of calls
+  unfoldable pub ledgerAfter : List Call → Ledger → Ledger
+  ledgerAfter [] l = l
+  ledgerAfter (c ∷ cs) l = ledgerAfter cs (callLedger c l)
+
+  unfoldable pub answersLedger : List Call → Ledger → List (Answer Value)
+  answersLedger [] l = []
+  answersLedger (c ∷ cs) l = answerLedger c l ∷ answersLedger cs (callLedger c l)
+
+  -- what holds of the book and the ledger after a list of calls on a book opened with next token o and next id n
+  pub record Accounted (o n : ℕ) (cs : List Call) : Type 0 where
+    -- every call is answered as the ledger foretells, and the book left is the one foretold
+    pub answers : answersBook encode cs (opened o n) ≡ answersLedger cs (begun o n)
+    pub foretold : bookAfter encode cs (opened o n) ≡ bookOf (ledgerAfter cs (begun o n))
+    -- the issued tokens are those from the opening one to the next one, a row each, the last first
+    pub next : bookAfter encode cs (opened o n) .nextToken .0 ≡ ledgerAfter cs (begun o n) .nextToken
+    pub since : o ≤ ledgerAfter cs (begun o n) .nextToken
+    pub tokens : map rowToken (ledgerAfter cs (begun o n) .rows) ≡ downTo o (ledgerAfter cs (begun o n) .nextToken - o)
+    -- each has one of the four fates
+    pub fates : count displaced (ledgerAfter cs (begun o n) .rows) + count struck (ledgerAfter cs (begun o n) .rows) + count aside (ledgerAfter cs (begun o n) .rows) + count live (ledgerAfter cs (begun o n) .rows)
+        ≡ ledgerAfter cs (begun o n) .nextToken - o
+    -- the live slots are the live rows and the set-aside slots the set-aside rows, under their own submissions
+    pub lives : Exact live (bookAfter encode cs (opened o n)) (ledgerAfter cs (begun o n) .rows)
+    pub asides : Exact aside (bookAfter encode cs (opened o n)) (ledgerAfter cs (begun o n) .rows)
+    -- at most one a submission
+    pub once : (i : ℕ) → length (pick idOf i (bookAfter encode cs (opened o n) .submitted)) ≤ 1
+    pub oneSlot : (t : SubmittedTx) → List·Memᴰ t (bookAfter encode cs (opened o n) .submitted) → (t .slots .«active_attempt» .present ≡ false) ⊎ (t .slots .«completed_attempt» .present ≡ false)
+    pub oneRow : (r s : Row) → List·Memᴰ r (ledgerAfter cs (begun o n) .rows) → List·Memᴰ s (ledgerAfter cs (begun o n) .rows) → Open r → Open s → r .id ≡ s .id → r ≡ s
+    -- at every call of the list, what it issued names as predecessor the token of the id's last row before, and is what the rows grow by
+    pub predecessors : (before : List Call) (c : Call) (after : List Call) → cs ≡ before ++ c ∷ after
+        → Chained (history (ledgerAfter before (begun o n))) (issuedBook encode c (bookAfter encode before (opened o n)))
+        × (history (ledgerAfter (before ++ c ∷ []) (begun o n)) ≡ grown (issuedBook encode c (bookAfter encode before (opened o n))) (history (ledgerAfter before (begun o n))))
+
+  -- ---- the proof
+  record Stepped (o : ℕ) (c : Call) (l : Ledger) : Type 0 where
+    book : callBook encode c (bookOf l) ≡ bookOf (callLedger c l)
+    says : answerBook encode c (bookOf l) ≡ answerLedger c l
+    goes : Continued o (history l) (callLedger c l) (issuedBook encode c (bookOf l))
+
+  stepped : {o : ℕ} (c : Call) (l : Ledger) → Tidy o l → Stepped o c l
+  unfolding callBook callLedger answerBook answerLedger issuedBook
+  stepped c l t = record {
+    book = rw (agrees (rules encode c) l t) (left-carry bookOf l (runLedger (rules encode c) l));
+    says = rw (agrees (rules encode c) l t) (answered-carry bookOf (runLedger (rules encode c) l));
+    goes = rw (agrees (rules encode c) l t, issued-carry bookOf (runLedger (rules encode c) l))
+        (good-left l (runLedger (rules encode c) l) t (good (rules encode c) l t));
+  }
+
+  record After (o : ℕ) (cs : List Call) (l : Ledger) : Type 0 where
+    book : bookAfter encode cs (bookOf l) ≡ bookOf (ledgerAfter cs l)
+    says : answersBook encode cs (bookOf l) ≡ answersLedger cs l
+    tidy : Tidy o (ledgerAfter cs l)
+
+  after : {o : ℕ} (cs : List Call) (l : Ledger) → Tidy o l → After o cs l
+  unfolding bookAfter ledgerAfter answersBook answersLedger
+  after [] l t = record { book = refl; says = refl; tidy = t }
+  after (c ∷ cs) l t =
+      let s = stepped c l t in
+      let k = after cs (callLedger c l) (s .goes .tidy) in
+      record {
+        book = rw (s .book) (k .book);
+        says = rw (s .says, s .book) (ap (λ (x : List (Answer Value)). answerLedger c l ∷ x) (k .says));
+        tidy = k .tidy;
+      }
+
+  ledger-append : (before after : List Call) (l : Ledger) → ledgerAfter (before ++ after) l ≡ ledgerAfter after (ledgerAfter before l)
+  unfolding ledgerAfter
+  ledger-append [] after l = refl
+  ledger-append (c ∷ before) after l = ledger-append before after (callLedger c l)
+
+  ledger-one : (c : Call) (l : Ledger) → ledgerAfter (c ∷ []) l ≡ callLedger c l
+  unfolding ledgerAfter
+  ledger-one c l = refl
+
+  tidy-begun : (o n : ℕ) → Tidy o (begun o n)
+  unfolding begun pick
+  tidy-begun o n = record { tokens = refl; places = λ i. record { fits = tt; fresh = λ k. (refl, refl) } }
+
+  book-begun : (o n : ℕ) → bookOf (begun o n) ≡ opened o n
+  unfolding begun opened bookOf
+  book-begun o n = refl
+
+  chain-at : (o n : ℕ) (before : List Call) (c : Call)
+      → Chained (history (ledgerAfter before (begun o n))) (issuedBook encode c (bookAfter encode before (opened o n)))
+      × (history (ledgerAfter (before ++ c ∷ []) (begun o n)) ≡ grown (issuedBook encode c (bookAfter encode before (opened o n))) (history (ledgerAfter before (begun o n))))
+  chain-at o n before c =
+      let a = after before (begun o n) (tidy-begun o n) in
+      let s = stepped c (ledgerAfter before (begun o n)) (a .tidy) in
+      rw (← book-begun o n, a .book, ledger-append before (c ∷ []) (begun o n), ledger-one c (ledgerAfter before (begun o n)))
+      (s .goes .chained, s .goes .grows)
+
+  -- for every list of calls on a book just opened
+  pub ledger-theorem : (o n : ℕ) (cs : List Call) → Accounted o n cs
+  ledger-theorem o n cs = record {
+    answers = rw (← book-begun o n) (a .says);
+    foretold = e;
+    next = rw e (unfold bookOf in refl);
+    since = omega (arith, next-token l t);
+    tokens = tokens-run l t;
+    fates = omega (arith, next-token l t, counts (l .rows));
+    lives = rw e (exact l t live refl);
+    asides = rw e (exact l t aside refl);
+    once = rw e (single l t);
+    oneSlot = rw e (one-slot l t);
+    oneRow = one-open l t;
+    predecessors = λ before c rest p. chain-at o n before c;
+  }
+    where
+      a : After o cs (begun o n)
+      a = after cs (begun o n) (tidy-begun o n)
+
+      l : Ledger
+      l = ledgerAfter cs (begun o n)
+
+      t : Tidy o l
+      t = a .tidy
+
+      e : bookAfter encode cs (opened o n) ≡ bookOf l
+      e = rw (← book-begun o n) (a .book)

@@ -1,0 +1,87 @@
+-- What every ledger that grew from an opened one keeps: its tokens run down to the opening one, and of each submission none is retained and
+-- its rows are closed, or one is and its last row alone is open.
+use Prim.Native.Nat.{ℕ, suc, _≤_}
+use mathlib.Core.Bool.{Bool, true, false, cond}
+use mathlib.Core.List.{List, [], _∷_, map}
+use mathlib.Core.Option.{Option, none, some}
+use mathlib.Core.Path.{_≡_, subst}
+use lib.Dec.{eqb}
+use Rattle.book_data.specs.declared.SubmittedEntry.{SubmittedEntry}
+use Rattle.rules.specs.Keyed.{same-or-other, pick}
+use Rattle.rules.specs.Rule.{DrainedSubmission}
+use Rattle.ledger.specs.Ledger.{live, aside, Fate, displaced, struck, Row, Ledger, entryId, rowId, rowToken}
+
+abbrev pub isOpen : Fate → Bool
+isOpen displaced = false
+isOpen struck = false
+isOpen aside = true
+isOpen live = true
+
+abbrev pub Open : Row → Type 0
+Open r = isOpen (r .fate) ≡ true
+
+abbrev pub Closed : List Row → Type 0
+Closed [] = Unit {0}
+Closed (r ∷ rs) = (isOpen (r .fate) ≡ false) × Closed rs
+
+-- the submissions of one id, and its rows
+abbrev pub Fits : List SubmittedEntry → List Row → Type 0
+Fits [] rs = Closed rs
+Fits (e ∷ []) [] = Unit {0}
+Fits (e ∷ []) (r ∷ rs) = Open r × Closed rs
+Fits (e ∷ e′ ∷ es) rs = ⊥
+
+pub record Place (next i : ℕ) (es : List SubmittedEntry) (rs : List Row) : Type 0 where
+  pub fits : Fits es rs
+  pub fresh : next ≤ i → (es ≡ []) × (rs ≡ [])
+
+-- the tokens that were issued and to whom, the last first
+pub record Issue : Type 0 where
+  pub token : ℕ
+  pub id : ℕ
+
+abbrev pub issueOf : Row → Issue
+issueOf r = record { token = rowToken r; id = r .id }
+
+abbrev pub history : Ledger → List Issue
+history l = map issueOf (l .rows)
+
+-- the tokens of h run from below n down to o
+abbrev pub Down : ℕ → ℕ → List Issue → Type 0
+Down o n [] = n ≡ o
+Down o n (x ∷ h) = (n ≡ suc (x .token)) × Down o (x .token) h
+
+pub record Tidy (o : ℕ) (l : Ledger) : Type 0 where
+  pub tokens : Down o (l .nextToken) (history l)
+  pub places : (i : ℕ) → Place (l .nextId) i (pick entryId i (l .entries)) (pick rowId i (l .rows))
+
+-- the last token issued to i
+unfoldable pub lastTo : ℕ → List Issue → Option ℕ
+lastTo i [] = none
+lastTo i (x ∷ h) = cond (eqb (x .id) i) (some (x .token)) (lastTo i h)
+
+abbrev pub issued : DrainedSubmission → Issue
+issued x = record { token = x .token; id = x .id }
+
+abbrev pub grown : List DrainedSubmission → List Issue → List Issue
+grown [] h = h
+grown (x ∷ xs) h = grown xs (issued x ∷ h)
+
+-- each predecessor in xs is the last token issued to the submission before
+abbrev pub Chained : List Issue → List DrainedSubmission → Type 0
+Chained h [] = Unit {0}
+Chained h (x ∷ xs) = (x .predecessor ≡ lastTo (x .id) h) × Chained (issued x ∷ h) xs
+
+-- a ledger that differs from a tidy one in the submission i alone
+pub record Beside (i : ℕ) (l l′ : Ledger) : Type 0 where
+  pub ids : l′ .nextId ≡ l .nextId
+  pub entries : (j : ℕ) → (i ≡ j → ⊥) → pick entryId j (l′ .entries) ≡ pick entryId j (l .entries)
+  pub rows : (j : ℕ) → (i ≡ j → ⊥) → pick rowId j (l′ .rows) ≡ pick rowId j (l .rows)
+
+abbrev pub PlaceIn : ℕ → Ledger → Type 0
+PlaceIn i l = Place (l .nextId) i (pick entryId i (l .entries)) (pick rowId i (l .rows))
+
+pub places-beside : {o : ℕ} (i : ℕ) (l l′ : Ledger) → Tidy o l → Beside i l l′ → PlaceIn i l′ → (j : ℕ) → PlaceIn j l′
+places-beside i l l′ t d here j = same-or-other i j
+    (λ e. subst (λ (k : ℕ). PlaceIn k l′) e here)
+    (λ n. rw (d .ids, d .entries j n, d .rows j n) (t .places j))

@@ -1,0 +1,3 @@
+pub mod ListLaws
+pub mod Sound
+pub mod StepRule

@@ -1,0 +1,1 @@
+// Laws of the rules of every call; theorems only.

@@ -1,0 +1,18 @@
+-- `abandon_attempt`: the submission of a live token is removed.
+use Prim.Native.Nat.{ℕ}
+use Rattle.book_data.specs.declared.SubmittedTx.{SubmittedTx}
+use Rattle.book_data.specs.Sound.{idOf}
+use Rattle.rules.specs.Call.{Applied, Stale, Value, statusIs}
+use Rattle.rules.specs.Calls.Common.{withLive, withdraw}
+use Rattle.rules.specs.Rule.{done, Rule, _>>=_, _>>_, endTurn}
+
+unfoldable pub abandonLive : SubmittedTx → Rule Value
+unfolding withdraw
+abandonLive s = do
+  withdraw (idOf s)
+  endTurn
+  done (statusIs Applied)
+
+unfoldable pub abandonAttempt : ℕ → Rule Value
+unfolding withLive abandonLive
+abandonAttempt t = withLive t (statusIs Stale) abandonLive

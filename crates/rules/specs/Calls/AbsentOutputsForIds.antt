@@ -1,0 +1,26 @@
+-- `absent_outputs_for_ids`: of the listed submissions the outputs that are absent, in retained and output order, repeats kept.
+use Prim.Native.Nat.{ℕ}
+use mathlib.Core.Bool.{cond, _&&_}
+use mathlib.Core.List.{List}
+use Rattle.lists.specs.Lists.{filterb, flatMap, elemb}
+use Rattle.coin_string.specs.CoinList.{coinsIn, coinListb}
+use Rattle.book_data.specs.declared.SubmittedEntry.{SubmittedEntry}
+use Rattle.book_data.specs.Sound.{idOf}
+use Rattle.bundle_coins.specs.Coins.{expectedOutputCoins}
+use Rattle.rules.specs.Call.{Value}
+use Rattle.rules.specs.Calls.Common.{writing}
+use Rattle.rules.specs.CoinLists.{encodeCoins}
+use Rattle.rules.specs.Doors.{idsOk, among}
+use Rattle.rules.specs.Rule.{Rule, undo, _>>=_, _>>_, book}
+
+unfoldable pub absentOutputs : List (List ℕ) → SubmittedEntry → List (List ℕ)
+unfolding among expectedOutputCoins
+absentOutputs absent e = filterb (among absent) (expectedOutputCoins (e .«base_bundle»))
+
+unfoldable pub absentOutputsForIds : List ℕ → List ℕ → ℕ → Rule Value
+unfolding idsOk absentOutputs encodeCoins writing
+absentOutputsForIds is absent room = cond (idsOk is && coinListb absent)
+    (do
+      b ← book
+      writing room (encodeCoins (flatMap (λ t. absentOutputs (coinsIn absent) (t .entry)) (filterb (λ t. elemb (idOf t) is) (b .submitted)))))
+    (undo 2)

@@ -1,0 +1,27 @@
+-- `acknowledge_attempt`: refusals 4, 6, 8; "Acknowledging also drops queue entries of that id."
+use Prim.Native.Nat.{ℕ}
+use mathlib.Core.Bool.{cond, not}
+use Rattle.lists.specs.Bytes.{eqs}
+use Rattle.book_data.specs.declared.SubmittedTx.{SubmittedTx}
+use Rattle.book_data.specs.Sound.{idOf}
+use Rattle.rules.specs.Call.{Applied, Stale, Value, statusIs}
+use Rattle.rules.specs.Calls.Common.{withLive}
+use Rattle.rules.specs.Parts.{currentFingerprint}
+use Rattle.rules.specs.Rule.{done, acknowledge, unqueue, note, revise, setAside, Rule, undo, _>>=_, _>>_, step}
+use Rattle.rules.specs.Steps.Slots.{resolved}
+
+unfoldable pub acknowledgeLive : SubmittedTx → Rule Value
+unfolding currentFingerprint resolved
+acknowledgeLive s =
+    cond (not (s .slots .«active_attempt» .attempt .«finalized_variant_fingerprint» .present)) (undo 6)
+    (cond (eqs (currentFingerprint (s .entry)) (resolved (s .slots .«active_attempt» .attempt)))
+    (do
+      step (revise (idOf s) (acknowledge (resolved (s .slots .«active_attempt» .attempt))))
+      step (setAside (idOf s))
+      step (note (unqueue (idOf s)))
+      done (statusIs Applied))
+    (undo 8))
+
+unfoldable pub acknowledgeAttempt : ℕ → Rule Value
+unfolding withLive acknowledgeLive
+acknowledgeAttempt t = withLive t (statusIs Stale) acknowledgeLive

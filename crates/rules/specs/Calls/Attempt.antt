@@ -1,0 +1,19 @@
+-- `attempt`: the live attempt of a token, or none; it has no refusal 4.
+use Prim.Native.Nat.{ℕ}
+use mathlib.Core.Option.{Option, none, some}
+use Rattle.book_data.specs.declared.DeliveryAttempt.{DeliveryAttempt}
+use Rattle.rules.specs.Call.{Value, attemptIs}
+use Rattle.rules.specs.Calls.Common.{Found, live, aside, gone, neverIssued, find}
+use Rattle.rules.specs.Rule.{done, Rule, _>>=_, _>>_, book}
+
+abbrev pub attemptBy : Found → Option DeliveryAttempt
+attemptBy (live s) = some (s .slots .«active_attempt» .attempt)
+attemptBy aside = none
+attemptBy gone = none
+attemptBy neverIssued = none
+
+unfoldable pub attempt : ℕ → Rule Value
+unfolding find
+attempt t = do
+  b ← book
+  done (attemptIs (attemptBy (find t b)))

@@ -1,0 +1,35 @@
+-- `causally_rolled_back_ids`, rising: InputSpent, or Landed with an absent output, and every input from outside the bundle live.
+use Prim.Native.Nat.{ℕ}
+use mathlib.Core.Bool.{Bool, cond, not, _&&_, _||_}
+use mathlib.Core.List.{List, map}
+use Rattle.lists.specs.Lists.{allb, anyb, filterb, rising}
+use Rattle.coin_string.specs.Coin.{coinIdOf}
+use Rattle.coin_string.specs.CoinIds.{idListb, idsIn}
+use Rattle.coin_string.specs.CoinList.{coinsIn, coinListb}
+use Rattle.book_data.specs.declared.SpendBundle.{SpendBundle}
+use Rattle.book_data.specs.declared.SubmittedEntry.{SubmittedEntry}
+use Rattle.book_data.specs.Sound.{idOf}
+use Rattle.bundle_coins.specs.Coins.{inputCoinIds, expectedOutputCoins}
+use Rattle.rules.specs.Call.{Value, idsAre}
+use Rattle.rules.specs.Doors.{among}
+use Rattle.rules.specs.Parts.{activeEntry, isInputSpent}
+use Rattle.rules.specs.Rule.{done, Rule, undo, _>>=_, _>>_, book}
+
+-- "Coins created and consumed inside this bundle are recreated on replay"
+unfoldable pub outerInputIds : SpendBundle → List (List ℕ)
+unfolding among inputCoinIds expectedOutputCoins
+outerInputIds b = filterb (λ i. not (among (map coinIdOf (expectedOutputCoins b)) i)) (inputCoinIds b)
+
+unfoldable pub rolledBack : List (List ℕ) → List (List ℕ) → SubmittedEntry → Bool
+unfolding among expectedOutputCoins outerInputIds
+rolledBack absent inputs e =
+    not (activeEntry e) && (isInputSpent (e .status .«chain_terminality») || anyb (among absent) (expectedOutputCoins (e .«base_bundle»)))
+    && allb (among inputs) (outerInputIds (e .«base_bundle»))
+
+unfoldable pub causallyRolledBackIds : List ℕ → List ℕ → Rule Value
+unfolding rolledBack
+causallyRolledBackIds absent inputs = cond (coinListb absent && idListb inputs)
+    (do
+      b ← book
+      done (idsAre (rising (map idOf (filterb (λ t. rolledBack (coinsIn absent) (idsIn inputs) (t .entry)) (b .submitted))))))
+    (undo 2)

@@ -1,0 +1,16 @@
+-- `clear_local_artifacts`: every submission is removed and retired, rising; queue and replay epoch are cleared.
+use mathlib.Core.List.{map}
+use Rattle.lists.specs.Lists.{rising}
+use Rattle.book_data.specs.Sound.{idOf}
+use Rattle.rules.specs.Call.{Value, noValue}
+use Rattle.rules.specs.Calls.Common.{withdrawEach}
+use Rattle.rules.specs.Rule.{done, unqueueAll, endEpoch, note, Rule, _>>=_, _>>_, book, step}
+
+unfoldable pub clearLocalArtifacts : Rule Value
+unfolding withdrawEach
+clearLocalArtifacts = do
+  b ← book
+  withdrawEach (rising (map idOf (b .submitted)))
+  step (note unqueueAll)
+  step (note endEpoch)
+  done noValue

@@ -1,0 +1,38 @@
+-- `collect_rollback_replay_ids`: the newly marked ids are Active and unacknowledged again; all named ones are offered.
+use Prim.Native.Nat.{ℕ}
+use mathlib.Core.Bool.{cond}
+use mathlib.Core.List.{List, [], _∷_, map}
+use Rattle.lists.specs.Lists.{filterb, elemb}
+use Rattle.book_data.specs.declared.SubmissionDeliveryGoal.the-variants.{EnsureBroadcast}
+use Rattle.book_data.specs.declared.DeliveryTrigger.the-variants.{Rollback}
+use Rattle.book_data.specs.Model.{Book}
+use Rattle.book_data.specs.Sound.{idOf}
+use Rattle.rules.specs.Call.{Value, noValue}
+use Rattle.rules.specs.Calls.Offer.{offer}
+use Rattle.rules.specs.Doors.{idsOk}
+use Rattle.rules.specs.Rule.{done, reopen, revise, replay, Rule, undo, _>>=_, _>>_, book, step, endTurn}
+
+unfoldable pub markEach : Book → List ℕ → Rule (Unit {0})
+markEach b [] = done tt
+markEach b (i ∷ is) = do
+  cond (elemb i (b .replayed)) (done tt) (do
+    step (replay i)
+    step (revise i reopen))
+  markEach b is
+
+unfoldable pub offerAgain : List ℕ → Rule Value
+unfolding offer
+offerAgain [] = done noValue
+offerAgain (i ∷ is) = do
+  offer i Rollback EnsureBroadcast
+  endTurn
+  offerAgain is
+
+unfoldable pub collectRollbackReplayIds : List ℕ → Rule Value
+unfolding idsOk markEach offerAgain
+collectRollbackReplayIds is = cond (idsOk is)
+    (do
+      b ← book
+      markEach b (filterb (λ i. elemb i is) (map idOf (b .submitted)))
+      offerAgain (filterb (λ i. elemb i is) (map idOf (b .submitted))))
+    (undo 2)

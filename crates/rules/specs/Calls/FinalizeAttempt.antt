@@ -1,0 +1,96 @@
+-- `finalize_attempt`. Refusals 3 (the joined bundle), 4, 5, 7, 8, 9 in this order.
+use Prim.Native.Nat.{ℕ}
+use mathlib.Core.Bool.{Bool, true, false, cond, not, _&&_}
+use mathlib.Core.Option.{none, some}
+use Rattle.lists.specs.Bytes.{eqs}
+use Rattle.book_data.specs.declared.SpendBundle.{SpendBundle}
+use Rattle.book_data.specs.declared.SubmittedEntry.{SubmittedEntry}
+use Rattle.book_data.specs.declared.SubmittedTx.{SubmittedTx}
+use Rattle.book_data.specs.declared.SubmissionDeliveryGoal.{SubmissionDeliveryGoal}
+use Rattle.book_data.specs.Sound.{soundBundle, idOf}
+use Rattle.book_data.specs.Zero.{isZeroBundle, isEnsureBroadcast}
+use Rattle.spend.specs.Forms.{variantFingerprint}
+use Rattle.rules.specs.Call.{FeeSource, NoSource, Joined, JoinFailed, SourceFailed, FeeAttached, FeeUnused, FeeNotRequested, FinalizedSubmission, Value, finalized}
+use Rattle.rules.specs.Calls.Common.{withLive}
+use Rattle.rules.specs.Parts.{currentBundle, currentAppliedFee, currentFingerprint, holdsHash, currentAcknowledged, feeUnresolved, validate}
+use Rattle.rules.specs.Rule.{done, attach, revise, finalise, Rule, undo, _>>=_, _>>_, step}
+
+abbrev pub isJoined : FeeSource → Bool
+isJoined NoSource = false
+isJoined Joined = true
+isJoined JoinFailed = false
+isJoined SourceFailed = false
+
+abbrev pub isNoSource : FeeSource → Bool
+isNoSource NoSource = true
+isNoSource Joined = false
+isNoSource JoinFailed = false
+isNoSource SourceFailed = false
+
+-- the base is broadcast without the fee: `SubmitWithoutFee`
+unfoldable pub unusedFee : SubmissionDeliveryGoal → SubmittedEntry → FinalizedSubmission
+unfolding currentFingerprint currentAcknowledged
+unusedFee g e = record {
+  bundle = e .«base_bundle»;
+  appliedFee = 0;
+  warning = true;
+  disposition = FeeUnused;
+  fingerprint = currentFingerprint e;
+  shouldBroadcast = isEnsureBroadcast g && not (currentAcknowledged e);
+}
+
+-- no fee is open: the current variant
+unfoldable pub currentFinal : SubmissionDeliveryGoal → SubmittedEntry → FinalizedSubmission
+unfolding currentBundle currentAppliedFee currentFingerprint currentAcknowledged
+currentFinal g e = record {
+  bundle = currentBundle e;
+  appliedFee = currentAppliedFee e;
+  warning = false;
+  disposition = FeeNotRequested;
+  fingerprint = currentFingerprint e;
+  shouldBroadcast = isEnsureBroadcast g && not (currentAcknowledged e);
+}
+
+-- the joined bundle, with the fee that was asked for
+unfoldable pub attachedFinal : SpendBundle → SubmittedEntry → FinalizedSubmission
+unfolding variantFingerprint holdsHash
+attachedFinal j e = record {
+  bundle = j;
+  appliedFee = e .«fee_intent» .amount;
+  warning = false;
+  disposition = FeeAttached;
+  fingerprint = variantFingerprint j;
+  shouldBroadcast = not (holdsHash (e .«wallet_acknowledged_variant») (variantFingerprint j));
+}
+
+unfoldable pub finalizeAs : ℕ → FinalizedSubmission → Rule Value
+finalizeAs i r = do
+  step (finalise i (r .fingerprint))
+  done (finalized (some r))
+
+unfoldable pub finalizeWith : FeeSource → SpendBundle → SubmittedTx → Rule Value
+unfolding finalizeAs unusedFee currentFinal attachedFinal
+finalizeWith source j t =
+    cond (feeUnresolved (t .entry))
+    (cond (isJoined source)
+    (do
+      step (revise (idOf t) (attach j))
+      finalizeAs (idOf t) (attachedFinal j (t .entry)))
+    (finalizeAs (idOf t) (unusedFee (t .slots .«active_attempt» .attempt .goal) (t .entry))))
+    (cond (isNoSource source) (finalizeAs (idOf t) (currentFinal (t .slots .«active_attempt» .attempt .goal) (t .entry))) (undo 9))
+
+unfoldable pub finalizeLive : FeeSource → SpendBundle → SubmittedTx → Rule Value
+unfolding validate currentFingerprint finalizeWith
+finalizeLive source j t =
+    cond (t .slots .«active_attempt» .attempt .«finalized_variant_fingerprint» .present) (undo 5)
+    (cond (not (validate (t .entry))) (undo 7)
+    (cond (eqs (currentFingerprint (t .entry)) (t .slots .«active_attempt» .attempt .«drained_variant_fingerprint»)) (finalizeWith source j t) (undo 8)))
+
+-- the joined bundle is sound; with any other source it is unused, and zero
+unfoldable pub soundSource : FeeSource → SpendBundle → Bool
+unfolding soundBundle isZeroBundle
+soundSource source j = cond (isJoined source) (soundBundle j) (isZeroBundle j)
+
+unfoldable pub finalizeAttempt : ℕ → FeeSource → SpendBundle → Rule Value
+unfolding soundSource withLive finalizeLive
+finalizeAttempt t source j = cond (soundSource source j) (withLive t (finalized none) (finalizeLive source j)) (undo 3)

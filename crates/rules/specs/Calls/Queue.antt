@@ -1,0 +1,15 @@
+-- `queue`: a delivery goes to the end of the queue. Refusal 3 for what is out of range or damaged in an unused cell.
+use mathlib.Core.Bool.{cond}
+use Rattle.book_data.specs.declared.PendingDelivery.{PendingDelivery}
+use Rattle.book_data.specs.Sound.{soundDelivery}
+use Rattle.rules.specs.Call.{Value, noValue}
+use Rattle.rules.specs.Rule.{done, enqueue, note, Rule, undo, _>>=_, _>>_, step, endTurn}
+
+unfoldable pub queue : PendingDelivery → Rule Value
+unfolding soundDelivery
+queue d = cond (soundDelivery d)
+    (do
+      step (note (enqueue d))
+      endTurn
+      done noValue)
+    (undo 3)

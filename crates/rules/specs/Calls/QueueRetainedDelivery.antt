@@ -1,0 +1,14 @@
+-- `queue_retained_delivery`, as a call.
+use Prim.Native.Nat.{ℕ}
+use Rattle.book_data.specs.declared.SubmissionDeliveryGoal.{SubmissionDeliveryGoal}
+use Rattle.book_data.specs.declared.DeliveryTrigger.{DeliveryTrigger}
+use Rattle.rules.specs.Call.{Value, noValue}
+use Rattle.rules.specs.Calls.Offer.{offer}
+use Rattle.rules.specs.Rule.{done, Rule, _>>=_, _>>_, endTurn}
+
+unfoldable pub queueRetainedDelivery : ℕ → DeliveryTrigger → SubmissionDeliveryGoal → Rule Value
+unfolding offer
+queueRetainedDelivery i trigger g = do
+  offer i trigger g
+  endTurn
+  done noValue

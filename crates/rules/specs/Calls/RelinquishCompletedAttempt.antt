@@ -1,0 +1,17 @@
+-- `relinquish_completed_attempt` "changes nothing; a live token gets Stale"; a set-aside one Applied; refusal 4: not set aside and not below next token.
+use Prim.Native.Nat.{ℕ}
+use Rattle.rules.specs.Call.{Applied, Stale, Value, statusIs}
+use Rattle.rules.specs.Calls.Common.{Found, live, aside, gone, neverIssued, find}
+use Rattle.rules.specs.Rule.{done, Rule, undo, _>>=_, _>>_, book}
+
+abbrev pub relinquishBy : Found → Rule Value
+relinquishBy (live s) = done (statusIs Stale)
+relinquishBy aside = done (statusIs Applied)
+relinquishBy gone = done (statusIs Stale)
+relinquishBy neverIssued = undo 4
+
+unfoldable pub relinquishCompletedAttempt : ℕ → Rule Value
+unfolding find
+relinquishCompletedAttempt t = do
+  b ← book
+  relinquishBy (find t b)

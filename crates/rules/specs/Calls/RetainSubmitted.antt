@@ -1,0 +1,23 @@
+-- `retain_submitted` "takes the ids to remove": those that are retained go, are retired rising, and are answered.
+use Prim.Native.Nat.{ℕ}
+use mathlib.Core.Bool.{cond}
+use mathlib.Core.List.{List, map}
+use Rattle.lists.specs.Lists.{filterb, elemb, rising}
+use Rattle.book_data.specs.Model.{Book}
+use Rattle.book_data.specs.Sound.{idOf}
+use Rattle.rules.specs.Call.{Value, idsAre}
+use Rattle.rules.specs.Calls.Common.{withdrawEach}
+use Rattle.rules.specs.Doors.{idsOk}
+use Rattle.rules.specs.Rule.{done, Rule, undo, _>>=_, _>>_, book}
+
+unfoldable pub toRemove : List ℕ → Book → List ℕ
+toRemove is b = rising (filterb (λ i. elemb i is) (map idOf (b .submitted)))
+
+unfoldable pub retainSubmitted : List ℕ → Rule Value
+unfolding idsOk toRemove withdrawEach
+retainSubmitted is = cond (idsOk is)
+    (do
+      b ← book
+      withdrawEach (toRemove is b)
+      done (idsAre (toRemove is b)))
+    (undo 2)

@@ -1,0 +1,16 @@
+-- `stop_attempt`: "Stopping changes the two attempt slots of that one submission and nothing else."
+use Prim.Native.Nat.{ℕ}
+use Rattle.book_data.specs.declared.SubmittedTx.{SubmittedTx}
+use Rattle.book_data.specs.Sound.{idOf}
+use Rattle.rules.specs.Call.{Applied, Stale, Value, statusIs}
+use Rattle.rules.specs.Calls.Common.{withLive}
+use Rattle.rules.specs.Rule.{done, setAside, Rule, _>>=_, _>>_, step}
+
+unfoldable pub stopLive : SubmittedTx → Rule Value
+stopLive s = do
+  step (setAside (idOf s))
+  done (statusIs Applied)
+
+unfoldable pub stopAttempt : ℕ → Rule Value
+unfolding withLive stopLive
+stopAttempt t = withLive t (statusIs Stale) stopLive

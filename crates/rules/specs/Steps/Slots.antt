@@ -1,0 +1,75 @@
+-- What issuing, setting aside and finalising make of the two attempt slots of a submission, and what issuing hands out.
+use Prim.Native.Nat.{ℕ}
+use mathlib.Core.Bool.{Bool, true, false, cond}
+use mathlib.Core.List.{List}
+use mathlib.Core.Option.{Option, none, some}
+use Rattle.lists.specs.Bytes.{eqs}
+use Rattle.book_data.specs.Zero.{zeroHash, noAttempt, isEnsureBroadcast}
+use Rattle.book_data.specs.declared.Token.{Token}
+use Rattle.book_data.specs.declared.SubmissionDeliveryGoal.{SubmissionDeliveryGoal}
+use Rattle.book_data.specs.declared.DeliveryAttempt.{DeliveryAttempt}
+use Rattle.book_data.specs.declared.OptionalAttempt.{OptionalAttempt}
+use Rattle.book_data.specs.declared.AttemptSlots.{AttemptSlots}
+use Rattle.book_data.specs.declared.SubmittedEntry.{SubmittedEntry}
+use Rattle.rules.specs.Parts.{currentBundle, currentFingerprint, openFeeIntent}
+use Rattle.rules.specs.Rule.{Relationship, Initial, Exact, NewerFeeBearing, Other, DrainedSubmission}
+
+abbrev pub present : DeliveryAttempt → OptionalAttempt
+present a = record { present = true; attempt = a }
+
+unfoldable pub issueAttempt : ℕ → SubmissionDeliveryGoal → List ℕ → DeliveryAttempt
+unfolding zeroHash
+issueAttempt t g v = record { token = record { 0 = t }; goal = g; «drained_variant_fingerprint» = v; «finalized_variant_fingerprint» = zeroHash }
+
+-- "Issuing takes the live slot, else the set-aside one, as predecessor"
+unfoldable pub taken : AttemptSlots → OptionalAttempt
+taken s = cond (s .«active_attempt» .present) (s .«active_attempt») (s .«completed_attempt»)
+
+-- the slot that is not taken stays
+unfoldable pub slotsIssued : DeliveryAttempt → AttemptSlots → AttemptSlots
+unfolding noAttempt
+slotsIssued a s = record { «active_attempt» = present a; «completed_attempt» = cond (s .«active_attempt» .present) (s .«completed_attempt») noAttempt }
+
+-- the live attempt, if any, goes to the set-aside slot
+unfoldable pub slotsAside : AttemptSlots → AttemptSlots
+unfolding noAttempt
+slotsAside s = cond (s .«active_attempt» .present) (record { «active_attempt» = noAttempt; «completed_attempt» = s .«active_attempt» }) s
+
+abbrev pub attemptFinal : List ℕ → DeliveryAttempt → DeliveryAttempt
+attemptFinal v a = record {
+  token = a .token;
+  goal = a .goal;
+  «drained_variant_fingerprint» = a .«drained_variant_fingerprint»;
+  «finalized_variant_fingerprint» = record { present = true; hash = v };
+}
+
+-- the live attempt, if any, gets its final fingerprint
+unfoldable pub slotsFinal : List ℕ → AttemptSlots → AttemptSlots
+slotsFinal v s = cond (s .«active_attempt» .present)
+    (record { «active_attempt» = present (attemptFinal v (s .«active_attempt» .attempt)); «completed_attempt» = s .«completed_attempt» })
+    s
+
+-- `resolved_variant_fingerprint`
+unfoldable pub resolved : DeliveryAttempt → List ℕ
+resolved a = cond (a .«finalized_variant_fingerprint» .present) (a .«finalized_variant_fingerprint» .hash) (a .«drained_variant_fingerprint»)
+
+-- `issue_attempt`: the relationship to the predecessor
+unfoldable pub relationshipTo : OptionalAttempt → SubmissionDeliveryGoal → List ℕ → Relationship
+unfolding resolved
+relationshipTo p g v = cond (p .present) (cond (isEnsureBroadcast g) (cond (eqs (resolved (p .attempt)) v) Exact Other) NewerFeeBearing) Initial
+
+abbrev pub tokenIn : OptionalAttempt → Option ℕ
+tokenIn p = cond (p .present) (some (p .attempt .token .0)) none
+
+-- what a drain hands out for a submission that gets a token
+unfoldable pub handed : ℕ → SubmissionDeliveryGoal → SubmittedEntry → OptionalAttempt → DrainedSubmission
+unfolding relationshipTo currentBundle currentFingerprint openFeeIntent
+handed t g e p = record {
+  id = e .id .0;
+  token = t;
+  predecessor = tokenIn p;
+  relationship = relationshipTo p g (currentFingerprint e);
+  bundle = currentBundle e;
+  expiry = e .status .expiry;
+  feeIntent = openFeeIntent e;
+}

@@ -1,0 +1,1 @@
+// The rules of every call on a book; definitions only.
