@@ -118,164 +118,210 @@ pub fn write_bundle(out: &mut Vec<u8>, bundle: &Bundle) {
     }
 }
 
-/// The place of the first item that is cut short or breaks a rule.
-pub type Place = usize;
+/// The first item, in order, that is cut short or breaks a rule.
+#[derive(Clone, Copy, Debug, PartialEq, Eq)]
+pub struct Broken {
+    pub place: usize,
+    pub item: &'static str,
+    pub cut_short: bool,
+}
 
 /// Reads a whole archive.
-pub fn read(bytes: &[u8]) -> Result<Book, Place> {
+pub fn read(bytes: &[u8]) -> Result<Book, Broken> {
     let mut reader = Reader::new(bytes);
     let book = reader.book()?;
     if reader.at < bytes.len() {
-        return Err(reader.at);
+        return Err(reader.breaks(reader.at, "bytes left over"));
     }
     Ok(book)
+}
+
+/// The items of a whole archive, each with its place.
+pub fn items(bytes: &[u8]) -> Vec<(usize, &'static str)> {
+    let mut reader = Reader::new(bytes);
+    reader.book().expect("a whole archive");
+    reader.items
 }
 
 /// Reads parts in the archive's form; also used to take answers of the driver apart.
 pub struct Reader<'a> {
     bytes: &'a [u8],
     pub at: usize,
+    /// The items met so far.
+    items: Vec<(usize, &'static str)>,
 }
 
 impl<'a> Reader<'a> {
     pub fn new(bytes: &'a [u8]) -> Reader<'a> {
-        Reader { bytes, at: 0 }
+        Reader {
+            bytes,
+            at: 0,
+            items: Vec::new(),
+        }
+    }
+
+    fn breaks(&self, place: usize, item: &'static str) -> Broken {
+        Broken {
+            place,
+            item,
+            cut_short: false,
+        }
     }
 
     /// One item of `length` bytes.
-    pub fn run(&mut self, length: usize) -> Result<&'a [u8], Place> {
-        let item = self.bytes.get(self.at..self.at + length).ok_or(self.at)?;
+    pub fn run(&mut self, length: usize, item: &'static str) -> Result<&'a [u8], Broken> {
+        let run = self.bytes.get(self.at..self.at + length).ok_or(Broken {
+            place: self.at,
+            item,
+            cut_short: true,
+        })?;
+        self.items.push((self.at, item));
         self.at += length;
-        Ok(item)
+        Ok(run)
     }
 
-    pub fn digest(&mut self) -> Result<Digest, Place> {
-        Ok(self.run(32)?.try_into().expect("32 bytes"))
+    pub fn digest(&mut self, item: &'static str) -> Result<Digest, Broken> {
+        Ok(self.run(32, item)?.try_into().expect("32 bytes"))
     }
 
-    pub fn number(&mut self) -> Result<u64, Place> {
-        Ok(u64::from_be_bytes(self.run(8)?.try_into().expect("8 bytes")))
+    pub fn number(&mut self, item: &'static str) -> Result<u64, Broken> {
+        let bytes = self.run(8, item)?;
+        Ok(u64::from_be_bytes(bytes.try_into().expect("8 bytes")))
     }
 
     /// A number that a rule is laid on.
-    fn number_if(&mut self, rule: impl FnOnce(u64) -> bool) -> Result<u64, Place> {
+    fn number_if(
+        &mut self,
+        item: &'static str,
+        rule: impl FnOnce(u64) -> bool,
+    ) -> Result<u64, Broken> {
         let start = self.at;
-        let value = self.number()?;
+        let value = self.number(item)?;
         if rule(value) {
             Ok(value)
         } else {
-            Err(start)
+            Err(self.breaks(start, item))
         }
     }
 
     /// A count or a kind from 0 to `most`.
-    pub fn up_to(&mut self, most: usize) -> Result<u8, Place> {
+    pub fn up_to(&mut self, most: usize, item: &'static str) -> Result<u8, Broken> {
         let start = self.at;
-        let value = self.run(1)?[0];
+        let value = self.run(1, item)?[0];
         if usize::from(value) <= most {
             Ok(value)
         } else {
-            Err(start)
+            Err(self.breaks(start, item))
         }
     }
 
     fn optional<T>(
         &mut self,
-        read: impl FnOnce(&mut Self) -> Result<T, Place>,
-    ) -> Result<Option<T>, Place> {
-        match self.up_to(1)? {
+        item: &'static str,
+        read: impl FnOnce(&mut Self) -> Result<T, Broken>,
+    ) -> Result<Option<T>, Broken> {
+        match self.up_to(1, item)? {
             0 => Ok(None),
             _ => read(self).map(Some),
         }
     }
 
-    pub fn optional_number(&mut self) -> Result<Option<u64>, Place> {
-        self.optional(Reader::number)
+    pub fn optional_number(
+        &mut self,
+        count: &'static str,
+        item: &'static str,
+    ) -> Result<Option<u64>, Broken> {
+        self.optional(count, |reader| reader.number(item))
     }
 
-    fn optional_digest(&mut self) -> Result<Option<Digest>, Place> {
-        self.optional(Reader::digest)
+    fn optional_digest(
+        &mut self,
+        count: &'static str,
+        item: &'static str,
+    ) -> Result<Option<Digest>, Broken> {
+        self.optional(count, |reader| reader.digest(item))
     }
 
     /// An attempt whose token keeps the rule.
-    fn attempt_if(&mut self, rule: impl FnOnce(u64) -> bool) -> Result<Attempt, Place> {
+    fn attempt_if(&mut self, rule: impl FnOnce(u64) -> bool) -> Result<Attempt, Broken> {
         Ok(Attempt {
-            token: self.number_if(rule)?,
-            goal: self.up_to(1)?,
-            drained: self.digest()?,
-            finalised: self.optional_digest()?,
+            token: self.number_if("attempt token", rule)?,
+            goal: self.up_to(1, "attempt goal")?,
+            drained: self.digest("drained fingerprint")?,
+            finalised: self.optional_digest("finalised count", "finalised fingerprint")?,
         })
     }
 
-    pub fn attempt(&mut self) -> Result<Attempt, Place> {
+    pub fn attempt(&mut self) -> Result<Attempt, Broken> {
         self.attempt_if(|_| true)
     }
 
-    pub fn fee_intent(&mut self) -> Result<FeeIntent, Place> {
-        Ok(match self.up_to(2)? {
+    pub fn fee_intent(&mut self) -> Result<FeeIntent, Broken> {
+        Ok(match self.up_to(2, "fee intent kind")? {
             0 => FeeIntent::AlreadyPaid,
             1 => FeeIntent::NoFeeConfigured,
             _ => FeeIntent::Attach {
-                target: self.digest()?,
-                amount: self.number()?,
+                target: self.digest("fee target")?,
+                amount: self.number("fee amount")?,
             },
         })
     }
 
     /// A bundle. In a base bundle an unreadable run breaks a rule.
-    fn bundle_if(&mut self, base: bool) -> Result<Bundle, Place> {
-        let spends = self.up_to(MOST_SPENDS)?;
+    fn bundle_if(&mut self, base: bool) -> Result<Bundle, Broken> {
+        let spends = self.up_to(MOST_SPENDS, "spend count")?;
         (0..spends).map(|_| self.spend(base)).collect()
     }
 
-    pub fn bundle(&mut self) -> Result<Bundle, Place> {
+    pub fn bundle(&mut self) -> Result<Bundle, Broken> {
         self.bundle_if(false)
     }
 
-    fn spend(&mut self, base: bool) -> Result<Spend, Place> {
-        let length = self.up_to(LONGEST_COIN)?;
-        let coin = self.run(usize::from(length))?.to_vec();
-        let digest = self.digest()?;
+    fn spend(&mut self, base: bool) -> Result<Spend, Broken> {
+        let length = self.up_to(LONGEST_COIN, "coin length")?;
+        let coin = self.run(usize::from(length), "coin")?.to_vec();
+        let digest = self.digest("spend digest")?;
         let start = self.at;
-        let run = match self.up_to(1)? {
-            0 if base => return Err(start),
+        let run = match self.up_to(1, "run kind")? {
+            0 if base => return Err(self.breaks(start, "run kind of a base bundle")),
             0 => None,
             _ => Some(self.outputs()?),
         };
         Ok(Spend { coin, digest, run })
     }
 
-    fn outputs(&mut self) -> Result<Vec<Output>, Place> {
-        let outputs = self.up_to(MOST_OUTPUTS)?;
+    fn outputs(&mut self) -> Result<Vec<Output>, Broken> {
+        let outputs = self.up_to(MOST_OUTPUTS, "output count")?;
         (0..outputs)
             .map(|_| {
                 Ok(Output {
-                    puzzle_hash: self.digest()?,
-                    amount: self.number()?,
+                    puzzle_hash: self.digest("output puzzle hash")?,
+                    amount: self.number("output amount")?,
                 })
             })
             .collect()
     }
 
-    fn book(&mut self) -> Result<Book, Place> {
-        if self.up_to(2)? != 2 {
-            return Err(0);
+    fn book(&mut self) -> Result<Book, Broken> {
+        if self.up_to(2, "numbers count")? != 2 {
+            return Err(self.breaks(0, "numbers count"));
         }
-        let mut book = Book::open(self.number()?, self.number()?);
-        for _ in 0..self.up_to(MOST_RETAINED)? {
+        let (next_token, next_id) = (self.number("next token")?, self.number("next id")?);
+        let mut book = Book::open(next_token, next_id);
+        for _ in 0..self.up_to(MOST_RETAINED, "retained count")? {
             let entry = self.retained(&book)?;
             book.retained.push(entry);
         }
-        for _ in 0..self.up_to(MOST_QUEUED)? {
+        for _ in 0..self.up_to(MOST_QUEUED, "queue count")? {
             book.queue.push(self.queued()?);
         }
-        for _ in 0..self.up_to(MOST_RETIREMENTS)? {
-            let id = self.number_if(|id| !book.retirements.contains(&id))?;
+        for _ in 0..self.up_to(MOST_RETIREMENTS, "retirements count")? {
+            let id = self.number_if("retirement", |id| !book.retirements.contains(&id))?;
             book.retirements.push(id);
         }
-        book.rollback = self.optional_number()?;
-        for _ in 0..self.up_to(MOST_REPLAYED)? {
-            let id = self.number_if(|id| {
+        book.rollback = self.optional_number("rollback count", "rollback height")?;
+        for _ in 0..self.up_to(MOST_REPLAYED, "replayed count")? {
+            let id = self.number_if("replayed id", |id| {
                 book.replayed.last().is_none_or(|last| *last < id)
                     && book.retained.iter().any(|entry| entry.id == id)
             })?;
@@ -285,39 +331,42 @@ impl<'a> Reader<'a> {
     }
 
     /// A retained submission, behind those that `book` holds already.
-    fn retained(&mut self, book: &Book) -> Result<Retained, Place> {
-        let id = self.number_if(|id| book.retained.iter().all(|entry| entry.id != id))?;
+    fn retained(&mut self, book: &Book) -> Result<Retained, Broken> {
+        let new = |id: u64| book.retained.iter().all(|entry| entry.id != id);
+        let id = self.number_if("retained id", new)?;
         let free = |token: u64| {
             token < book.next_token && book.slots().all(|attempt| attempt.token != token)
         };
-        let live = self.optional(|reader| reader.attempt_if(free))?;
+        let live = self.optional("live count", |reader| reader.attempt_if(free))?;
         let live_token = live.as_ref().map(|attempt| attempt.token);
-        let set_aside = self.optional(|reader| {
+        let set_aside = self.optional("set-aside count", |reader| {
             reader.attempt_if(|token| free(token) && live_token != Some(token))
         })?;
         Ok(Retained {
             id,
             live,
             set_aside,
-            intent: self.digest()?,
+            intent: self.digest("intent fingerprint")?,
             base: self.bundle_if(true)?,
-            fee: self.optional(|reader| Ok((reader.bundle()?, reader.number()?)))?,
-            mark: self.up_to(2)?,
+            fee: self.optional("fee bundle count", |reader| {
+                Ok((reader.bundle()?, reader.number("applied fee")?))
+            })?,
+            mark: self.up_to(2, "durable mark")?,
             fee_intent: self.fee_intent()?,
-            acknowledged: self.optional_digest()?,
-            chain: self.up_to(2)?,
-            expiry: self.optional_number()?,
+            acknowledged: self.optional_digest("acknowledged count", "acknowledged fingerprint")?,
+            chain: self.up_to(2, "chain")?,
+            expiry: self.optional_number("expiry count", "expiry")?,
         })
     }
 
-    fn queued(&mut self) -> Result<Queued, Place> {
+    fn queued(&mut self) -> Result<Queued, Broken> {
         Ok(Queued {
-            id: self.optional_number()?,
+            id: self.optional_number("queue id count", "queue id")?,
             bundle: self.bundle()?,
-            expiry: self.optional_number()?,
+            expiry: self.optional_number("expiry count", "expiry")?,
             fee_intent: self.fee_intent()?,
-            trigger: self.up_to(3)?,
-            goal: self.up_to(1)?,
+            trigger: self.up_to(3, "trigger")?,
+            goal: self.up_to(1, "goal")?,
         })
     }
 }

@@ -3,21 +3,87 @@
 mod archive;
 mod bencodex;
 mod call;
+mod checks;
 #[allow(dead_code)]
 mod common;
+mod compare;
+mod cover;
 mod door;
+mod driver;
+mod generate;
+mod labels;
 mod model;
+// Most of it is read by build.rs alone.
+#[allow(dead_code)]
+mod mutant_list;
+mod mutants;
 mod play;
+mod record;
+mod rng;
 mod rules;
 mod script;
+mod selftest;
 #[allow(dead_code)]
 mod session_phases;
 mod sha256;
+mod show;
+mod shrink;
 mod sound;
 #[allow(dead_code)]
 mod transaction_manager;
 
 use std::io::{Read, Write};
+use std::path::PathBuf;
+use std::process::ExitCode;
+
+use driver::Driver;
+
+const USAGE: &str = "\
+oracle play < SCRIPT > ANSWERS
+oracle show < SCRIPT
+oracle archive-check < ARCHIVE
+oracle cover   [--seed S] [--scripts N]
+oracle compare --driver PATH [--driver-arg A]... [--seed S] [--scripts N]
+oracle replay  --driver PATH [--driver-arg A]... --from FOLDER
+oracle record  --out FOLDER [--seed S] [--scripts N] [--pool N] [--bytes N]
+oracle mutants [--only N] [--driver PATH] [--seed S] [--scripts N] [--show]
+oracle selftest";
+
+struct Options {
+    words: Vec<String>,
+}
+
+impl Options {
+    fn text(&self, name: &str) -> Option<&str> {
+        let at = self.words.iter().position(|word| word == name)?;
+        Some(self.words.get(at + 1).unwrap_or_else(|| panic!("{name} needs a value")))
+    }
+
+    fn number(&self, name: &str, default: u64) -> u64 {
+        self.text(name).map_or(default, |text| text.parse().expect("a number"))
+    }
+
+    fn path(&self, name: &str) -> PathBuf {
+        PathBuf::from(self.text(name).unwrap_or_else(|| panic!("{name} is needed\n{USAGE}")))
+    }
+
+    fn flag(&self, name: &str) -> bool {
+        self.words.iter().any(|word| word == name)
+    }
+
+    fn driver(&self) -> Option<Driver> {
+        let path = PathBuf::from(self.text("--driver")?);
+        let arguments = self.words.windows(2).filter(|pair| pair[0] == "--driver-arg");
+        Some(Driver {
+            path,
+            arguments: arguments.map(|pair| pair[1].clone()).collect(),
+        })
+    }
+
+    fn needed_driver(&self) -> Driver {
+        self.driver().unwrap_or_else(|| panic!("--driver is needed\n{USAGE}"))
+    }
+}
 
 fn stdin() -> Vec<u8> {
     let mut bytes = Vec::new();
@@ -25,7 +91,85 @@ fn stdin() -> Vec<u8> {
     bytes
 }
 
-fn main() {
-    let out = play::play(&stdin());
-    std::io::stdout().write_all(&out).expect("standard output");
+fn cover(seed: u64, scripts: u64) -> bool {
+    let mut table = cover::Table::default();
+    for number in 0..scripts {
+        let script = generate::script(seed, number);
+        assert_eq!(script::Script::parse(&script.bytes()).as_ref(), Some(&script));
+        table.add(&script, &play::steps(&script));
+    }
+    table.print();
+    cover::complete(&table)
+}
+
+fn show_script() -> bool {
+    let Some(script) = script::Script::parse(&stdin()) else {
+        println!("the opening is cut short");
+        return false;
+    };
+    println!("opened at token {}, id {}", script.next_token, script.next_id);
+    for (call, step) in script.calls.iter().zip(play::steps(&script)) {
+        println!("{}\n  {}", show::call(call), show::output(call, &step.output).0);
+    }
+    if !script.tail.is_empty() {
+        println!("no call: {}", show::hex(&script.tail));
+    }
+    true
+}
+
+fn archive_check() -> bool {
+    match archive::read(&stdin()) {
+        Ok(book) => println!("ok\n{}", show::book(&book)),
+        Err(broken) => println!("13 {}", broken.place),
+    }
+    true
+}
+
+fn main() -> ExitCode {
+    let mut words = std::env::args().skip(1);
+    let command = words.next().unwrap_or_default();
+    let options = Options {
+        words: words.collect(),
+    };
+    let seed = options.number("--seed", 1);
+    let well = match command.as_str() {
+        "play" => std::io::stdout().write_all(&play::play(&stdin())).is_ok(),
+        "show" => show_script(),
+        "archive-check" => archive_check(),
+        "cover" => cover(seed, options.number("--scripts", 6000)),
+        "compare" => {
+            compare::compare(&options.needed_driver(), seed, options.number("--scripts", 6000))
+        }
+        "replay" => compare::compare_files(&options.needed_driver(), &options.path("--from")),
+        "record" => {
+            record::record(
+                seed,
+                options.number("--scripts", 40) as usize,
+                options.number("--pool", 3000),
+                options.number("--bytes", 190_000) as usize,
+                &options.path("--out"),
+            );
+            true
+        }
+        "mutants" => mutants::run(
+            options.driver().as_ref(),
+            options.text("--only").map(|text| text.parse().expect("a mutant's number")),
+            seed,
+            options.number("--scripts", 3000),
+            options.flag("--show"),
+        ),
+        "selftest" => {
+            selftest::run();
+            true
+        }
+        _ => {
+            eprintln!("{USAGE}");
+            false
+        }
+    };
+    if well {
+        ExitCode::SUCCESS
+    } else {
+        ExitCode::FAILURE
+    }
 }

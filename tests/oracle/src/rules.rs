@@ -9,8 +9,9 @@
 
 use crate::archive;
 use crate::call::{Answer, Call, Outcome, Refusal};
-use crate::door;
-use crate::model::{Book, Drained, Queued};
+use crate::door::{self, Entered};
+use crate::model::{Book, Drained};
+use crate::sound;
 use crate::transaction_manager::judge::Judge;
 
 /// Makes the call. The book changes where paper 01 says so: on acceptance and on refusal 11.
@@ -81,211 +82,119 @@ fn drained_until_spent(book: &Book) -> Book {
 
 fn answer(book: &Book, call: &Call) -> Result<(Book, Answer), Refusal> {
     if let Call::ReadArchive { bytes } = call {
-        return match archive::read(bytes) {
-            Ok(read) => Ok((read, Answer::Nothing)),
-            Err(place) => Err(Refusal {
-                number: 13,
-                place: Some(place as u64),
-            }),
-        };
+        let read = archive::read(bytes).map_err(|broken| Refusal {
+            number: 13,
+            place: Some(broken.place as u64),
+        })?;
+        return Ok((read, Answer::Nothing));
     }
-    let result = match call {
-        Call::Queue { .. }
-        | Call::QueueRebroadcastEpoch { .. }
-        | Call::QueueFeeReadiness
-        | Call::QueueRetainedDelivery { .. }
-        | Call::Drain => delivery_call(book, call),
-        Call::FinalizeAttempt { .. }
-        | Call::FeeIntentForAttempt { .. }
-        | Call::AcknowledgeAttempt { .. }
-        | Call::StopAttempt { .. }
-        | Call::AbandonAttempt { .. }
-        | Call::RelinquishCompletedAttempt { .. }
-        | Call::Attempt { .. } => attempt_call(book, call),
-        Call::ReconcileChainTerminality { .. }
-        | Call::CausallyRolledBackIds { .. }
-        | Call::AbsentOutputsForIds { .. }
-        | Call::ReconciliationInputCoins { .. }
-        | Call::CollectRollbackReplayIds { .. }
-        | Call::BeginReplay { .. }
-        | Call::FinishReplayIfAdvanced { .. }
-        | Call::ReplayRollbackHeight => chain_call(book, call),
-        _ => other_call(book, call),
+    let entered = door::enter(call).map_err(|turned| Refusal::from(turned.number))?;
+    let result = match entered {
+        Entered::NothingToCheck => plain_call(book, call),
+        entered => checked_call(book, call, entered),
     };
     result.map_err(Refusal::from)
 }
 
-fn nothing(after: (Book, ())) -> (Book, Answer) {
-    (after.0, Answer::Nothing)
+fn with<T>(answer: impl FnOnce(T) -> Answer) -> impl FnOnce((Book, T)) -> (Book, Answer) {
+    |(after, result)| (after, answer(result))
 }
 
-fn delivery_call(book: &Book, call: &Call) -> Result<(Book, Answer), u8> {
-    match call {
-        Call::Queue {
-            id,
-            bundle,
-            expiry,
-            fee_intent,
-            trigger,
-            goal,
-        } => {
-            let entry = Queued {
-                id: door::optional(*id)?,
-                bundle: door::bundle(bundle)?,
-                expiry: door::optional(*expiry)?,
-                fee_intent: door::fee_intent(fee_intent)?,
-                trigger: door::kind(*trigger, 3)?,
-                goal: door::kind(*goal, 1)?,
-            };
-            changed(book, |judge| {
-                judge.queue(&entry);
-                Ok(())
-            })
-            .map(nothing)
+fn nothing((after, ()): (Book, ())) -> (Book, Answer) {
+    (after, Answer::Nothing)
+}
+
+/// The calls whose arguments passed a check at the door.
+fn checked_call(book: &Book, call: &Call, entered: Entered) -> Result<(Book, Answer), u8> {
+    match (call, entered) {
+        (Call::Queue { .. }, Entered::Queue(entry)) => {
+            changed(book, |judge| Ok(judge.queue(&entry))).map(nothing)
         }
-        Call::QueueRebroadcastEpoch { ids, trigger } => {
-            let trigger = door::kind(*trigger, 3)?;
-            let ids = door::ids(ids)?;
-            changed(book, |judge| judge.queue_rebroadcast_epoch(ids, trigger)).map(nothing)
+        (_, Entered::Rebroadcast { ids, trigger }) => {
+            changed(book, |judge| judge.queue_rebroadcast_epoch(&ids, trigger)).map(nothing)
         }
-        Call::QueueFeeReadiness => changed(book, Judge::queue_fee_readiness).map(nothing),
-        Call::QueueRetainedDelivery { id, trigger, goal } => {
-            let (trigger, goal) = (door::kind(*trigger, 3)?, door::kind(*goal, 1)?);
-            changed(book, |judge| {
-                judge.queue_retained_delivery(*id, trigger, goal);
-                Ok(())
-            })
-            .map(nothing)
+        (Call::QueueRetainedDelivery { id, .. }, Entered::Delivery { trigger, goal }) => {
+            changed(book, |judge| Ok(judge.queue_retained_delivery(*id, trigger, goal)))
+                .map(nothing)
         }
-        _ => drain(book).map(|(after, drained)| (after, Answer::Drained(drained))),
+        (Call::FinalizeAttempt { token, .. }, Entered::Finalise(source)) => {
+            changed(book, |judge| judge.finalize_attempt(*token, &source))
+                .map(with(Answer::Finalised))
+        }
+        (Call::RetainSubmitted { .. }, Entered::Ids(ids)) => {
+            changed(book, |judge| Ok(judge.retain_submitted(&ids))).map(with(Answer::Ids))
+        }
+        (Call::CollectRollbackReplayIds { .. }, Entered::Ids(ids)) => {
+            changed(book, |judge| Ok(judge.collect_rollback_replay_ids(&ids))).map(nothing)
+        }
+        (_, Entered::Report { observed, spent, reorg, ids }) => changed(book, |judge| {
+            Ok(judge.reconcile_chain_terminality(&observed, &spent, reorg, &ids))
+        })
+        .map(nothing),
+        (_, Entered::CoinsAndInputs { coins, inputs }) => asked(book, |judge| {
+            Ok(Answer::Ids(judge.causally_rolled_back_ids(&coins, &inputs)))
+        }),
+        (_, Entered::CoinsAndIds { coins, ids }) => asked(book, |judge| {
+            Ok(written(&judge.absent_outputs_for_ids(&ids, &coins)))
+        }),
+        (_, Entered::Coins(coins)) => asked(book, |judge| {
+            Ok(written(&judge.reconciliation_input_coins(&coins)))
+        }),
+        _ => unreachable!("the door gives each call its own arguments"),
     }
 }
 
-fn attempt_call(book: &Book, call: &Call) -> Result<(Book, Answer), u8> {
-    let applied = |(after, applied): (Book, bool)| (after, Answer::Applied(applied));
+fn written(coins: &[Vec<u8>]) -> Answer {
+    Answer::Written(door::write_coin_list(coins))
+}
+
+/// The calls whose arguments can be anything.
+fn plain_call(book: &Book, call: &Call) -> Result<(Book, Answer), u8> {
     match call {
-        Call::FinalizeAttempt {
-            token,
-            source,
-            bundle,
-        } => {
-            let source = door::fee_source(*source, bundle)?;
-            let after = changed(book, |judge| judge.finalize_attempt(*token, &source))?;
-            Ok((after.0, Answer::Finalised(after.1)))
-        }
+        Call::QueueFeeReadiness => changed(book, Judge::queue_fee_readiness).map(nothing),
+        Call::Drain => drain(book).map(with(Answer::Drained)),
         Call::FeeIntentForAttempt { token } => asked(book, |judge| {
             judge.fee_intent_for_attempt(*token).map(Answer::FeeIntent)
         }),
         Call::AcknowledgeAttempt { token } => {
-            changed(book, |judge| judge.acknowledge_attempt(*token)).map(applied)
+            changed(book, |judge| judge.acknowledge_attempt(*token)).map(with(Answer::Applied))
         }
         Call::StopAttempt { token } => {
-            changed(book, |judge| judge.stop_attempt(*token)).map(applied)
+            changed(book, |judge| judge.stop_attempt(*token)).map(with(Answer::Applied))
         }
         Call::AbandonAttempt { token } => {
-            changed(book, |judge| judge.abandon_attempt(*token)).map(applied)
+            changed(book, |judge| judge.abandon_attempt(*token)).map(with(Answer::Applied))
         }
         Call::RelinquishCompletedAttempt { token } => {
-            changed(book, |judge| judge.relinquish_completed_attempt(*token)).map(applied)
+            changed(book, |judge| judge.relinquish_completed_attempt(*token))
+                .map(with(Answer::Applied))
         }
         Call::Attempt { token } => asked(book, |judge| Ok(Answer::Attempt(judge.attempt(*token)))),
-        _ => unreachable!("a call on an attempt"),
-    }
-}
-
-fn chain_call(book: &Book, call: &Call) -> Result<(Book, Answer), u8> {
-    match call {
-        Call::ReconcileChainTerminality {
-            observed,
-            spent,
-            reorg,
-            ids,
-        } => {
-            let reorg = door::kind(*reorg, 1)? == 1;
-            let observed = door::coin_list(observed)?;
-            let spent = door::coin_ids(spent)?;
-            let ids = door::ids(ids)?;
-            changed(book, |judge| {
-                judge.reconcile_chain_terminality(&observed, &spent, reorg, ids);
-                Ok(())
-            })
-            .map(nothing)
+        Call::EmitRetirement { id } => {
+            changed(book, |judge| Ok(judge.emit_retirement(*id))).map(nothing)
         }
-        Call::CausallyRolledBackIds {
-            absent,
-            live_inputs,
-        } => {
-            let absent = door::coin_list(absent)?;
-            let live_inputs = door::coin_ids(live_inputs)?;
-            asked(book, |judge| {
-                Ok(Answer::Ids(judge.causally_rolled_back_ids(&absent, &live_inputs)))
-            })
+        Call::DrainRetirements => {
+            changed(book, |judge| Ok(judge.drain_retirements())).map(with(Answer::Ids))
         }
-        Call::AbsentOutputsForIds { ids, absent, .. } => {
-            let ids = door::ids(ids)?;
-            let absent = door::coin_list(absent)?;
-            asked(book, |judge| {
-                let coins = judge.absent_outputs_for_ids(ids, &absent);
-                Ok(Answer::Written(door::write_coin_list(&coins)))
-            })
-        }
-        Call::ReconciliationInputCoins { landed, .. } => {
-            let landed = door::coin_list(landed)?;
-            asked(book, |judge| {
-                let coins = judge.reconciliation_input_coins(&landed);
-                Ok(Answer::Written(door::write_coin_list(&coins)))
-            })
-        }
-        Call::CollectRollbackReplayIds { ids } => {
-            let ids = door::ids(ids)?;
-            changed(book, |judge| {
-                judge.collect_rollback_replay_ids(ids);
-                Ok(())
-            })
-            .map(nothing)
-        }
-        Call::BeginReplay { height } => {
-            let after = changed(book, |judge| Ok(judge.begin_replay(*height)))?;
-            Ok((after.0, Answer::Flag(after.1)))
-        }
-        Call::FinishReplayIfAdvanced { height } => changed(book, |judge| {
-            judge.finish_replay_if_advanced(*height);
-            Ok(())
-        })
-        .map(nothing),
-        _ => asked(book, |judge| Ok(Answer::Height(judge.replay_rollback_height()))),
-    }
-}
-
-fn other_call(book: &Book, call: &Call) -> Result<(Book, Answer), u8> {
-    let ids = |(after, ids): (Book, Vec<u64>)| (after, Answer::Ids(ids));
-    match call {
-        Call::RetainSubmitted { ids: removed } => {
-            let removed = door::ids(removed)?;
-            changed(book, |judge| Ok(judge.retain_submitted(removed))).map(ids)
-        }
-        Call::EmitRetirement { id } => changed(book, |judge| {
-            judge.emit_retirement(*id);
-            Ok(())
-        })
-        .map(nothing),
-        Call::DrainRetirements => changed(book, |judge| Ok(judge.drain_retirements())).map(ids),
         Call::ActiveIds => asked(book, |judge| Ok(Answer::Ids(judge.active_ids()))),
-        Call::ClearLocalArtifacts => changed(book, |judge| {
-            judge.clear_local_artifacts();
-            Ok(())
-        })
-        .map(nothing),
-        Call::RestoreRuntime => changed(book, |judge| {
-            judge.restore_runtime();
-            Ok(())
-        })
-        .map(nothing),
+        Call::BeginReplay { height } => {
+            changed(book, |judge| Ok(judge.begin_replay(*height))).map(with(Answer::Flag))
+        }
+        Call::FinishReplayIfAdvanced { height } => {
+            changed(book, |judge| Ok(judge.finish_replay_if_advanced(*height))).map(nothing)
+        }
+        Call::ReplayRollbackHeight => {
+            asked(book, |judge| Ok(Answer::Height(judge.replay_rollback_height())))
+        }
+        Call::ClearLocalArtifacts => {
+            changed(book, |judge| Ok(judge.clear_local_artifacts())).map(nothing)
+        }
+        Call::RestoreRuntime => changed(book, |judge| Ok(judge.restore_runtime())).map(nothing),
         Call::WriteArchive { .. } => Ok((book.clone(), Answer::Written(archive::write(book)))),
-        Call::Sound => Ok((
-            book.clone(),
-            Answer::Flag(crate::sound::broken_rule(book).is_none()),
-        )),
-        _ => unreachable!("every other call is answered above"),
+        Call::Sound => {
+            let sound = sound::broken_rule(book).is_none();
+            Ok((book.clone(), Answer::Flag(sound)))
+        }
+        _ => unreachable!("every other call has a check at the door"),
     }
 }

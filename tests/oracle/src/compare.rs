@@ -1,0 +1,93 @@
+//! Plays scripts on both sides and compares byte for byte; a difference is made small and shown.
+
+use crate::cover::{complete, Table};
+use crate::driver::{Driver, Run};
+use crate::generate;
+use crate::play::{play, steps};
+use crate::script::Script;
+use crate::show;
+use crate::shrink::shrink;
+
+/// Scripts that the generator does not make: openings cut short, and the empty list.
+pub fn fixed_scripts() -> Vec<Vec<u8>> {
+    (0..=16).map(|length| vec![7; length]).collect()
+}
+
+/// Whether the two sides differ on the script.
+pub fn differs(driver: &Driver, bytes: &[u8]) -> bool {
+    let run = driver.run(bytes);
+    run.failed.is_some() || run.output != play(bytes)
+}
+
+/// Compares `scripts` scripts of `seed`; true if nothing differs and every row is filled.
+pub fn compare(driver: &Driver, seed: u64, scripts: u64) -> bool {
+    for bytes in fixed_scripts() {
+        if differs(driver, &bytes) {
+            println!("difference on the script {}", show::hex(&bytes));
+            return false;
+        }
+    }
+    let mut table = Table::default();
+    for number in 0..scripts {
+        let script = generate::script(seed, number);
+        table.add(&script, &steps(&script));
+        if differs(driver, &script.bytes()) {
+            println!("difference in script {number} of seed {seed}");
+            report(driver, &shrink(&script, |bytes| differs(driver, bytes)));
+            return false;
+        }
+    }
+    table.print();
+    println!("no difference");
+    complete(&table)
+}
+
+/// Compares recorded scripts: the files named `*.in` of a folder.
+pub fn compare_files(driver: &Driver, folder: &std::path::Path) -> bool {
+    let mut files: Vec<_> = std::fs::read_dir(folder)
+        .expect("the folder of recorded scripts")
+        .map(|entry| entry.expect("a file").path())
+        .filter(|path| path.extension().is_some_and(|extension| extension == "in"))
+        .collect();
+    files.sort();
+    assert!(!files.is_empty(), "no recorded scripts");
+    let mut same = true;
+    for file in &files {
+        let bytes = std::fs::read(file).expect("a recorded script");
+        let answers = std::fs::read(file.with_extension("out")).expect("its answers");
+        let run = driver.run(&bytes);
+        if run.failed.is_some() || run.output != answers {
+            println!("difference in {}", file.display());
+            same = false;
+        }
+    }
+    println!("{} recorded scripts{}", files.len(), if same { ", no difference" } else { "" });
+    same
+}
+
+/// Shows a script with what both sides wrote, up to the first call that differs.
+pub fn report(driver: &Driver, script: &Script) {
+    let bytes = script.bytes();
+    let run: Run = driver.run(&bytes);
+    println!("script ({} bytes): {}", bytes.len(), show::hex(&bytes));
+    println!("opened at token {}, id {}", script.next_token, script.next_id);
+    if let Some(failed) = &run.failed {
+        println!("the driver ended with: {failed}");
+    }
+    let mut rest = run.output.as_slice();
+    for (call, step) in script.calls.iter().zip(steps(script)) {
+        println!("call {}", show::call(call));
+        let (expected, _) = show::output(call, &step.output);
+        if rest.starts_with(&step.output) {
+            println!("  both   {expected}");
+            rest = &rest[step.output.len()..];
+            continue;
+        }
+        let (got, _) = show::output(call, rest);
+        println!("  Rust   {expected}");
+        println!("  driver {got}");
+        println!("  the Rust's book behind it:\n    {}", show::book(&step.after).replace('\n', "\n    "));
+        return;
+    }
+    println!("  the calls agree; behind them the driver wrote: {}", show::hex(rest));
+}
