@@ -1,12 +1,12 @@
 //! Claims of paper 01 held against what the Rust did, call by call, apart from the comparison.
 
-use crate::archive;
-use crate::call::{Answer, Call, Outcome};
-use crate::door;
-use crate::model::*;
-use crate::rules;
-use crate::sound;
-use crate::transaction_manager::judge::{variant_fingerprint, Judge};
+use rust_book::archive;
+use rust_book::call::{Answer, Call, Outcome};
+use rust_book::door;
+use rust_book::model::*;
+use rust_book::rules;
+use rust_book::sound;
+use rust_book::judge::{variant_fingerprint, Judge};
 
 /// The first claim that does not hold.
 pub fn broken_claim(

@@ -1,16 +1,31 @@
 //! Plays scripts on both sides and compares byte for byte; a difference is made small and shown.
 
+use rust_book::call::Call;
 use crate::cover::{complete, Table};
 use crate::driver::{Driver, Run};
 use crate::generate;
-use crate::play::{play, steps};
-use crate::script::Script;
+use rust_book::play::{play, steps};
+use rust_book::script::Script;
 use crate::show;
 use crate::shrink::shrink;
 
-/// Scripts that the generator does not make: openings cut short, and the empty list.
+/// Scripts that the generator does not make: openings cut short, the empty list, and the longest
+/// lists of ids that can be handed in.
 pub fn fixed_scripts() -> Vec<Vec<u8>> {
-    (0..=16).map(|length| vec![7; length]).collect()
+    let mut scripts: Vec<Vec<u8>> = (0..=16).map(|length| vec![7; length]).collect();
+    let ids: Vec<u64> = (0..=u64::from(u16::MAX - 1)).collect();
+    let many = Script {
+        next_token: 5,
+        next_id: 1,
+        calls: vec![
+            Call::RetainSubmitted { ids: ids.clone() },
+            Call::QueueRebroadcastEpoch { ids, trigger: 4 },
+            Call::ActiveIds,
+        ],
+        tail: Vec::new(),
+    };
+    scripts.push(many.bytes());
+    scripts
 }
 
 /// Whether the two sides differ on the script.

@@ -2,12 +2,12 @@
 
 use std::collections::BTreeMap;
 
-use crate::call::name;
+use rust_book::call::name;
 use crate::checks::broken_claim;
 use crate::labels::labels;
-use crate::model::Book;
-use crate::play::Step;
-use crate::script::Script;
+use rust_book::model::Book;
+use rust_book::play::Step;
+use rust_book::script::Script;
 
 /// The rows that should occur, as `opcode<TAB>row` lines.
 const ROWS: &str = include_str!("../rows.txt");

@@ -1,16 +1,17 @@
 //! Seeded random call scripts. The generator plays each call on the Rust book as it goes, so that
 //! tokens, ids and coins mostly mean something.
 
-mod books;
+pub mod books;
 mod calls;
 pub mod damage;
 pub mod pool;
 
-use crate::call::Call;
-use crate::model::*;
+use rust_book::archive;
+use rust_book::call::Call;
+use rust_book::model::*;
 use crate::rng::Rng;
-use crate::rules;
-use crate::script::Script;
+use rust_book::rules;
+use rust_book::script::{Script, LONGEST_BYTES};
 use calls::Weights;
 use pool::Pool;
 
@@ -18,8 +19,8 @@ use pool::Pool;
 const EVERYTHING: Weights = [9, 3, 2, 3, 8, 7, 3, 5, 3, 2, 3, 2, 2, 1, 3, 1, 2, 2, 1, 5, 3, 3, 3, 1, 1, 2, 2, 2, 1];
 const DELIVERY: Weights = [12, 3, 2, 4, 12, 9, 2, 8, 4, 1, 2, 1, 0, 1, 0, 0, 0, 0, 0, 1, 0, 0, 0, 0, 1, 1, 0, 0, 0];
 const CHAIN: Weights = [5, 3, 0, 1, 5, 2, 0, 2, 1, 0, 1, 1, 1, 2, 4, 1, 3, 3, 1, 9, 6, 5, 6, 0, 0, 0, 0, 0, 0];
-const FEES: Weights = [8, 3, 6, 5, 11, 14, 4, 9, 4, 1, 2, 0, 0, 0, 0, 0, 0, 0, 0, 1, 0, 0, 1, 0, 1, 1, 0, 0, 0];
-const LIMITS: Weights = [9, 4, 4, 4, 6, 2, 0, 2, 1, 4, 0, 4, 3, 1, 0, 0, 0, 0, 0, 6, 0, 0, 5, 2, 1, 0, 1, 0, 0];
+const FEES: Weights = [8, 3, 6, 5, 11, 14, 6, 9, 4, 1, 2, 0, 0, 0, 0, 0, 0, 0, 0, 1, 0, 0, 1, 0, 1, 1, 0, 0, 0];
+const LIMITS: Weights = [9, 4, 4, 8, 6, 2, 0, 2, 1, 4, 0, 4, 3, 1, 0, 0, 0, 0, 0, 6, 0, 0, 5, 2, 1, 0, 1, 0, 0];
 const ARCHIVES: Weights = [3, 0, 0, 0, 2, 1, 0, 0, 0, 0, 0, 0, 1, 0, 0, 0, 1, 0, 0, 0, 0, 0, 1, 0, 0, 0, 5, 16, 1];
 
 /// One script of `seed`. The first scripts of a run go round the scenarios.
@@ -97,11 +98,17 @@ fn begin(maker: &mut Maker, rng: &mut Rng, pool: &Pool, scenario: u64) {
         _ => return,
     };
     let book = match scenario {
+        4 if rng.chance(6) => books::largest_book(),
         5 if rng.chance(10) => calls::id_emitted_once(rng, pool),
         6 if rng.chance(30) => books::crowded(rng, pool),
         _ => books::book(rng, pool, fill),
     };
     maker.add(calls::read_book(&book));
+    let full = book.queue.len() == MOST_QUEUED && book.retained.len() == MOST_RETAINED;
+    if full && rng.chance(50) {
+        let buffer = *rng.pick(&[LONGEST_BYTES, archive::write(&book).len() as u32]);
+        maker.add(Call::WriteArchive { buffer });
+    }
 }
 
 /// Queues and drains up to 16 new intents, or retires up to 64 ids, by calls alone.
@@ -134,7 +141,7 @@ fn tail(rng: &mut Rng, script: &Script) -> Vec<u8> {
         2 => vec![0x1c, 0, 1, 0, 1, 2, 3],
         _ => {
             let mut bytes = Vec::new();
-            crate::script::write_call(&mut bytes, rng.pick(&script.calls));
+            rust_book::script::write_call(&mut bytes, rng.pick(&script.calls));
             bytes.truncate(rng.below(bytes.len()).max(1));
             if bytes.len() == 1 {
                 bytes[0] = 0x08;

@@ -1,11 +1,11 @@
 //! What happened in a call, in words: the rows of the coverage table.
 
-use crate::archive;
-use crate::call::{Answer, Call, Outcome};
-use crate::door;
-use crate::model::*;
-use crate::sha256::sha256;
-use crate::transaction_manager::judge::{expected_outputs, Judge};
+use rust_book::archive;
+use rust_book::call::{Answer, Call, Outcome};
+use rust_book::door;
+use rust_book::model::*;
+use rust_book::sha256::sha256;
+use rust_book::judge::{expected_outputs, Judge};
 
 /// The rows that one call belongs to.
 pub fn labels(call: &Call, before: &Book, outcome: &Outcome, after: &Book) -> Vec<String> {
@@ -46,6 +46,7 @@ fn refused(rows: &mut Rows, call: &Call, before: &Book, number: u8, after: &Book
             let broken = archive::read(bytes).expect_err("refused 13");
             let how = if broken.cut_short { "cut short" } else { "breaks a rule" };
             rows.add(format!("13: {} {how}", broken.item));
+            rows.add_if(bytes.len() == 65_536, "13: the longest bytes");
         }
         (2 | 3, _) => {
             let Err(turned) = door::enter(call) else {
@@ -151,11 +152,24 @@ fn accepted(rows: &mut Rows, call: &Call, before: &Book, answer: &Answer, after:
         Answer::Written(bytes) => {
             let room = call.buffer().expect("a lent buffer");
             rows.either(room == bytes.len(), "exact room", "room to spare");
+            rows.add_if(bytes.len() == 57_694, "the longest archive");
+            rows.add_if(room == 65_536, "the longest buffer");
         }
         Answer::Nothing => {}
     }
     call_rows(rows, call, before, after);
 }
+
+/// Words of the Rust's failure messages, and the misses of paper 01's plan that they stand for.
+const CAUSES: [(&str, &str); 7] = [
+    ("no longer has retained", "id not retained"),
+    ("fee intent that does not match", "fee intents differ"),
+    ("invalid retained", "validate fails"),
+    ("does not match its retained", "fingerprints differ"),
+    ("collides with", "next id already retained"),
+    ("expected outputs", "unreadable bundle"),
+    ("is exhausted", "next id 2^64 - 1"),
+];
 
 fn drained_rows(rows: &mut Rows, before: &Book, drained: &Drained, after: &Book) {
     rows.add_if(before.queue.is_empty(), "empty queue");
@@ -190,13 +204,8 @@ fn drained_rows(rows: &mut Rows, before: &Book, drained: &Drained, after: &Book)
             2 => "ExpectedOutputs",
             _ => "SubmissionId",
         });
-        // The Rust's words without the numbers.
-        let words: Vec<&str> = failure
-            .message
-            .split(' ')
-            .filter(|word| word.parse::<u64>().is_err())
-            .collect();
-        rows.add(format!("failure: {}", words.join(" ")));
+        let cause = CAUSES.iter().find(|(words, _)| failure.message.contains(words));
+        rows.add(format!("failure: {}", cause.expect("a known cause").1));
     }
     let removed = drained.failures.iter().filter(|failure| failure.retained.is_some());
     for failure in removed {

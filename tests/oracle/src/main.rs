@@ -1,42 +1,24 @@
 //! The Rust submission book as the judge of the port: see README.md.
 
-mod archive;
-mod bencodex;
-mod call;
 mod checks;
-#[allow(dead_code)]
-mod common;
 mod compare;
 mod cover;
-mod door;
 mod driver;
 mod generate;
 mod labels;
-mod model;
-// Most of it is read by build.rs alone.
-#[allow(dead_code)]
-mod mutant_list;
 mod mutants;
-mod play;
 mod record;
 mod rng;
-mod rules;
-mod script;
 mod selftest;
-#[allow(dead_code)]
-mod session_phases;
-mod sha256;
 mod show;
 mod shrink;
-mod sound;
-#[allow(dead_code)]
-mod transaction_manager;
 
 use std::io::{Read, Write};
 use std::path::PathBuf;
 use std::process::ExitCode;
 
 use driver::Driver;
+use rust_book::{archive, play, script};
 
 const USAGE: &str = "\
 oracle play < SCRIPT > ANSWERS

@@ -1,13 +1,13 @@
 //! Checks that each mutant of the Rust is told from the Rust by the generated scripts.
 
-use std::path::{Path, PathBuf};
+use std::path::Path;
 use std::process::Command;
 
 use crate::compare::{differs, report};
 use crate::driver::Driver;
 use crate::generate;
-use crate::mutant_list::{Mutant, MUTANTS};
-use crate::play::play;
+use rust_book::mutant_list::{Mutant, MUTANTS};
+use rust_book::play::play;
 use crate::shrink::shrink;
 
 fn oracle_folder() -> &'static Path {
@@ -18,7 +18,8 @@ fn oracle_folder() -> &'static Path {
 fn build(mutant: &Mutant) -> Driver {
     let target = oracle_folder().join("target/mutants");
     let status = Command::new("cargo")
-        .args(["build", "-q", "-j1", "--offline", "--profile", "mutant", "--target-dir"])
+        .args(["build", "-q", "-j1", "--offline", "--profile", "mutant"])
+        .args(["-p", "rust_book", "--bin", "player", "--target-dir"])
         .arg(&target)
         .current_dir(oracle_folder())
         .env("ORACLE_MUTANT", mutant.number.to_string())
@@ -27,8 +28,8 @@ fn build(mutant: &Mutant) -> Driver {
         .expect("cargo runs");
     assert!(status.success(), "mutant {} does not build", mutant.number);
     Driver {
-        path: PathBuf::from(target.join("mutant/oracle")),
-        arguments: vec!["play".to_string()],
+        path: target.join("mutant/player"),
+        arguments: Vec::new(),
     }
 }
 

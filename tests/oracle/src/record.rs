@@ -4,13 +4,13 @@ use std::collections::BTreeSet;
 use std::fs;
 use std::path::Path;
 
-use crate::archive;
-use crate::call::Call;
+use rust_book::archive;
+use rust_book::call::Call;
 use crate::cover::{expected_rows, Table};
 use crate::generate;
-use crate::model::Book;
-use crate::play::{play, steps};
-use crate::script::Script;
+use rust_book::model::Book;
+use rust_book::play::{play, steps};
+use rust_book::script::Script;
 
 /// The most calls of a recorded script.
 const MOST_CALLS: usize = 30;

@@ -2,10 +2,10 @@
 
 use std::fmt::Write;
 
-use crate::archive::{Broken, Reader};
-use crate::call::{name, Call, OptionalCell};
-use crate::door;
-use crate::model::*;
+use rust_book::archive::{Broken, Reader};
+use rust_book::call::{name, Call, OptionalCell};
+use rust_book::door;
+use rust_book::model::*;
 
 /// Bytes in hexadecimal; a run of one byte as `07*32`.
 pub fn hex(bytes: &[u8]) -> String {
@@ -195,7 +195,7 @@ pub fn call(call: &Call) -> String {
             buffer,
         } => format!("{ids:?}, absent {}, buffer {buffer}", coins(absent)),
         Call::WriteArchive { buffer } => format!("buffer {buffer}"),
-        Call::ReadArchive { bytes } => match crate::archive::read(bytes) {
+        Call::ReadArchive { bytes } => match rust_book::archive::read(bytes) {
             Ok(read) => format!("\n    {}", book(&read).replace('\n', "\n    ")),
             Err(broken) => format!("{} bytes, broken at {}: {}", bytes.len(), broken.place, hex(bytes)),
         },

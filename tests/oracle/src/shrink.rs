@@ -1,12 +1,12 @@
 //! Makes a script that shows a difference smaller, as long as it still shows one.
 
-use crate::archive;
-use crate::call::Call;
-use crate::door;
+use rust_book::archive;
+use rust_book::call::Call;
+use rust_book::door;
 use crate::generate::damage::{bundle_cells, fee_cells};
-use crate::model::*;
-use crate::play::steps;
-use crate::script::Script;
+use rust_book::model::*;
+use rust_book::play::steps;
+use rust_book::script::Script;
 
 /// Runs of the driver that one shrinking may take.
 const MOST_TRIES: usize = 3000;

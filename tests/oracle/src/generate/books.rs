@@ -1,10 +1,10 @@
 //! Hand-made sound books: states that no list of calls need reach.
 
 use super::pool::{digest, fee_intents, intent_of, matching_intent, Pool, EXPIRIES, HEIGHTS};
-use crate::model::*;
+use rust_book::model::*;
 use crate::rng::Rng;
-use crate::sound;
-use crate::transaction_manager::judge::{intent_fingerprint, variant_fingerprint};
+use rust_book::sound;
+use rust_book::judge::{intent_fingerprint, variant_fingerprint};
 
 /// How full the lists of a hand-made book are.
 #[derive(Clone, Copy)]
@@ -72,7 +72,7 @@ pub fn book(rng: &mut Rng, pool: &Pool, fill: Fill) -> Book {
         _ => first_id + fill.retained as u64,
     };
     // A full queue that names no id leaves room for ids to be offered and refused.
-    let nameless = rng.chance(25);
+    let nameless = rng.chance(40);
     for _ in 0..fill.queue {
         let mut entry = queued(rng, pool, &book);
         if nameless {
@@ -93,6 +93,60 @@ pub fn book(rng: &mut Rng, pool: &Pool, fill: Fill) -> Book {
     }
     assert_eq!(sound::broken_rule(&book), None);
     book
+}
+
+/// The book with the longest archive.
+pub fn largest_book() -> Book {
+    let output = Output {
+        puzzle_hash: [1; 32],
+        amount: 1,
+    };
+    let spend = Spend {
+        coin: vec![1; 73],
+        digest: [1; 32],
+        run: Some(vec![output; 4]),
+    };
+    let bundle = vec![spend; 4];
+    let attempt = |token| Attempt {
+        token,
+        goal: 1,
+        drained: [1; 32],
+        finalised: Some([1; 32]),
+    };
+    let fee_intent = FeeIntent::Attach {
+        target: [1; 32],
+        amount: 1,
+    };
+    let retained = (0..16).map(|id| Retained {
+        id,
+        live: Some(attempt(2 * id)),
+        set_aside: Some(attempt(2 * id + 1)),
+        intent: [1; 32],
+        base: bundle.clone(),
+        fee: Some((bundle.clone(), 1)),
+        mark: ATTACHED,
+        fee_intent: fee_intent.clone(),
+        acknowledged: Some([1; 32]),
+        chain: LANDED,
+        expiry: Some(1),
+    });
+    let queued = Queued {
+        id: Some(1),
+        bundle: bundle.clone(),
+        expiry: Some(1),
+        fee_intent: fee_intent.clone(),
+        trigger: 3,
+        goal: 1,
+    };
+    Book {
+        next_token: 32,
+        next_id: 16,
+        retained: retained.collect(),
+        queue: vec![queued; 16],
+        retirements: (0..64).collect(),
+        rollback: Some(1),
+        replayed: (0..16).collect(),
+    }
 }
 
 /// Sixteen retained or 64 retirements, and a queue that both removes and retains.
@@ -129,6 +183,14 @@ fn retained(rng: &mut Rng, pool: &Pool, id: u64, tokens: &mut u64) -> Retained {
         mark = rng.below(3) as u8;
         fee = rng.chance(50).then(|| (rng.pick(&pool.joined).clone(), u64::MAX));
     }
+    let fee_intent = match rng.below(20) {
+        0 => {
+            // Unresolved with nothing to attach.
+            (mark, fee) = (UNRESOLVED, None);
+            FeeIntent::NoFeeConfigured
+        }
+        _ => fee_intent,
+    };
     let base_variant = variant_fingerprint(&base);
     let current = fee.as_ref().map_or(base_variant, |(bundle, _)| variant_fingerprint(bundle));
     let fingerprints = [current, current, base_variant, digest(5)];

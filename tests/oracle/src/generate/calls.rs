@@ -3,13 +3,14 @@
 use super::books;
 use super::damage::{self, bundle_cells, queue_call};
 use super::pool::{digest, intent_of, matching_intent, Pool, EXPIRIES, HEIGHTS};
-use crate::archive;
-use crate::call::{Call, BUNDLE_CELLS};
-use crate::door::write_coin_list;
-use crate::model::*;
+use rust_book::archive;
+use rust_book::call::{Call, BUNDLE_CELLS};
+use rust_book::door::write_coin_list;
+use rust_book::model::*;
 use crate::rng::Rng;
-use crate::sha256::sha256;
-use crate::transaction_manager::judge::{expected_outputs, intent_fingerprint, Judge};
+use rust_book::script::LONGEST_BYTES;
+use rust_book::sha256::sha256;
+use rust_book::judge::{expected_outputs, intent_fingerprint, Judge};
 
 /// The number of opcodes; opcode `n` has weight `weights[n - 1]`.
 pub const OPCODES: usize = 29;
@@ -294,7 +295,7 @@ fn room(rng: &mut Rng, needed: usize) -> u32 {
 
 fn reconciliation(rng: &mut Rng, pool: &Pool, book: &Book) -> Call {
     let landed = output_list(rng, pool, book);
-    let coins = crate::door::coin_list(&landed).expect("a coin list");
+    let coins = rust_book::door::coin_list(&landed).expect("a coin list");
     let needed = write_coin_list(&Judge::of(book).reconciliation_input_coins(&coins)).len();
     Call::ReconciliationInputCoins {
         landed,
@@ -304,7 +305,7 @@ fn reconciliation(rng: &mut Rng, pool: &Pool, book: &Book) -> Call {
 
 fn absent_outputs(rng: &mut Rng, pool: &Pool, book: &Book) -> Call {
     let (ids, absent) = (id_list(rng, book), output_list(rng, pool, book));
-    let coins = crate::door::coin_list(&absent).expect("a coin list");
+    let coins = rust_book::door::coin_list(&absent).expect("a coin list");
     let needed = write_coin_list(&Judge::of(book).absent_outputs_for_ids(&ids, &coins)).len();
     Call::AbsentOutputsForIds {
         ids,
@@ -322,6 +323,7 @@ fn read_archive(rng: &mut Rng, pool: &Pool, book: &Book) -> Call {
     match rng.below(12) {
         0 => bytes = (0..rng.below(40)).map(|_| rng.below(4) as u8).collect(),
         1..9 => damage::damage_archive(rng, &mut bytes),
+        9 if rng.chance(5) => bytes.resize(LONGEST_BYTES as usize, 0),
         _ => {}
     }
     Call::ReadArchive { bytes }

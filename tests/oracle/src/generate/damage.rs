@@ -1,9 +1,9 @@
 //! Damaged arguments: cells, coin lists and archives with one thing wrong.
 
-use crate::archive;
-use crate::call::{Call, OptionalCell, BUNDLE_CELLS, FEE_CELLS, SPEND_CELLS};
-use crate::door::write_coin_list;
-use crate::model::*;
+use rust_book::archive;
+use rust_book::call::{Call, OptionalCell, BUNDLE_CELLS, FEE_CELLS, SPEND_CELLS};
+use rust_book::door::write_coin_list;
+use rust_book::model::*;
 use crate::rng::Rng;
 
 pub fn bundle_cells(bundle: &Bundle) -> Vec<u8> {
@@ -206,6 +206,7 @@ pub fn damage(rng: &mut Rng, call: &mut Call) {
                 *source = 1;
                 if bundle[0] == 0 {
                     bundle[..4].copy_from_slice(&[1, 2, 1, 1]);
+                    bundle[1 + 106] = 1;
                 }
                 damage_bundle(rng, bundle);
             }
@@ -251,7 +252,7 @@ pub fn damage(rng: &mut Rng, call: &mut Call) {
 }
 
 fn damaged_list(rng: &mut Rng, bytes: &[u8]) -> Vec<u8> {
-    let coins = crate::door::coin_list(bytes).unwrap_or_default();
+    let coins = rust_book::door::coin_list(bytes).unwrap_or_default();
     damaged_coin_list(rng, &coins)
 }
 
@@ -283,7 +284,7 @@ fn damage_item(rng: &mut Rng, bytes: &mut Vec<u8>) {
     if rng.chance(40) {
         bytes.truncate(start + rng.below((end - start).max(1)));
     } else if end - start == 8 {
-        let number = match rng.below(3) {
+        let number = match rng.below(5) {
             0 => bytes[1..9].to_vec(),
             1 => vec![255; 8],
             _ => {
@@ -294,7 +295,7 @@ fn damage_item(rng: &mut Rng, bytes: &mut Vec<u8>) {
         bytes[start..end].copy_from_slice(&number);
     } else if start < bytes.len() {
         bytes[start] = match rng.below(3) {
-            0 => *rng.pick(&[0, 0, 255]),
+            0 => *rng.pick(&[0, 0, 0, 255]),
             1 => *rng.pick(&[0, 1, 2, 3, 4, 5, 17, 65, 74]),
             _ => bytes[start].wrapping_add(1),
         };

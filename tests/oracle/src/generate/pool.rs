@@ -1,8 +1,8 @@
 //! Few coins, bundles, expiries and fee intents, so that generated calls meet one another.
 
-use crate::model::*;
+use rust_book::model::*;
 use crate::rng::Rng;
-use crate::transaction_manager::judge::{expected_outputs, intent_fingerprint};
+use rust_book::judge::{expected_outputs, intent_fingerprint};
 
 pub struct Pool {
     pub bundles: Vec<Bundle>,

@@ -99,8 +99,8 @@ fn upstream_root() -> PathBuf {
     match env::var_os("SUBMISSION_BOOK_UPSTREAM") {
         Some(folder) => PathBuf::from(folder),
         None => {
-            let oracle = PathBuf::from(env::var_os("CARGO_MANIFEST_DIR").expect("manifest folder"));
-            oracle.join("../../../shared/docs/src")
+            let package = PathBuf::from(env::var_os("CARGO_MANIFEST_DIR").expect("manifest folder"));
+            package.join("../../../../shared/docs/src")
         }
     }
 }
