@@ -99,7 +99,8 @@ fn upstream_root() -> PathBuf {
     match env::var_os("SUBMISSION_BOOK_UPSTREAM") {
         Some(folder) => PathBuf::from(folder),
         None => {
-            let package = PathBuf::from(env::var_os("CARGO_MANIFEST_DIR").expect("manifest folder"));
+            let package =
+                PathBuf::from(env::var_os("CARGO_MANIFEST_DIR").expect("manifest folder"));
             package.join("../../../../shared/docs/src")
         }
     }
@@ -152,11 +153,7 @@ fn main() {
     let spend = source("common/types/spend.rs");
     write(
         "spend.rs",
-        &spend.items(&[
-            "pub struct Spend {",
-            "pub struct CoinSpend {",
-            "pub struct SpendBundle {",
-        ]),
+        &spend.items(&["pub struct Spend {", "pub struct CoinSpend {", "pub struct SpendBundle {"]),
     );
     let coin_string = source("common/types/coin_string.rs");
     write(
@@ -168,10 +165,7 @@ fn main() {
         ]),
     );
     let coin_id = source("common/types/coin_id.rs");
-    write(
-        "coin_id.rs",
-        &coin_id.items(&["pub struct CoinID(pub Hash32);", "impl CoinID {"]),
-    );
+    write("coin_id.rs", &coin_id.items(&["pub struct CoinID(pub Hash32);", "impl CoinID {"]));
     let puzzle_hash = source("common/types/puzzle_hash.rs");
     write(
         "puzzle_hash.rs",
@@ -190,8 +184,5 @@ fn main() {
     );
 
     println!("cargo:rustc-env=ORACLE_UPSTREAM_ROOT={}", root.display());
-    println!(
-        "cargo:rustc-env=ORACLE_BUILT_MUTANT={}",
-        mutant.map_or(0, |mutant| mutant.number)
-    );
+    println!("cargo:rustc-env=ORACLE_BUILT_MUTANT={}", mutant.map_or(0, |mutant| mutant.number));
 }

@@ -3,10 +3,10 @@
 use rust_book::archive;
 use rust_book::call::{Answer, Call, Outcome};
 use rust_book::door;
+use rust_book::judge::{variant_fingerprint, Judge};
 use rust_book::model::*;
 use rust_book::rules;
 use rust_book::sound;
-use rust_book::judge::{variant_fingerprint, Judge};
 
 /// The first claim that does not hold.
 pub fn broken_claim(
@@ -25,7 +25,8 @@ pub fn broken_claim(
     if outcome.as_ref().is_err_and(|refusal| refusal.number != 11) && before != after {
         return Some("a refused call leaves the book");
     }
-    if outcome.as_ref().err().map_or(0, |refusal| refusal.number) != expected_refusal(before, call) {
+    if outcome.as_ref().err().map_or(0, |refusal| refusal.number) != expected_refusal(before, call)
+    {
         return Some("refusals 4 to 9 come in the table's order");
     }
     match (call, outcome) {

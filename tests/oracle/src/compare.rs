@@ -1,11 +1,14 @@
 //! Plays scripts on both sides and compares byte for byte; a difference is made small and shown.
 
+use std::path::Path;
+
 use rust_book::call::Call;
+use rust_book::play::{play, steps};
+use rust_book::script::Script;
+
 use crate::cover::{complete, Table};
 use crate::driver::{Driver, Run};
 use crate::generate;
-use rust_book::play::{play, steps};
-use rust_book::script::Script;
 use crate::show;
 use crate::shrink::shrink;
 
@@ -34,8 +37,26 @@ pub fn differs(driver: &Driver, bytes: &[u8]) -> bool {
     run.failed.is_some() || run.output != play(bytes)
 }
 
-/// Compares `scripts` scripts of `seed`; true if nothing differs and every row is filled.
-pub fn compare(driver: &Driver, seed: u64, scripts: u64) -> bool {
+/// Scripts played in one run of the driver.
+const BATCH: u64 = 10;
+
+/// The script of a batch that shows a difference, if there is one.
+fn differing(driver: &Driver, batch: &[Script]) -> Option<Script> {
+    let joined = Script::joined(batch);
+    let apart: Vec<&Script> = batch.iter().filter(|script| !script.tail.is_empty()).collect();
+    if let Some(script) = apart.into_iter().find(|script| differs(driver, &script.bytes())) {
+        return Some(script.clone());
+    }
+    if !differs(driver, &joined.bytes()) {
+        return None;
+    }
+    let alone = batch.iter().find(|script| differs(driver, &script.bytes()));
+    Some(alone.unwrap_or(&joined).clone())
+}
+
+/// Compares `scripts` scripts of `seed`; true if nothing differs and every row is filled. The
+/// small script of a difference is written to the file `save`.
+pub fn compare(driver: &Driver, seed: u64, scripts: u64, save: Option<&Path>) -> bool {
     for bytes in fixed_scripts() {
         if differs(driver, &bytes) {
             println!("difference on the script {}", show::hex(&bytes));
@@ -43,12 +64,19 @@ pub fn compare(driver: &Driver, seed: u64, scripts: u64) -> bool {
         }
     }
     let mut table = Table::default();
-    for number in 0..scripts {
-        let script = generate::script(seed, number);
-        table.add(&script, &steps(&script));
-        if differs(driver, &script.bytes()) {
-            println!("difference in script {number} of seed {seed}");
-            report(driver, &shrink(&script, |bytes| differs(driver, bytes)));
+    for first in (0..scripts).step_by(BATCH as usize) {
+        let numbers = first..scripts.min(first + BATCH);
+        let batch: Vec<Script> = numbers.map(|number| generate::script(seed, number)).collect();
+        for script in &batch {
+            table.add(script, &steps(script));
+        }
+        if let Some(script) = differing(driver, &batch) {
+            println!("difference in the ten scripts from {first} of seed {seed}");
+            let small = shrink(&script, |bytes| differs(driver, bytes));
+            report(driver, &small);
+            if let Some(file) = save {
+                std::fs::write(file, small.bytes()).expect("the saved script");
+            }
             return false;
         }
     }
@@ -58,7 +86,7 @@ pub fn compare(driver: &Driver, seed: u64, scripts: u64) -> bool {
 }
 
 /// Compares recorded scripts: the files named `*.in` of a folder.
-pub fn compare_files(driver: &Driver, folder: &std::path::Path) -> bool {
+pub fn compare_files(driver: &Driver, folder: &Path) -> bool {
     let mut files: Vec<_> = std::fs::read_dir(folder)
         .expect("the folder of recorded scripts")
         .map(|entry| entry.expect("a file").path())
@@ -101,7 +129,10 @@ pub fn report(driver: &Driver, script: &Script) {
         let (got, _) = show::output(call, rest);
         println!("  Rust   {expected}");
         println!("  driver {got}");
-        println!("  the Rust's book behind it:\n    {}", show::book(&step.after).replace('\n', "\n    "));
+        println!(
+            "  the Rust's book behind it:\n    {}",
+            show::book(&step.after).replace('\n', "\n    ")
+        );
         return;
     }
     println!("  the calls agree; behind them the driver wrote: {}", show::hex(rest));

@@ -3,11 +3,12 @@
 use std::collections::BTreeMap;
 
 use rust_book::call::name;
-use crate::checks::broken_claim;
-use crate::labels::labels;
 use rust_book::model::Book;
 use rust_book::play::Step;
 use rust_book::script::Script;
+
+use crate::checks::broken_claim;
+use crate::labels::labels;
 
 /// The rows that should occur, as `opcode<TAB>row` lines.
 const ROWS: &str = include_str!("../rows.txt");

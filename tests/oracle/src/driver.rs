@@ -36,9 +36,6 @@ impl Driver {
             pipe.read_to_end(&mut output).expect("driver output");
         });
         let status = child.wait().expect("the driver ends");
-        Run {
-            output,
-            failed: (!status.success()).then(|| status.to_string()),
-        }
+        Run { output, failed: (!status.success()).then(|| status.to_string()) }
     }
 }

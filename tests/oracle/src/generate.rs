@@ -9,18 +9,25 @@ pub mod pool;
 use rust_book::archive;
 use rust_book::call::Call;
 use rust_book::model::*;
-use crate::rng::Rng;
 use rust_book::rules;
 use rust_book::script::{Script, LONGEST_BYTES};
+
+use crate::rng::Rng;
 use calls::Weights;
 use pool::Pool;
 
 //                          1  2  3  4  5  6  7  8  9  a  b  c  d  e  f 10 11 12 13 14 15 16 17 18 19 1a 1b 1c 1d
+#[rustfmt::skip]
 const EVERYTHING: Weights = [9, 3, 2, 3, 8, 7, 3, 5, 3, 2, 3, 2, 2, 1, 3, 1, 2, 2, 1, 5, 3, 3, 3, 1, 1, 2, 2, 2, 1];
+#[rustfmt::skip]
 const DELIVERY: Weights = [12, 3, 2, 4, 12, 9, 2, 8, 4, 1, 2, 1, 0, 1, 0, 0, 0, 0, 0, 1, 0, 0, 0, 0, 1, 1, 0, 0, 0];
+#[rustfmt::skip]
 const CHAIN: Weights = [5, 3, 0, 1, 5, 2, 0, 2, 1, 0, 1, 1, 1, 2, 4, 1, 3, 3, 1, 9, 6, 5, 6, 0, 0, 0, 0, 0, 0];
+#[rustfmt::skip]
 const FEES: Weights = [8, 3, 6, 5, 11, 14, 6, 9, 4, 1, 2, 0, 0, 0, 0, 0, 0, 0, 0, 1, 0, 0, 1, 0, 1, 1, 0, 0, 0];
+#[rustfmt::skip]
 const LIMITS: Weights = [9, 4, 4, 8, 6, 2, 0, 2, 1, 4, 0, 4, 3, 1, 0, 0, 0, 0, 0, 6, 0, 0, 5, 2, 1, 0, 1, 0, 0];
+#[rustfmt::skip]
 const ARCHIVES: Weights = [3, 0, 0, 0, 2, 1, 0, 0, 0, 0, 0, 0, 1, 0, 0, 0, 1, 0, 0, 0, 0, 0, 1, 0, 0, 0, 5, 16, 1];
 
 /// One script of `seed`. The first scripts of a run go round the scenarios.
@@ -30,12 +37,7 @@ pub fn script(seed: u64, number: u64) -> Script {
     let scenario = number % 12;
     let (next_token, next_id) = opening(&mut rng, scenario);
     let mut maker = Maker {
-        script: Script {
-            next_token,
-            next_id,
-            calls: Vec::new(),
-            tail: Vec::new(),
-        },
+        script: Script { next_token, next_id, calls: Vec::new(), tail: Vec::new() },
         book: Book::open(next_token, next_id),
     };
     let length = 10 + rng.below(20);

@@ -3,9 +3,9 @@
 use rust_book::archive;
 use rust_book::call::{Answer, Call, Outcome};
 use rust_book::door;
+use rust_book::judge::{expected_outputs, Judge};
 use rust_book::model::*;
 use rust_book::sha256::sha256;
-use rust_book::judge::{expected_outputs, Judge};
 
 /// The rows that one call belongs to.
 pub fn labels(call: &Call, before: &Book, outcome: &Outcome, after: &Book) -> Vec<String> {
@@ -62,7 +62,10 @@ fn refused(rows: &mut Rows, call: &Call, before: &Book, number: u8, after: &Book
         (10, Call::Drain) => drain_refused_10(rows, before),
         (11, Call::Drain) => {
             rows.add_if(after.next_token > before.next_token, "11: behind an issued token");
-            rows.add_if(after.retained.len() > before.retained.len(), "11: a new one stays retained");
+            rows.add_if(
+                after.retained.len() > before.retained.len(),
+                "11: a new one stays retained",
+            );
             rows.add_if(after.retirements != before.retirements, "11: a removal stays");
             rows.add_if(changed_expiry(before, after), "11: an expiry stays");
         }
@@ -233,7 +236,13 @@ fn drained_rows(rows: &mut Rows, before: &Book, drained: &Drained, after: &Book)
 }
 
 /// Why a candidate with an id, the first of its id, was not emitted.
-fn not_emitted_rows(rows: &mut Rows, before: &Book, drained: &Drained, index: usize, entry: &Queued) {
+fn not_emitted_rows(
+    rows: &mut Rows,
+    before: &Book,
+    drained: &Drained,
+    index: usize,
+    entry: &Queued,
+) {
     let failed = drained.failures.iter().any(|failure| failure.index == index as u64);
     let Some(held) = before.retained.iter().find(|held| Some(held.id) == entry.id) else {
         return;
@@ -295,10 +304,7 @@ fn status_rows(rows: &mut Rows, call: &Call, before: &Book, applied: bool, after
     match before.with_live(*token) {
         Some(entry) => {
             rows.add_if(!applied, "Stale: live");
-            rows.add_if(
-                applied && entry.set_aside.is_some(),
-                "both slots were filled",
-            );
+            rows.add_if(applied && entry.set_aside.is_some(), "both slots were filled");
             rows.add_if(after.retirements == before.retirements && applied, "no new retirement");
         }
         None if !applied => {
@@ -316,10 +322,8 @@ fn call_rows(rows: &mut Rows, call: &Call, before: &Book, after: &Book) {
         Call::Queue { id, .. } => rows.either(id.mark == 1, "with an id", "without an id"),
         Call::QueueRebroadcastEpoch { ids, .. } => {
             rows.either(more_queued, "queued", "nothing queued");
-            let order: Vec<u64> = after.queue[before.queue.len()..]
-                .iter()
-                .filter_map(|entry| entry.id)
-                .collect();
+            let order: Vec<u64> =
+                after.queue[before.queue.len()..].iter().filter_map(|entry| entry.id).collect();
             let retained: Vec<u64> = after.retained.iter().map(|entry| entry.id).collect();
             let place = |id: &u64| retained.iter().position(|held| held == id);
             rows.add_if(
@@ -356,25 +360,26 @@ fn call_rows(rows: &mut Rows, call: &Call, before: &Book, after: &Book) {
         Call::BeginReplay { .. } => {
             rows.add_if(before.replayed != after.replayed, "replayed ids emptied");
         }
-        Call::ReconcileChainTerminality {
-            observed, spent, ..
-        } => {
+        Call::ReconcileChainTerminality { observed, spent, .. } => {
             report_rows(rows, before, after);
             landed_rows(rows, before, observed, spent, after);
         }
         Call::CollectRollbackReplayIds { ids } => {
             rows.add_if(after.replayed != before.replayed, "newly marked");
-            let known = |entry: &Queued| {
-                entry.id.is_some_and(|id| before.replayed.contains(&id))
-            };
+            let known = |entry: &Queued| entry.id.is_some_and(|id| before.replayed.contains(&id));
             let offered = &after.queue[before.queue.len()..];
             rows.add_if(offered.iter().any(known), "marked before, offered again");
             rows.either(more_queued, "queued", "nothing queued");
             let again = before.retained.iter().any(|entry| {
-                entry.chain != ACTIVE && ids.contains(&entry.id) && !before.replayed.contains(&entry.id)
+                entry.chain != ACTIVE
+                    && ids.contains(&entry.id)
+                    && !before.replayed.contains(&entry.id)
             });
             rows.add_if(again, "Active again");
-            rows.add_if(before.rollback.is_none() && !after.replayed.is_empty(), "without a height");
+            rows.add_if(
+                before.rollback.is_none() && !after.replayed.is_empty(),
+                "without a height",
+            );
         }
         Call::ClearLocalArtifacts => {
             rows.either(before.retained.is_empty(), "nothing retained", "removed");
@@ -457,7 +462,8 @@ fn report_rows(rows: &mut Rows, before: &Book, after: &Book) {
     rows.add_if(after.replayed != before.replayed, "replayed ids dropped");
     let new = after.retirements.len() - before.retirements.len();
     rows.add_if(new > 1, "several retired");
-    let rising = after.retirements[before.retirements.len()..].windows(2).all(|pair| pair[0] < pair[1]);
+    let rising =
+        after.retirements[before.retirements.len()..].windows(2).all(|pair| pair[0] < pair[1]);
     rows.add_if(!rising, "retired in retained order, not rising");
 }
 

@@ -17,15 +17,16 @@ use std::io::{Read, Write};
 use std::path::PathBuf;
 use std::process::ExitCode;
 
-use driver::Driver;
 use rust_book::{archive, play, script};
+
+use driver::Driver;
 
 const USAGE: &str = "\
 oracle play < SCRIPT > ANSWERS
 oracle show < SCRIPT
 oracle archive-check < ARCHIVE
 oracle cover   [--seed S] [--scripts N]
-oracle compare --driver PATH [--driver-arg A]... [--seed S] [--scripts N]
+oracle compare --driver PATH [--driver-arg A]... [--seed S] [--scripts N] [--save FILE]
 oracle replay  --driver PATH [--driver-arg A]... --from FOLDER
 oracle record  --out FOLDER [--seed S] [--scripts N] [--pool N] [--bytes N]
 oracle mutants [--only N] [--driver PATH] [--seed S] [--scripts N] [--show]
@@ -56,10 +57,7 @@ impl Options {
     fn driver(&self) -> Option<Driver> {
         let path = PathBuf::from(self.text("--driver")?);
         let arguments = self.words.windows(2).filter(|pair| pair[0] == "--driver-arg");
-        Some(Driver {
-            path,
-            arguments: arguments.map(|pair| pair[1].clone()).collect(),
-        })
+        Some(Driver { path, arguments: arguments.map(|pair| pair[1].clone()).collect() })
     }
 
     fn needed_driver(&self) -> Driver {
@@ -110,9 +108,7 @@ fn archive_check() -> bool {
 fn main() -> ExitCode {
     let mut words = std::env::args().skip(1);
     let command = words.next().unwrap_or_default();
-    let options = Options {
-        words: words.collect(),
-    };
+    let options = Options { words: words.collect() };
     let seed = options.number("--seed", 1);
     let well = match command.as_str() {
         "play" => std::io::stdout().write_all(&play::play(&stdin())).is_ok(),
@@ -120,7 +116,9 @@ fn main() -> ExitCode {
         "archive-check" => archive_check(),
         "cover" => cover(seed, options.number("--scripts", 6000)),
         "compare" => {
-            compare::compare(&options.needed_driver(), seed, options.number("--scripts", 6000))
+            let save = options.text("--save").map(PathBuf::from);
+            let scripts = options.number("--scripts", 6000);
+            compare::compare(&options.needed_driver(), seed, scripts, save.as_deref())
         }
         "replay" => compare::compare_files(&options.needed_driver(), &options.path("--from")),
         "record" => {

@@ -3,11 +3,12 @@
 use std::path::Path;
 use std::process::Command;
 
+use rust_book::mutant_list::{Mutant, MUTANTS};
+use rust_book::play::play;
+
 use crate::compare::{differs, report};
 use crate::driver::Driver;
 use crate::generate;
-use rust_book::mutant_list::{Mutant, MUTANTS};
-use rust_book::play::play;
 use crate::shrink::shrink;
 
 fn oracle_folder() -> &'static Path {
@@ -27,10 +28,7 @@ fn build(mutant: &Mutant) -> Driver {
         .status()
         .expect("cargo runs");
     assert!(status.success(), "mutant {} does not build", mutant.number);
-    Driver {
-        path: target.join("mutant/player"),
-        arguments: Vec::new(),
-    }
+    Driver { path: target.join("mutant/player"), arguments: Vec::new() }
 }
 
 /// The number of the first script on which the mutant's answers differ from the other side's:
@@ -47,7 +45,13 @@ fn caught(mutant: &Driver, other: Option<&Driver>, seed: u64, scripts: u64) -> O
 }
 
 /// Goes through all mutants, or only the one named; true if each is caught.
-pub fn run(other: Option<&Driver>, only: Option<usize>, seed: u64, scripts: u64, show: bool) -> bool {
+pub fn run(
+    other: Option<&Driver>,
+    only: Option<usize>,
+    seed: u64,
+    scripts: u64,
+    show: bool,
+) -> bool {
     let chosen = |mutant: &&Mutant| only.is_none_or(|number| number == mutant.number);
     let mut missed = 0;
     for mutant in MUTANTS.iter().filter(chosen) {

@@ -4,13 +4,11 @@ use std::collections::BTreeSet;
 use std::fs;
 use std::path::Path;
 
-use rust_book::archive;
-use rust_book::call::Call;
-use crate::cover::{expected_rows, Table};
-use crate::generate;
-use rust_book::model::Book;
 use rust_book::play::{play, steps};
 use rust_book::script::Script;
+
+use crate::cover::{expected_rows, Table};
+use crate::generate;
 
 /// The most calls of a recorded script.
 const MOST_CALLS: usize = 30;
@@ -47,7 +45,7 @@ fn choose(seed: u64, scripts: usize, pool: u64, most_bytes: usize) -> Vec<Candid
         let worth = |candidate: &Candidate| {
             let new = candidate.rows.difference(&filled).count();
             // Parts in a million for each byte, so that equal numbers of rows go by size.
-            (new + 1) * 1_000_000 / (candidate.size + 2_000)
+            (new + 1) * 1_000_000 / (candidate.size + 6_000)
         };
         let fits = |candidate: &Candidate| bytes + candidate.size <= most_bytes;
         let best = (0..left.len()).filter(|at| fits(&left[*at])).max_by_key(|at| worth(&left[*at]));
@@ -59,21 +57,6 @@ fn choose(seed: u64, scripts: usize, pool: u64, most_bytes: usize) -> Vec<Candid
     }
     chosen.sort_by_key(|candidate| candidate.number);
     chosen
-}
-
-/// The scripts one behind the other in one script: a list starts by reading the archive of a book
-/// opened at its two numbers. Only the last keeps the bytes that end its run.
-fn combined(scripts: &[Script]) -> Script {
-    let mut all = scripts[0].clone();
-    for script in &scripts[1..] {
-        let opened = Book::open(script.next_token, script.next_id);
-        all.calls.push(Call::ReadArchive {
-            bytes: archive::write(&opened),
-        });
-        all.calls.extend(script.calls.iter().cloned());
-    }
-    all.tail = vec![0x1e];
-    all
 }
 
 fn write(folder: &Path, name: &str, script: &Script) -> usize {
@@ -96,7 +79,9 @@ pub fn record(seed: u64, scripts: usize, pool: u64, most_bytes: usize, folder: &
         bytes += write(folder, &format!("list-{:05}", candidate.number), &candidate.script);
     }
     let scripts: Vec<Script> = chosen.into_iter().map(|candidate| candidate.script).collect();
-    bytes += write(folder, "all", &combined(&scripts));
+    let mut all = Script::joined(&scripts);
+    all.tail = vec![0x1e];
+    bytes += write(folder, "all", &all);
     let expected = expected_rows().len();
     println!(
         "{} scripts, {} calls, {bytes} bytes with all.in and all.out, {} of {expected} expected rows filled",

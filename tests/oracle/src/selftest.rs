@@ -6,17 +6,18 @@ use std::path::Path;
 
 use rust_book::archive;
 use rust_book::call::{Answer, Call, Outcome};
-use crate::generate;
-use crate::generate::books::largest_book;
-use crate::generate::damage::queue_call;
+use rust_book::judge::{expected_outputs, intent_fingerprint};
 use rust_book::model::*;
 use rust_book::play::play;
 use rust_book::rules::make;
 use rust_book::sha256::sha256;
-use crate::show;
 use rust_book::sound;
 use rust_book::upstream;
-use rust_book::judge::{expected_outputs, intent_fingerprint};
+
+use crate::generate;
+use crate::generate::books::largest_book;
+use crate::generate::damage::queue_call;
+use crate::show;
 
 /// Runs every test; a failed one panics.
 pub fn run() {
@@ -76,10 +77,7 @@ fn one_output(amount: u64) -> Bundle {
     vec![Spend {
         coin: vec![1; 64],
         digest: [2; 32],
-        run: Some(vec![Output {
-            puzzle_hash: [3; 32],
-            amount,
-        }]),
+        run: Some(vec![Output { puzzle_hash: [3; 32], amount }]),
     }]
 }
 
@@ -170,10 +168,7 @@ fn tokens() {
 
 fn drains() {
     let mut book = Book::open(5, 1);
-    let empty = Drained {
-        submissions: Vec::new(),
-        failures: Vec::new(),
-    };
+    let empty = Drained { submissions: Vec::new(), failures: Vec::new() };
     assert_eq!(drain(&mut book), empty);
     make(&mut book, &queue_call(&intent(1))).expect("accepted");
     make(&mut book, &queue_call(&intent(1))).expect("accepted");

@@ -139,16 +139,10 @@ fn coin_ids(bytes: &[u8]) -> String {
 /// A call with its arguments.
 pub fn call(call: &Call) -> String {
     let arguments = match call {
-        Call::Queue {
-            id,
-            bundle,
-            expiry,
-            fee_intent: fee_cells,
-            trigger,
-            goal,
-        } => {
+        Call::Queue { id, bundle, expiry, fee_intent: fee_cells, trigger, goal } => {
             let fee = door::fee_intent(fee_cells);
-            let fee = fee.map_or_else(|_| format!("damaged {}", short(fee_cells)), |f| fee_intent(&f));
+            let fee =
+                fee.map_or_else(|_| format!("damaged {}", short(fee_cells)), |f| fee_intent(&f));
             let bundle = bundle_cells(bundle);
             let (id, expiry) = (cell(id), cell(expiry));
             format!("id {id}, {bundle}, expiry {expiry}, {fee}, trigger {trigger}, goal {goal}")
@@ -157,18 +151,18 @@ pub fn call(call: &Call) -> String {
         Call::QueueRetainedDelivery { id, trigger, goal } => {
             format!("id {id}, trigger {trigger}, goal {goal}")
         }
-        Call::FinalizeAttempt {
-            token,
-            source,
-            bundle,
-        } => format!("token {token}, source {source}, {}", bundle_cells(bundle)),
+        Call::FinalizeAttempt { token, source, bundle } => {
+            format!("token {token}, source {source}, {}", bundle_cells(bundle))
+        }
         Call::FeeIntentForAttempt { token }
         | Call::AcknowledgeAttempt { token }
         | Call::StopAttempt { token }
         | Call::AbandonAttempt { token }
         | Call::RelinquishCompletedAttempt { token }
         | Call::Attempt { token } => format!("token {token}"),
-        Call::RetainSubmitted { ids } | Call::CollectRollbackReplayIds { ids } => format!("{ids:?}"),
+        Call::RetainSubmitted { ids } | Call::CollectRollbackReplayIds { ids } => {
+            format!("{ids:?}")
+        }
         Call::EmitRetirement { id } => format!("id {id}"),
         Call::BeginReplay { height } | Call::FinishReplayIfAdvanced { height } => {
             format!("height {height}")
@@ -176,28 +170,22 @@ pub fn call(call: &Call) -> String {
         Call::ReconciliationInputCoins { landed, buffer } => {
             format!("{}, buffer {buffer}", coins(landed))
         }
-        Call::ReconcileChainTerminality {
-            observed,
-            spent,
-            reorg,
-            ids,
-        } => {
+        Call::ReconcileChainTerminality { observed, spent, reorg, ids } => {
             let (observed, spent) = (coins(observed), coin_ids(spent));
             format!("observed {observed}, spent {spent}, reorg {reorg}, rolled back {ids:?}")
         }
-        Call::CausallyRolledBackIds {
-            absent,
-            live_inputs,
-        } => format!("absent {}, live {}", coins(absent), coin_ids(live_inputs)),
-        Call::AbsentOutputsForIds {
-            ids,
-            absent,
-            buffer,
-        } => format!("{ids:?}, absent {}, buffer {buffer}", coins(absent)),
+        Call::CausallyRolledBackIds { absent, live_inputs } => {
+            format!("absent {}, live {}", coins(absent), coin_ids(live_inputs))
+        }
+        Call::AbsentOutputsForIds { ids, absent, buffer } => {
+            format!("{ids:?}, absent {}, buffer {buffer}", coins(absent))
+        }
         Call::WriteArchive { buffer } => format!("buffer {buffer}"),
         Call::ReadArchive { bytes } => match rust_book::archive::read(bytes) {
             Ok(read) => format!("\n    {}", book(&read).replace('\n', "\n    ")),
-            Err(broken) => format!("{} bytes, broken at {}: {}", bytes.len(), broken.place, hex(bytes)),
+            Err(broken) => {
+                format!("{} bytes, broken at {}: {}", bytes.len(), broken.place, hex(bytes))
+            }
         },
         _ => String::new(),
     };

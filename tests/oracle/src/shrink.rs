@@ -3,10 +3,11 @@
 use rust_book::archive;
 use rust_book::call::Call;
 use rust_book::door;
-use crate::generate::damage::{bundle_cells, fee_cells};
 use rust_book::model::*;
 use rust_book::play::steps;
 use rust_book::script::Script;
+
+use crate::generate::damage::{bundle_cells, fee_cells};
 
 /// Runs of the driver that one shrinking may take.
 const MOST_TRIES: usize = 3000;
@@ -61,10 +62,7 @@ fn start_from_archive<F: Fn(&[u8]) -> bool>(search: &mut Search<F>, best: &mut S
         return;
     };
     let bytes = archive::write(&before);
-    let shorter = Script {
-        calls: vec![Call::ReadArchive { bytes }, last.clone()],
-        ..best.clone()
-    };
+    let shorter = Script { calls: vec![Call::ReadArchive { bytes }, last.clone()], ..best.clone() };
     if search.still(&shorter) {
         *best = shorter;
     }

@@ -153,19 +153,11 @@ pub struct Reader<'a> {
 
 impl<'a> Reader<'a> {
     pub fn new(bytes: &'a [u8]) -> Reader<'a> {
-        Reader {
-            bytes,
-            at: 0,
-            items: Vec::new(),
-        }
+        Reader { bytes, at: 0, items: Vec::new() }
     }
 
     fn breaks(&self, place: usize, item: &'static str) -> Broken {
-        Broken {
-            place,
-            item,
-            cut_short: false,
-        }
+        Broken { place, item, cut_short: false }
     }
 
     /// One item of `length` bytes.

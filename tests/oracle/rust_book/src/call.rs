@@ -23,33 +23,85 @@ pub enum Call {
         trigger: u8,
         goal: u8,
     },
-    QueueRebroadcastEpoch { ids: Vec<u64>, trigger: u8 },
+    QueueRebroadcastEpoch {
+        ids: Vec<u64>,
+        trigger: u8,
+    },
     QueueFeeReadiness,
-    QueueRetainedDelivery { id: u64, trigger: u8, goal: u8 },
+    QueueRetainedDelivery {
+        id: u64,
+        trigger: u8,
+        goal: u8,
+    },
     Drain,
-    FinalizeAttempt { token: u64, source: u8, bundle: Vec<u8> },
-    FeeIntentForAttempt { token: u64 },
-    AcknowledgeAttempt { token: u64 },
-    StopAttempt { token: u64 },
-    AbandonAttempt { token: u64 },
-    RelinquishCompletedAttempt { token: u64 },
-    RetainSubmitted { ids: Vec<u64> },
-    EmitRetirement { id: u64 },
+    FinalizeAttempt {
+        token: u64,
+        source: u8,
+        bundle: Vec<u8>,
+    },
+    FeeIntentForAttempt {
+        token: u64,
+    },
+    AcknowledgeAttempt {
+        token: u64,
+    },
+    StopAttempt {
+        token: u64,
+    },
+    AbandonAttempt {
+        token: u64,
+    },
+    RelinquishCompletedAttempt {
+        token: u64,
+    },
+    RetainSubmitted {
+        ids: Vec<u64>,
+    },
+    EmitRetirement {
+        id: u64,
+    },
     DrainRetirements,
-    ReconciliationInputCoins { landed: Vec<u8>, buffer: u32 },
+    ReconciliationInputCoins {
+        landed: Vec<u8>,
+        buffer: u32,
+    },
     ActiveIds,
-    BeginReplay { height: u64 },
-    FinishReplayIfAdvanced { height: u64 },
+    BeginReplay {
+        height: u64,
+    },
+    FinishReplayIfAdvanced {
+        height: u64,
+    },
     ReplayRollbackHeight,
-    ReconcileChainTerminality { observed: Vec<u8>, spent: Vec<u8>, reorg: u8, ids: Vec<u64> },
-    CausallyRolledBackIds { absent: Vec<u8>, live_inputs: Vec<u8> },
-    AbsentOutputsForIds { ids: Vec<u64>, absent: Vec<u8>, buffer: u32 },
-    CollectRollbackReplayIds { ids: Vec<u64> },
+    ReconcileChainTerminality {
+        observed: Vec<u8>,
+        spent: Vec<u8>,
+        reorg: u8,
+        ids: Vec<u64>,
+    },
+    CausallyRolledBackIds {
+        absent: Vec<u8>,
+        live_inputs: Vec<u8>,
+    },
+    AbsentOutputsForIds {
+        ids: Vec<u64>,
+        absent: Vec<u8>,
+        buffer: u32,
+    },
+    CollectRollbackReplayIds {
+        ids: Vec<u64>,
+    },
     ClearLocalArtifacts,
     RestoreRuntime,
-    Attempt { token: u64 },
-    WriteArchive { buffer: u32 },
-    ReadArchive { bytes: Vec<u8> },
+    Attempt {
+        token: u64,
+    },
+    WriteArchive {
+        buffer: u32,
+    },
+    ReadArchive {
+        bytes: Vec<u8>,
+    },
     Sound,
 }
 
@@ -163,10 +215,7 @@ pub struct Refusal {
 
 impl From<u8> for Refusal {
     fn from(number: u8) -> Refusal {
-        Refusal {
-            number,
-            place: None,
-        }
+        Refusal { number, place: None }
     }
 }
 

@@ -90,10 +90,7 @@ fn spend(cells: &[u8]) -> Result<Spend, Turned> {
 }
 
 fn output(cells: &[u8]) -> Output {
-    Output {
-        puzzle_hash: cells[..32].try_into().expect("32 bytes"),
-        amount: number(&cells[32..]),
-    }
+    Output { puzzle_hash: cells[..32].try_into().expect("32 bytes"), amount: number(&cells[32..]) }
 }
 
 /// The fee source of finalise. The joined bundle is zero unless the source is 1.
@@ -165,12 +162,7 @@ pub enum Entered {
     Ids(Vec<u64>),
     Coins(Vec<Vec<u8>>),
     CoinsAndIds { coins: Vec<Vec<u8>>, ids: Vec<u64> },
-    Report {
-        observed: Vec<Vec<u8>>,
-        spent: Vec<Digest>,
-        reorg: bool,
-        ids: Vec<u64>,
-    },
+    Report { observed: Vec<Vec<u8>>, spent: Vec<Digest>, reorg: bool, ids: Vec<u64> },
     CoinsAndInputs { coins: Vec<Vec<u8>>, inputs: Vec<Digest> },
     NothingToCheck,
 }
@@ -178,21 +170,16 @@ pub enum Entered {
 /// The door of each call. A 3 for a trigger or flag comes before a 2.
 pub fn enter(call: &Call) -> Result<Entered, Turned> {
     Ok(match call {
-        Call::Queue {
-            id,
-            bundle: cells,
-            expiry,
-            fee_intent: fee_cells,
-            trigger,
-            goal,
-        } => Entered::Queue(Queued {
-            id: optional(*id)?,
-            bundle: bundle(cells)?,
-            expiry: optional(*expiry)?,
-            fee_intent: fee_intent(fee_cells)?,
-            trigger: kind(*trigger, 3, "trigger")?,
-            goal: kind(*goal, 1, "goal")?,
-        }),
+        Call::Queue { id, bundle: cells, expiry, fee_intent: fee_cells, trigger, goal } => {
+            Entered::Queue(Queued {
+                id: optional(*id)?,
+                bundle: bundle(cells)?,
+                expiry: optional(*expiry)?,
+                fee_intent: fee_intent(fee_cells)?,
+                trigger: kind(*trigger, 3, "trigger")?,
+                goal: kind(*goal, 1, "goal")?,
+            })
+        }
         Call::QueueRebroadcastEpoch { ids: list, trigger } => {
             let trigger = kind(*trigger, 3, "trigger")?;
             let ids = ids(list)?.to_vec();
@@ -209,12 +196,7 @@ pub fn enter(call: &Call) -> Result<Entered, Turned> {
             Entered::Ids(ids(list)?.to_vec())
         }
         Call::ReconciliationInputCoins { landed, .. } => Entered::Coins(coin_list(landed)?),
-        Call::ReconcileChainTerminality {
-            observed,
-            spent,
-            reorg,
-            ids: list,
-        } => {
+        Call::ReconcileChainTerminality { observed, spent, reorg, ids: list } => {
             let reorg = kind(*reorg, 1, "flag")? == 1;
             Entered::Report {
                 observed: coin_list(observed)?,
@@ -223,17 +205,12 @@ pub fn enter(call: &Call) -> Result<Entered, Turned> {
                 ids: ids(list)?.to_vec(),
             }
         }
-        Call::CausallyRolledBackIds {
-            absent,
-            live_inputs,
-        } => Entered::CoinsAndInputs {
-            coins: coin_list(absent)?,
-            inputs: coin_ids(live_inputs)?,
-        },
-        Call::AbsentOutputsForIds { ids: list, absent, .. } => Entered::CoinsAndIds {
-            ids: ids(list)?.to_vec(),
-            coins: coin_list(absent)?,
-        },
+        Call::CausallyRolledBackIds { absent, live_inputs } => {
+            Entered::CoinsAndInputs { coins: coin_list(absent)?, inputs: coin_ids(live_inputs)? }
+        }
+        Call::AbsentOutputsForIds { ids: list, absent, .. } => {
+            Entered::CoinsAndIds { ids: ids(list)?.to_vec(), coins: coin_list(absent)? }
+        }
         _ => Entered::NothingToCheck,
     })
 }

@@ -127,9 +127,7 @@ impl Book {
 
     /// The two slots of each submission, in order.
     pub fn slots(&self) -> impl Iterator<Item = &Attempt> {
-        self.retained
-            .iter()
-            .flat_map(|entry| entry.live.iter().chain(entry.set_aside.iter()))
+        self.retained.iter().flat_map(|entry| entry.live.iter().chain(entry.set_aside.iter()))
     }
 
     pub fn with_live(&self, token: u64) -> Option<&Retained> {

@@ -19,11 +19,7 @@ pub fn steps(script: &Script) -> Vec<Step> {
     for call in &script.calls {
         let outcome = rules::make(&mut book, call);
         let output = output(call, &outcome, &book);
-        steps.push(Step {
-            outcome,
-            after: book.clone(),
-            output,
-        });
+        steps.push(Step { outcome, after: book.clone(), output });
     }
     steps
 }

@@ -48,7 +48,10 @@ fn changed<T>(book: &Book, run: impl FnOnce(&mut Judge) -> Result<T, u8>) -> Res
 }
 
 /// A query: nothing changes.
-fn asked(book: &Book, answer: impl FnOnce(&Judge) -> Result<Answer, u8>) -> Result<(Book, Answer), u8> {
+fn asked(
+    book: &Book,
+    answer: impl FnOnce(&Judge) -> Result<Answer, u8>,
+) -> Result<(Book, Answer), u8> {
     let answer = answer(&Judge::of(book))?;
     Ok((book.clone(), answer))
 }
@@ -82,10 +85,8 @@ fn drained_until_spent(book: &Book) -> Book {
 
 fn answer(book: &Book, call: &Call) -> Result<(Book, Answer), Refusal> {
     if let Call::ReadArchive { bytes } = call {
-        let read = archive::read(bytes).map_err(|broken| Refusal {
-            number: 13,
-            place: Some(broken.place as u64),
-        })?;
+        let read = archive::read(bytes)
+            .map_err(|broken| Refusal { number: 13, place: Some(broken.place as u64) })?;
         return Ok((read, Answer::Nothing));
     }
     let entered = door::enter(call).map_err(|turned| Refusal::from(turned.number))?;
@@ -131,15 +132,15 @@ fn checked_call(book: &Book, call: &Call, entered: Entered) -> Result<(Book, Ans
             Ok(judge.reconcile_chain_terminality(&observed, &spent, reorg, &ids))
         })
         .map(nothing),
-        (_, Entered::CoinsAndInputs { coins, inputs }) => asked(book, |judge| {
-            Ok(Answer::Ids(judge.causally_rolled_back_ids(&coins, &inputs)))
-        }),
-        (_, Entered::CoinsAndIds { coins, ids }) => asked(book, |judge| {
-            Ok(written(&judge.absent_outputs_for_ids(&ids, &coins)))
-        }),
-        (_, Entered::Coins(coins)) => asked(book, |judge| {
-            Ok(written(&judge.reconciliation_input_coins(&coins)))
-        }),
+        (_, Entered::CoinsAndInputs { coins, inputs }) => {
+            asked(book, |judge| Ok(Answer::Ids(judge.causally_rolled_back_ids(&coins, &inputs))))
+        }
+        (_, Entered::CoinsAndIds { coins, ids }) => {
+            asked(book, |judge| Ok(written(&judge.absent_outputs_for_ids(&ids, &coins))))
+        }
+        (_, Entered::Coins(coins)) => {
+            asked(book, |judge| Ok(written(&judge.reconciliation_input_coins(&coins))))
+        }
         _ => unreachable!("the door gives each call its own arguments"),
     }
 }
@@ -153,9 +154,9 @@ fn plain_call(book: &Book, call: &Call) -> Result<(Book, Answer), u8> {
     match call {
         Call::QueueFeeReadiness => changed(book, Judge::queue_fee_readiness).map(nothing),
         Call::Drain => drain(book).map(with(Answer::Drained)),
-        Call::FeeIntentForAttempt { token } => asked(book, |judge| {
-            judge.fee_intent_for_attempt(*token).map(Answer::FeeIntent)
-        }),
+        Call::FeeIntentForAttempt { token } => {
+            asked(book, |judge| judge.fee_intent_for_attempt(*token).map(Answer::FeeIntent))
+        }
         Call::AcknowledgeAttempt { token } => {
             changed(book, |judge| judge.acknowledge_attempt(*token)).map(with(Answer::Applied))
         }

@@ -35,15 +35,24 @@ impl Script {
                 Some(call) => calls.push(call),
                 None => {
                     let tail = behind.to_vec();
-                    return Some(Script {
-                        next_token,
-                        next_id,
-                        calls,
-                        tail,
-                    });
+                    return Some(Script { next_token, next_id, calls, tail });
                 }
             }
         }
+    }
+
+    /// The scripts one behind the other in one script: each but the first starts by reading the
+    /// archive of a book opened at its two numbers. What is behind the last whole calls is lost.
+    pub fn joined(scripts: &[Script]) -> Script {
+        let mut all = scripts[0].clone();
+        all.tail.clear();
+        for script in &scripts[1..] {
+            let opened = Book::open(script.next_token, script.next_id);
+            let bytes = archive::write(&opened);
+            all.calls.push(Call::ReadArchive { bytes });
+            all.calls.extend(script.calls.iter().cloned());
+        }
+        all
     }
 
     pub fn bytes(&self) -> Vec<u8> {
@@ -77,10 +86,7 @@ impl Input<'_> {
     }
 
     fn optional(&mut self) -> Option<OptionalCell> {
-        Some(OptionalCell {
-            mark: self.byte()?,
-            value: self.number()?,
-        })
+        Some(OptionalCell { mark: self.byte()?, value: self.number()? })
     }
 
     fn ids(&mut self) -> Option<Vec<u64>> {
@@ -109,10 +115,7 @@ impl Input<'_> {
                 trigger: self.byte()?,
                 goal: self.byte()?,
             },
-            0x02 => Call::QueueRebroadcastEpoch {
-                ids: self.ids()?,
-                trigger: self.byte()?,
-            },
+            0x02 => Call::QueueRebroadcastEpoch { ids: self.ids()?, trigger: self.byte()? },
             0x03 => Call::QueueFeeReadiness,
             0x04 => Call::QueueRetainedDelivery {
                 id: self.number()?,
@@ -133,10 +136,9 @@ impl Input<'_> {
             0x0c => Call::RetainSubmitted { ids: self.ids()? },
             0x0d => Call::EmitRetirement { id: self.number()? },
             0x0e => Call::DrainRetirements,
-            0x0f => Call::ReconciliationInputCoins {
-                landed: self.bytes()?,
-                buffer: self.length()?,
-            },
+            0x0f => {
+                Call::ReconciliationInputCoins { landed: self.bytes()?, buffer: self.length()? }
+            }
             0x10 => Call::ActiveIds,
             0x11 => Call::BeginReplay { height: self.number()? },
             0x12 => Call::FinishReplayIfAdvanced { height: self.number()? },
@@ -147,10 +149,9 @@ impl Input<'_> {
                 reorg: self.byte()?,
                 ids: self.ids()?,
             },
-            0x15 => Call::CausallyRolledBackIds {
-                absent: self.bytes()?,
-                live_inputs: self.bytes()?,
-            },
+            0x15 => {
+                Call::CausallyRolledBackIds { absent: self.bytes()?, live_inputs: self.bytes()? }
+            }
             0x16 => Call::AbsentOutputsForIds {
                 ids: self.ids()?,
                 absent: self.bytes()?,
@@ -194,14 +195,7 @@ fn put_bytes(out: &mut Vec<u8>, bytes: &[u8]) {
 pub fn write_call(out: &mut Vec<u8>, call: &Call) {
     out.push(call.opcode());
     match call {
-        Call::Queue {
-            id,
-            bundle,
-            expiry,
-            fee_intent,
-            trigger,
-            goal,
-        } => {
+        Call::Queue { id, bundle, expiry, fee_intent, trigger, goal } => {
             put_optional(out, id);
             out.extend_from_slice(bundle);
             put_optional(out, expiry);
@@ -216,11 +210,7 @@ pub fn write_call(out: &mut Vec<u8>, call: &Call) {
             put_number(out, *id);
             out.extend_from_slice(&[*trigger, *goal]);
         }
-        Call::FinalizeAttempt {
-            token,
-            source,
-            bundle,
-        } => {
+        Call::FinalizeAttempt { token, source, bundle } => {
             put_number(out, *token);
             out.push(*source);
             out.extend_from_slice(bundle);
@@ -242,29 +232,17 @@ pub fn write_call(out: &mut Vec<u8>, call: &Call) {
             put_bytes(out, landed);
             out.extend_from_slice(&buffer.to_be_bytes());
         }
-        Call::ReconcileChainTerminality {
-            observed,
-            spent,
-            reorg,
-            ids,
-        } => {
+        Call::ReconcileChainTerminality { observed, spent, reorg, ids } => {
             put_bytes(out, observed);
             put_bytes(out, spent);
             out.push(*reorg);
             put_ids(out, ids);
         }
-        Call::CausallyRolledBackIds {
-            absent,
-            live_inputs,
-        } => {
+        Call::CausallyRolledBackIds { absent, live_inputs } => {
             put_bytes(out, absent);
             put_bytes(out, live_inputs);
         }
-        Call::AbsentOutputsForIds {
-            ids,
-            absent,
-            buffer,
-        } => {
+        Call::AbsentOutputsForIds { ids, absent, buffer } => {
             put_ids(out, ids);
             put_bytes(out, absent);
             out.extend_from_slice(&buffer.to_be_bytes());

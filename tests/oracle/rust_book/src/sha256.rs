@@ -48,10 +48,8 @@ fn compress(state: &mut [u32; 8], block: &[u8]) {
         let (a, b) = (words[t - 15], words[t - 2]);
         let small0 = a.rotate_right(7) ^ a.rotate_right(18) ^ (a >> 3);
         let small1 = b.rotate_right(17) ^ b.rotate_right(19) ^ (b >> 10);
-        words[t] = words[t - 16]
-            .wrapping_add(small0)
-            .wrapping_add(words[t - 7])
-            .wrapping_add(small1);
+        words[t] =
+            words[t - 16].wrapping_add(small0).wrapping_add(words[t - 7]).wrapping_add(small1);
     }
     let [mut a, mut b, mut c, mut d, mut e, mut f, mut g, mut h] = *state;
     for t in 0..64 {

@@ -25,9 +25,10 @@ pub fn broken_rule(book: &Book) -> Option<&'static str> {
             && entry.mark <= 2
             && entry.chain <= 2
     }) && book.slots().all(|attempt| attempt.goal <= 1)
-        && book.queue.iter().all(|entry| {
-            bundle_in_range(&entry.bundle) && entry.trigger <= 3 && entry.goal <= 1
-        });
+        && book
+            .queue
+            .iter()
+            .all(|entry| bundle_in_range(&entry.bundle) && entry.trigger <= 3 && entry.goal <= 1);
     let rules = [
         (!book.over_full() && book.replayed.len() <= MOST_REPLAYED, "a list is too long"),
         (ranges, "a part is out of its range"),

@@ -1,10 +1,11 @@
 //! Hand-made sound books: states that no list of calls need reach.
 
-use super::pool::{digest, fee_intents, intent_of, matching_intent, Pool, EXPIRIES, HEIGHTS};
-use rust_book::model::*;
-use crate::rng::Rng;
-use rust_book::sound;
 use rust_book::judge::{intent_fingerprint, variant_fingerprint};
+use rust_book::model::*;
+use rust_book::sound;
+
+use super::pool::{digest, fee_intents, intent_of, matching_intent, Pool, EXPIRIES, HEIGHTS};
+use crate::rng::Rng;
 
 /// How full the lists of a hand-made book are.
 #[derive(Clone, Copy)]
@@ -15,11 +16,7 @@ pub struct Fill {
 }
 
 pub fn small_fill(rng: &mut Rng) -> Fill {
-    Fill {
-        retained: rng.below(5),
-        queue: rng.below(5),
-        retirements: rng.below(4),
-    }
+    Fill { retained: rng.below(5), queue: rng.below(5), retirements: rng.below(4) }
 }
 
 /// At least one list at or just below its limit.
@@ -97,26 +94,11 @@ pub fn book(rng: &mut Rng, pool: &Pool, fill: Fill) -> Book {
 
 /// The book with the longest archive.
 pub fn largest_book() -> Book {
-    let output = Output {
-        puzzle_hash: [1; 32],
-        amount: 1,
-    };
-    let spend = Spend {
-        coin: vec![1; 73],
-        digest: [1; 32],
-        run: Some(vec![output; 4]),
-    };
+    let output = Output { puzzle_hash: [1; 32], amount: 1 };
+    let spend = Spend { coin: vec![1; 73], digest: [1; 32], run: Some(vec![output; 4]) };
     let bundle = vec![spend; 4];
-    let attempt = |token| Attempt {
-        token,
-        goal: 1,
-        drained: [1; 32],
-        finalised: Some([1; 32]),
-    };
-    let fee_intent = FeeIntent::Attach {
-        target: [1; 32],
-        amount: 1,
-    };
+    let attempt = |token| Attempt { token, goal: 1, drained: [1; 32], finalised: Some([1; 32]) };
+    let fee_intent = FeeIntent::Attach { target: [1; 32], amount: 1 };
     let retained = (0..16).map(|id| Retained {
         id,
         live: Some(attempt(2 * id)),
@@ -196,7 +178,7 @@ fn retained(rng: &mut Rng, pool: &Pool, id: u64, tokens: &mut u64) -> Retained {
     let fingerprints = [current, current, base_variant, digest(5)];
     let mut attempt = |rng: &mut Rng| {
         *tokens -= 1 + u64::from(rng.chance(10));
-        let stale = rng.chance(15);
+        let stale = rng.chance(25);
         Attempt {
             token: *tokens,
             goal: u8::from(rng.chance(30)),

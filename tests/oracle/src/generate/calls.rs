@@ -1,16 +1,17 @@
 //! One call, its arguments chosen with the book in view.
 
-use super::books;
-use super::damage::{self, bundle_cells, queue_call};
-use super::pool::{digest, intent_of, matching_intent, Pool, EXPIRIES, HEIGHTS};
 use rust_book::archive;
 use rust_book::call::{Call, BUNDLE_CELLS};
 use rust_book::door::write_coin_list;
+use rust_book::judge::{expected_outputs, intent_fingerprint, Judge};
 use rust_book::model::*;
-use crate::rng::Rng;
 use rust_book::script::LONGEST_BYTES;
 use rust_book::sha256::sha256;
-use rust_book::judge::{expected_outputs, intent_fingerprint, Judge};
+
+use super::books;
+use super::damage::{self, bundle_cells, queue_call};
+use super::pool::{digest, intent_of, matching_intent, Pool, EXPIRIES, HEIGHTS};
+use crate::rng::Rng;
 
 /// The number of opcodes; opcode `n` has weight `weights[n - 1]`.
 pub const OPCODES: usize = 29;
@@ -26,10 +27,7 @@ pub fn call(rng: &mut Rng, pool: &Pool, book: &Book, weights: &Weights) -> Call 
     }
     match opcode {
         0x01 => queue(rng, pool, book),
-        0x02 => Call::QueueRebroadcastEpoch {
-            ids: id_list(rng, book),
-            trigger: trigger(rng),
-        },
+        0x02 => Call::QueueRebroadcastEpoch { ids: id_list(rng, book), trigger: trigger(rng) },
         0x03 => Call::QueueFeeReadiness,
         0x04 => Call::QueueRetainedDelivery {
             id: id(rng, book),
@@ -66,9 +64,8 @@ pub fn call(rng: &mut Rng, pool: &Pool, book: &Book, weights: &Weights) -> Call 
         0x18 => Call::ClearLocalArtifacts,
         0x19 => Call::RestoreRuntime,
         0x1a => Call::Attempt { token: token(rng, book) },
-        0x1b => Call::WriteArchive {
-            buffer: room(rng, archive::write(book).len()),
-        },
+        0x1b if rng.chance(1) => Call::WriteArchive { buffer: LONGEST_BYTES },
+        0x1b => Call::WriteArchive { buffer: room(rng, archive::write(book).len()) },
         0x1c => read_archive(rng, pool, book),
         _ => Call::Sound,
     }
@@ -141,11 +138,7 @@ fn finalise(rng: &mut Rng, pool: &Pool, book: &Book) -> Call {
         (1, _) => bundle_cells(&pool.bundle(rng)),
         _ => vec![0; BUNDLE_CELLS],
     };
-    Call::FinalizeAttempt {
-        token,
-        source,
-        bundle,
-    }
+    Call::FinalizeAttempt { token, source, bundle }
 }
 
 fn odd_token(rng: &mut Rng, book: &Book) -> u64 {
@@ -297,21 +290,14 @@ fn reconciliation(rng: &mut Rng, pool: &Pool, book: &Book) -> Call {
     let landed = output_list(rng, pool, book);
     let coins = rust_book::door::coin_list(&landed).expect("a coin list");
     let needed = write_coin_list(&Judge::of(book).reconciliation_input_coins(&coins)).len();
-    Call::ReconciliationInputCoins {
-        landed,
-        buffer: room(rng, needed),
-    }
+    Call::ReconciliationInputCoins { landed, buffer: room(rng, needed) }
 }
 
 fn absent_outputs(rng: &mut Rng, pool: &Pool, book: &Book) -> Call {
     let (ids, absent) = (id_list(rng, book), output_list(rng, pool, book));
     let coins = rust_book::door::coin_list(&absent).expect("a coin list");
     let needed = write_coin_list(&Judge::of(book).absent_outputs_for_ids(&ids, &coins)).len();
-    Call::AbsentOutputsForIds {
-        ids,
-        absent,
-        buffer: room(rng, needed),
-    }
+    Call::AbsentOutputsForIds { ids, absent, buffer: room(rng, needed) }
 }
 
 fn read_archive(rng: &mut Rng, pool: &Pool, book: &Book) -> Call {
@@ -331,9 +317,7 @@ fn read_archive(rng: &mut Rng, pool: &Pool, book: &Book) -> Call {
 
 /// A book read in from its archive.
 pub fn read_book(book: &Book) -> Call {
-    Call::ReadArchive {
-        bytes: archive::write(book),
-    }
+    Call::ReadArchive { bytes: archive::write(book) }
 }
 
 /// The candidates of DESIGN's reading 4: an intent is emitted, its submission removed by an entry

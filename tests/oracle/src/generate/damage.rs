@@ -4,6 +4,7 @@ use rust_book::archive;
 use rust_book::call::{Call, OptionalCell, BUNDLE_CELLS, FEE_CELLS, SPEND_CELLS};
 use rust_book::door::write_coin_list;
 use rust_book::model::*;
+
 use crate::rng::Rng;
 
 pub fn bundle_cells(bundle: &Bundle) -> Vec<u8> {
@@ -41,10 +42,7 @@ pub fn fee_cells(intent: &FeeIntent) -> Vec<u8> {
 }
 
 pub fn optional_cell(value: Option<u64>) -> OptionalCell {
-    OptionalCell {
-        mark: u8::from(value.is_some()),
-        value: value.unwrap_or(0),
-    }
+    OptionalCell { mark: u8::from(value.is_some()), value: value.unwrap_or(0) }
 }
 
 pub fn queue_call(entry: &Queued) -> Call {
@@ -71,10 +69,7 @@ fn damage_optional(rng: &mut Rng, cell: &mut OptionalCell) {
     if rng.chance(50) {
         cell.mark = out_of_range(rng, 1);
     } else {
-        *cell = OptionalCell {
-            mark: 0,
-            value: *rng.pick(&[1, 1 << 63, 5]),
-        };
+        *cell = OptionalCell { mark: 0, value: *rng.pick(&[1, 1 << 63, 5]) };
     }
 }
 
@@ -165,14 +160,7 @@ pub fn too_many_ids(rng: &mut Rng) -> Vec<u64> {
 /// One argument of the call damaged; calls whose arguments cannot be wrong stay.
 pub fn damage(rng: &mut Rng, call: &mut Call) {
     match call {
-        Call::Queue {
-            id,
-            bundle,
-            expiry,
-            fee_intent,
-            trigger,
-            goal,
-        } => match rng.below(9) {
+        Call::Queue { id, bundle, expiry, fee_intent, trigger, goal } => match rng.below(9) {
             0 => damage_optional(rng, id),
             1 => damage_optional(rng, expiry),
             2 | 3 => damage_fee(rng, fee_intent),
@@ -215,12 +203,7 @@ pub fn damage(rng: &mut Rng, call: &mut Call) {
             *ids = too_many_ids(rng);
         }
         Call::ReconciliationInputCoins { landed, .. } => *landed = damaged_list(rng, landed),
-        Call::ReconcileChainTerminality {
-            observed,
-            spent,
-            reorg,
-            ids,
-        } => match rng.below(5) {
+        Call::ReconcileChainTerminality { observed, spent, reorg, ids } => match rng.below(5) {
             0 => *observed = damaged_list(rng, observed),
             1 => damaged_coin_ids(rng, spent),
             2 => *reorg = out_of_range(rng, 1),
@@ -230,10 +213,7 @@ pub fn damage(rng: &mut Rng, call: &mut Call) {
                 *ids = too_many_ids(rng);
             }
         },
-        Call::CausallyRolledBackIds {
-            absent,
-            live_inputs,
-        } => {
+        Call::CausallyRolledBackIds { absent, live_inputs } => {
             if rng.chance(50) {
                 *absent = damaged_list(rng, absent);
             } else {

@@ -1,8 +1,9 @@
 //! Few coins, bundles, expiries and fee intents, so that generated calls meet one another.
 
-use rust_book::model::*;
-use crate::rng::Rng;
 use rust_book::judge::{expected_outputs, intent_fingerprint};
+use rust_book::model::*;
+
+use crate::rng::Rng;
 
 pub struct Pool {
     pub bundles: Vec<Bundle>,
@@ -29,26 +30,15 @@ pub fn fee_intents() -> [FeeIntent; 6] {
 }
 
 fn output(byte: u8, amount: u64) -> Output {
-    Output {
-        puzzle_hash: digest(byte),
-        amount,
-    }
+    Output { puzzle_hash: digest(byte), amount }
 }
 
 fn spend(coin: &[u8], mark: u8, outputs: &[Output]) -> Spend {
-    Spend {
-        coin: coin.to_vec(),
-        digest: digest(mark),
-        run: Some(outputs.to_vec()),
-    }
+    Spend { coin: coin.to_vec(), digest: digest(mark), run: Some(outputs.to_vec()) }
 }
 
 fn unreadable(coin: &[u8], mark: u8) -> Spend {
-    Spend {
-        coin: coin.to_vec(),
-        digest: digest(mark),
-        run: None,
-    }
+    Spend { coin: coin.to_vec(), digest: digest(mark), run: None }
 }
 
 /// 32, 32 and then some bytes: a coin string of any length from 64 on.
@@ -101,11 +91,7 @@ impl Pool {
             vec![spend(&longest, 0xfe, &amounts); 4],
         ];
         let foreign_coins = vec![coin(8, 8, &[1]), Vec::new(), vec![7; 73], vec![0]];
-        Pool {
-            bundles,
-            joined,
-            foreign_coins,
-        }
+        Pool { bundles, joined, foreign_coins }
     }
 
     pub fn bundle(&self, rng: &mut Rng) -> Bundle {

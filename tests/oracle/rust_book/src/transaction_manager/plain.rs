@@ -41,10 +41,7 @@ fn to_spend(spend: &model::Spend) -> CoinSpend {
 }
 
 pub fn to_bundle(bundle: &model::Bundle) -> SpendBundle {
-    SpendBundle {
-        name: None,
-        spends: bundle.iter().map(to_spend).collect(),
-    }
+    SpendBundle { name: None, spends: bundle.iter().map(to_spend).collect() }
 }
 
 pub fn spends(spends: &[CoinSpend]) -> model::Bundle {
@@ -83,10 +80,9 @@ pub fn fee_intent(intent: &SubmissionFeeIntent) -> model::FeeIntent {
     match intent {
         SubmissionFeeIntent::AlreadyPaid => model::FeeIntent::AlreadyPaid,
         SubmissionFeeIntent::NoFeeConfigured => model::FeeIntent::NoFeeConfigured,
-        SubmissionFeeIntent::Attach { target, amount, .. } => model::FeeIntent::Attach {
-            target: digest(target.bytes()),
-            amount: amount.to_u64(),
-        },
+        SubmissionFeeIntent::Attach { target, amount, .. } => {
+            model::FeeIntent::Attach { target: digest(target.bytes()), amount: amount.to_u64() }
+        }
     }
 }
 
@@ -210,10 +206,9 @@ fn retained(entry: &SubmittedTx) -> model::Retained {
         base: bundle(&entry.base_bundle),
         fee: match &entry.current_variant {
             SubmissionBroadcastVariant::Base => None,
-            SubmissionBroadcastVariant::FeeBearing {
-                bundle: fee_bundle,
-                applied_fee,
-            } => Some((bundle(fee_bundle), *applied_fee)),
+            SubmissionBroadcastVariant::FeeBearing { bundle: fee_bundle, applied_fee } => {
+                Some((bundle(fee_bundle), *applied_fee))
+            }
         },
         mark,
         fee_intent,
