@@ -28,13 +28,17 @@ const FEES: Weights = [8, 3, 6, 5, 11, 14, 6, 9, 4, 1, 2, 0, 0, 0, 0, 0, 0, 0, 0
 #[rustfmt::skip]
 const LIMITS: Weights = [9, 4, 4, 8, 6, 2, 0, 2, 1, 4, 0, 4, 3, 1, 0, 0, 0, 0, 0, 6, 0, 0, 5, 2, 1, 0, 1, 0, 0];
 #[rustfmt::skip]
+const DOORS: Weights = [7, 3, 0, 2, 1, 7, 0, 0, 0, 0, 0, 2, 0, 0, 5, 0, 0, 0, 0, 8, 6, 6, 3, 0, 0, 0, 1, 0, 0];
+#[rustfmt::skip]
 const ARCHIVES: Weights = [3, 0, 0, 0, 2, 1, 0, 0, 0, 0, 0, 0, 1, 0, 0, 0, 1, 0, 0, 0, 0, 0, 1, 0, 0, 0, 5, 16, 1];
+
+pub const SCENARIOS: u64 = 13;
 
 /// One script of `seed`. The first scripts of a run go round the scenarios.
 pub fn script(seed: u64, number: u64) -> Script {
     let mut rng = Rng::new(seed.wrapping_mul(0x1000_0001).wrapping_add(number));
     let pool = Pool::new(&mut rng);
-    let scenario = number % 12;
+    let scenario = number % SCENARIOS;
     let (next_token, next_id) = opening(&mut rng, scenario);
     let mut maker = Maker {
         script: Script { next_token, next_id, calls: Vec::new(), tail: Vec::new() },
@@ -47,10 +51,11 @@ pub fn script(seed: u64, number: u64) -> Script {
         2 => (&FEES, 3),
         3 => (&CHAIN, 3),
         4 | 5 => (&EVERYTHING, 3),
-        6 | 7 => (&LIMITS, 0),
+        6 | 7 => (&LIMITS, 4),
         8 => (&DELIVERY, 0),
         9 => (&ARCHIVES, 0),
         10 => (&EVERYTHING, 60),
+        12 => (&DOORS, 60),
         _ => (&CHAIN, 0),
     };
     while maker.script.calls.len() < length {
@@ -94,7 +99,7 @@ fn opening(rng: &mut Rng, scenario: u64) -> (u64, u64) {
 fn begin(maker: &mut Maker, rng: &mut Rng, pool: &Pool, scenario: u64) {
     let fill = match scenario {
         4 | 5 | 11 => books::small_fill(rng),
-        6 => books::near_limits(rng),
+        6 | 12 => books::near_limits(rng),
         7 => return begin_full(maker, rng, pool),
         2 if rng.chance(50) => books::small_fill(rng),
         _ => return,

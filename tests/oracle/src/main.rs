@@ -1,5 +1,6 @@
 //! The Rust submission book as the judge of the port: see README.md.
 
+mod archives;
 mod checks;
 mod compare;
 mod cover;
@@ -27,6 +28,7 @@ oracle show < SCRIPT
 oracle archive-check < ARCHIVE
 oracle cover   [--seed S] [--scripts N]
 oracle compare --driver PATH [--driver-arg A]... [--seed S] [--scripts N] [--save FILE]
+oracle archives --driver PATH [--driver-arg A]... [--seed S] [--archives N]
 oracle replay  --driver PATH [--driver-arg A]... --from FOLDER
 oracle record  --out FOLDER [--seed S] [--scripts N] [--pool N] [--bytes N]
 oracle mutants [--only N] [--driver PATH] [--seed S] [--scripts N] [--show]
@@ -120,15 +122,19 @@ fn main() -> ExitCode {
             let scripts = options.number("--scripts", 6000);
             compare::compare(&options.needed_driver(), seed, scripts, save.as_deref())
         }
+        "archives" => {
+            let count = options.number("--archives", 10) as usize;
+            archives::run(&options.needed_driver(), seed, count)
+        }
         "replay" => compare::compare_files(&options.needed_driver(), &options.path("--from")),
         "record" => {
-            record::record(
-                seed,
-                options.number("--scripts", 40) as usize,
-                options.number("--pool", 3000),
-                options.number("--bytes", 190_000) as usize,
-                &options.path("--out"),
-            );
+            let bounds = record::Bounds {
+                scripts: options.number("--scripts", 36) as usize,
+                script_bytes: options.number("--bytes", 125_000) as usize,
+                call_bytes: 14_000,
+                pool: options.number("--pool", 4000),
+            };
+            record::record(seed, &bounds, &options.path("--out"));
             true
         }
         "mutants" => mutants::run(

@@ -236,7 +236,7 @@ fn largest_archive() {
 /// accepted change of one byte is written back as it was read.
 fn truncated_archives() {
     for number in 0..16 {
-        let script = generate::script(99, number * 12 + 4);
+        let script = generate::script(99, number * generate::SCENARIOS + 4);
         let Some(Call::ReadArchive { bytes }) = script.calls.first() else {
             panic!("the scenario starts with an archive");
         };
