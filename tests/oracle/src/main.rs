@@ -9,6 +9,7 @@ mod generate;
 mod labels;
 mod mutants;
 mod record;
+mod restorable;
 mod rng;
 mod selftest;
 mod show;
@@ -32,6 +33,7 @@ oracle archives --driver PATH [--driver-arg A]... [--seed S] [--archives N]
 oracle replay  --driver PATH [--driver-arg A]... --from FOLDER
 oracle record  --out FOLDER [--seed S] [--scripts N] [--pool N] [--bytes N]
 oracle mutants [--only N] [--driver PATH] [--seed S] [--scripts N] [--show]
+oracle restorable [--seed S] [--scripts N]
 oracle selftest";
 
 struct Options {
@@ -144,6 +146,10 @@ fn main() -> ExitCode {
             options.number("--scripts", 3000),
             options.flag("--show"),
         ),
+        "restorable" => {
+            restorable::run(seed, options.number("--scripts", 2000));
+            true
+        }
         "selftest" => {
             selftest::run();
             true

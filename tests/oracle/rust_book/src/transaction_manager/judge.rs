@@ -7,7 +7,7 @@ use std::collections::HashSet;
 use crate::common::types::{CoinID, CoinString, Error, Hash, SpendBundle, JOIN_FAILED};
 use crate::model::{self, Book};
 
-use super::submission::SubmissionBook;
+use super::submission::{access, SubmissionBook};
 use super::{plain, DrainedSubmission, FeeSourceDisposition, SubmissionDrainFailure};
 use super::{SubmissionAttemptRelationship, SubmissionAttemptStatus};
 use super::{SubmissionDrainFailureStage, SubmissionFeeSource};
@@ -252,6 +252,11 @@ impl Judge {
     pub fn attempt(&self, token: u64) -> Option<model::Attempt> {
         self.0.attempt(token).map(plain::attempt)
     }
+}
+
+/// Why the Rust would not restore the book, or none. No call depends on it.
+pub fn restore_error(book: &Book) -> Option<String> {
+    access::restore_error(&plain::to_book(book))
 }
 
 /// The fingerprint of a bundle as a broadcast variant.

@@ -33,3 +33,8 @@ pub(in crate::transaction_manager) fn take_apart(book: SubmissionBook) -> Parts 
         next_id: book.next_submission_id,
     }
 }
+
+/// What the upstream restore has against the book; that wrapper is not ported.
+pub(in crate::transaction_manager) fn restore_error(book: &SubmissionBook) -> Option<String> {
+    book.validate_restored_state().err()
+}
