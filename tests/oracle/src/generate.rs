@@ -111,6 +111,9 @@ fn begin(maker: &mut Maker, rng: &mut Rng, pool: &Pool, scenario: u64) {
         _ => books::book(rng, pool, fill),
     };
     maker.add(calls::read_book(&book));
+    if scenario == 6 && rng.chance(50) {
+        maker.add(Call::Drain);
+    }
     let full = book.queue.len() == MOST_QUEUED && book.retained.len() == MOST_RETAINED;
     if full && rng.chance(50) {
         let buffer = *rng.pick(&[LONGEST_BYTES, archive::write(&book).len() as u32]);

@@ -1,13 +1,21 @@
-//! The mutants: one changed operator or branch of the upstream text each.
+//! The mutants: one changed operator or branch each, of the upstream text or of what stands around
+//! it in this crate.
 
 pub struct Mutant {
     pub number: usize,
-    /// The upstream file, below `src`.
+    /// The upstream file, below `src`; or one of ours, from `rust_book` on.
     pub file: &'static str,
     /// Text that occurs exactly once in that file, and what is put in its place.
     pub find: &'static str,
     pub put: &'static str,
     pub note: &'static str,
+}
+
+impl Mutant {
+    /// Whether it changes our own text, which the build takes as it stands.
+    pub fn of_ours(&self) -> bool {
+        self.file.starts_with("rust_book/")
+    }
 }
 
 pub const MUTANTS: &[Mutant] = &[
@@ -255,5 +263,194 @@ pub const MUTANTS: &[Mutant] = &[
         find: "self.replay_epoch.retain(|id| !removed_ids.contains(&id));",
         put: "",
         note: "a removal leaves replayed ids",
+    },
+    Mutant {
+        number: 36,
+        file: "rust_book/src/model.rs",
+        find: "pub const MOST_RETAINED: usize = 16;",
+        put: "pub const MOST_RETAINED: usize = 17;",
+        note: "17 retained",
+    },
+    Mutant {
+        number: 37,
+        file: "rust_book/src/model.rs",
+        find: "pub const MOST_QUEUED: usize = 16;",
+        put: "pub const MOST_QUEUED: usize = 17;",
+        note: "17 queued",
+    },
+    Mutant {
+        number: 38,
+        file: "rust_book/src/model.rs",
+        find: "pub const MOST_RETIREMENTS: usize = 64;",
+        put: "pub const MOST_RETIREMENTS: usize = 63;",
+        note: "63 retirements",
+    },
+    Mutant {
+        number: 39,
+        file: "rust_book/src/model.rs",
+        find: "pub const MOST_COINS: usize = 800;",
+        put: "pub const MOST_COINS: usize = 801;",
+        note: "801 coins",
+    },
+    Mutant {
+        number: 40,
+        file: "rust_book/src/model.rs",
+        find: "pub const MOST_IDS: usize = 64;",
+        put: "pub const MOST_IDS: usize = 63;",
+        note: "63 ids",
+    },
+    Mutant {
+        number: 41,
+        file: "rust_book/src/rules.rs",
+        find: "        if judge.into_book().over_full() {\n            return Err(10);\n        }\n        result?;",
+        put: "        drop(judge);\n        drop(result);",
+        note: "10 by the end of a drain alone",
+    },
+    Mutant {
+        number: 42,
+        file: "rust_book/src/rules.rs",
+        find: "    if after.over_full() {\n        return Err(10);\n    }\n    Ok((after, result?))",
+        put: "    let result = result?;\n    if after.over_full() {\n        return Err(10);\n    }\n    Ok((after, result))",
+        note: "11 before 10 within the last candidate",
+    },
+    Mutant {
+        number: 43,
+        file: "rust_book/src/rules.rs",
+        find: "            *book = drained_until_spent(book);\n",
+        put: "",
+        note: "11 leaves the book",
+    },
+    Mutant {
+        number: 44,
+        file: "rust_book/src/rules.rs",
+        find: "bytes.len() <= room",
+        put: "bytes.len() < room",
+        note: "12 in a buffer of the exact length",
+    },
+    Mutant {
+        number: 45,
+        file: "rust_book/src/door.rs",
+        find: "    kept(all_zero(&coin[length..]), 3, \"unused coin byte\")?;\n",
+        put: "",
+        note: "unused coin bytes pass",
+    },
+    Mutant {
+        number: 46,
+        file: "rust_book/src/door.rs",
+        find: "    kept(all_zero(unused), 3, \"unused spend\")?;\n",
+        put: "    let _ = unused;\n",
+        note: "unused spends pass",
+    },
+    Mutant {
+        number: 47,
+        file: "rust_book/src/door.rs",
+        find: "    kept(all_zero(unused), 3, \"unused output\")?;\n",
+        put: "    let _ = unused;\n",
+        note: "unused outputs pass",
+    },
+    Mutant {
+        number: 48,
+        file: "rust_book/src/door.rs",
+        find: "    kept(mark == 1 || outputs_count == 0, 3, \"output count of an unreadable run\")?;\n",
+        put: "",
+        note: "an unreadable run may count outputs",
+    },
+    Mutant {
+        number: 49,
+        file: "rust_book/src/door.rs",
+        find: "    kept(all_zero(&cells[33..]), 3, \"unused fee amount\")?;\n",
+        put: "",
+        note: "an unused fee amount passes",
+    },
+    Mutant {
+        number: 50,
+        file: "rust_book/src/door.rs",
+        find: "    kept(all_zero(cells), 3, \"joined bundle not zero\")?;\n",
+        put: "",
+        note: "an unused joined bundle passes",
+    },
+    Mutant {
+        number: 51,
+        file: "rust_book/src/door.rs",
+        find: "    kept(cell.mark == 1 || cell.value == 0, 3, \"absent number not zero\")?;\n",
+        put: "",
+        note: "an absent number passes",
+    },
+    Mutant {
+        number: 52,
+        file: "rust_book/src/door.rs",
+        find: "    kept(rest.is_empty(), 2, \"bytes behind the coins\")?;\n",
+        put: "",
+        note: "bytes behind the coins pass",
+    },
+    Mutant {
+        number: 53,
+        file: "rust_book/src/door.rs",
+        find: "            let trigger = kind(*trigger, 3, \"trigger\")?;\n            let ids = ids(list)?.to_vec();",
+        put: "            let ids = ids(list)?.to_vec();\n            let trigger = kind(*trigger, 3, \"trigger\")?;",
+        note: "2 before the 3 of a trigger",
+    },
+    Mutant {
+        number: 54,
+        file: "rust_book/src/archive.rs",
+        find: "book.replayed.last().is_none_or(|last| *last < id)",
+        put: "book.replayed.last().is_none_or(|last| *last <= id)",
+        note: "replayed ids may repeat",
+    },
+    Mutant {
+        number: 55,
+        file: "rust_book/src/archive.rs",
+        find: "token < book.next_token && book",
+        put: "token <= book.next_token && book",
+        note: "a slot may hold the next token",
+    },
+    Mutant {
+        number: 56,
+        file: "rust_book/src/archive.rs",
+        find: "free(token) && live_token != Some(token)",
+        put: "free(token) || live_token == Some(token)",
+        note: "one token in both slots",
+    },
+    Mutant {
+        number: 57,
+        file: "rust_book/src/archive.rs",
+        find: "            0 if base => return Err(self.breaks(start, \"run kind of a base bundle\")),\n",
+        put: "",
+        note: "an unreadable base bundle is read",
+    },
+    Mutant {
+        number: 58,
+        file: "rust_book/src/archive.rs",
+        find: "self.number_if(\"retirement\", |id| !book.retirements.contains(&id))?",
+        put: "self.number_if(\"retirement\", |_| true)?",
+        note: "a retirement may repeat",
+    },
+    Mutant {
+        number: 59,
+        file: "rust_book/src/archive.rs",
+        find: "            Err(self.breaks(start, item))\n        }\n    }\n\n    /// A count or a kind",
+        put: "            Err(self.breaks(self.at, item))\n        }\n    }\n\n    /// A count or a kind",
+        note: "a broken number is placed behind it",
+    },
+    Mutant {
+        number: 60,
+        file: "rust_book/src/archive.rs",
+        find: "    if reader.at < bytes.len() {",
+        put: "    if reader.at + 1 < bytes.len() {",
+        note: "one byte left over passes",
+    },
+    Mutant {
+        number: 61,
+        file: "rust_book/src/common/types/clvm.rs",
+        find: "bytes[first] >= 0x80",
+        put: "bytes[first] > 0x80",
+        note: "the atom of 128 has one byte",
+    },
+    Mutant {
+        number: 62,
+        file: "rust_book/src/bencodex.rs",
+        find: "        archive::write_fee_intent(out, &plain::fee_intent(self.2));\n",
+        put: "",
+        note: "fee intent left out of the intent fingerprint",
     },
 ];

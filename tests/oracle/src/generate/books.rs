@@ -140,13 +140,24 @@ pub fn crowded(rng: &mut Rng, pool: &Pool) -> Book {
     };
     let mut book = book(rng, pool, fill);
     book.next_id = 500;
-    for number in 0..1 + rng.below(6) {
+    if rng.chance(40) {
+        book.next_token = book.next_token.max(u64::MAX - rng.below(2) as u64);
+    }
+    // New intents, and entries that do not fit the submission that they name.
+    let names: &[bool] = match rng.below(4) {
+        0 => &[false],
+        1 => &[false, true],
+        2 => &[true, false, false],
+        _ => &[true, false, true, false, false, true],
+    };
+    for (number, named) in names.iter().enumerate() {
         let mut entry = pool.intent(rng);
         entry.bundle = pool.readable_bundle(rng);
         entry.expiry = Some(3000 + number as u64);
-        entry.id = rng.chance(50).then(|| rng.pick(&book.retained).id);
+        entry.id = named.then(|| rng.pick(&book.retained).id);
         book.queue.push(entry);
     }
+    assert_eq!(sound::broken_rule(&book), None);
     book
 }
 

@@ -250,15 +250,21 @@ pub fn damage_archive(rng: &mut Rng, bytes: &mut Vec<u8>) {
     }
 }
 
+/// Items with a rule that looks at other items.
+const RULED: [&str; 5] = ["retained id", "attempt token", "retirement", "replayed id", "run kind"];
+
 fn damage_item(rng: &mut Rng, bytes: &mut Vec<u8>) {
     let items = archive::items(bytes);
     let mut names: Vec<&str> = items.iter().map(|(_, name)| *name).collect();
     names.sort_unstable();
     names.dedup();
-    let name = *rng.pick(&names);
+    let ruled: Vec<&str> = names.iter().copied().filter(|name| RULED.contains(name)).collect();
+    let any = ruled.is_empty() || rng.chance(70);
+    let name = *rng.pick(if any { &names } else { &ruled });
     let same: Vec<usize> = (0..items.len()).filter(|index| items[*index].1 == name).collect();
     // The first of several can't repeat another.
-    let index = *rng.pick(if same.len() > 1 { &same[1..] } else { &same });
+    let which = if same.len() > 1 { 1 + rng.below(same.len() - 1) } else { 0 };
+    let index = same[which];
     let start = items[index].0;
     let end = items.get(index + 1).map_or(bytes.len(), |(place, _)| *place);
     if rng.chance(40) {
@@ -268,8 +274,8 @@ fn damage_item(rng: &mut Rng, bytes: &mut Vec<u8>) {
             0 => bytes[1..9].to_vec(),
             1 => vec![255; 8],
             _ => {
-                let first = items[same[0]].0;
-                bytes[first..first + 8].to_vec()
+                let earlier = items[same[which.saturating_sub(1)]].0;
+                bytes[earlier..earlier + 8].to_vec()
             }
         };
         bytes[start..end].copy_from_slice(&number);
