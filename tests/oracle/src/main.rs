@@ -132,7 +132,7 @@ fn main() -> ExitCode {
         "record" => {
             let bounds = record::Bounds {
                 scripts: options.number("--scripts", 36) as usize,
-                script_bytes: options.number("--bytes", 125_000) as usize,
+                script_bytes: options.number("--bytes", 95_000) as usize,
                 call_bytes: 14_000,
                 pool: options.number("--pool", 4000),
             };
