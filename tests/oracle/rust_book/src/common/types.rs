@@ -1,4 +1,4 @@
-//! Upstream types, cut unchanged, over the stand-ins of [`stand_ins`].
+//! Upstream types, cut unchanged, over stand-ins: `clvm`, `hash`, `puzzles` and `num_bigint`.
 
 pub mod clvm;
 pub mod hash;
