@@ -1,0 +1,3 @@
+//! Where the upstream text looks for its fee types.
+
+pub mod effects;
