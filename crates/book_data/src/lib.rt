@@ -2,6 +2,9 @@
 // An optional part is a mark with its cell beside it, and a cell that a mark or a count leaves unused is zero;
 // an optional number is an enum.
 
+mod kinds;
+pub mod zero;
+
 // An attempt token, a submission id and a height are types of their own, so that none is taken for another.
 pub struct Token(pub u64);
 

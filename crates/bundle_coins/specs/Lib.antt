@@ -1,1 +1,3 @@
 pub mod Coins
+pub mod Found
+pub mod Laws

@@ -7,11 +7,12 @@ use mathlib.Core.Bool.{true, false}
 use mathlib.Core.List.{List, [], _∷_, map}
 use mathlib.Core.Option.{none, some}
 use mathlib.Core.Path.{_≡_, refl}
+use Rattle.lists.specs.Lists.{allb}
 use Rattle.book_data.specs.declared.OptionalHeight.the-variants.{NoHeight, At}
 use Rattle.book_data.specs.declared.OptionalId.the-variants.{NoId}
 use Rattle.book_data.specs.declared.SubmissionChainTerminality.the-variants.{Active, InputSpent, Landed}
 use Rattle.book_data.specs.Model.{Book}
-use Rattle.book_data.specs.Sound.{idOf}
+use Rattle.book_data.specs.Sound.{idOf, soundLists}
 use Rattle.book_data.specs.Zero.{zeroBundle, zeroFeeIntent}
 use Rattle.rules.specs.Call.{NoSource, Joined, Call, NoRetainedState, FeeIntentDiffers, IdsExhausted, Applied, Stale, Value, noValue, failures, finalized, feeIntentIs, statusIs, idsAre, flag, heightIs, attemptIs, written}
 use Rattle.rules.specs.Calls.{rules}
@@ -200,3 +201,8 @@ table =
 pub specimens : map played table ≡ map claimed table
 unfolding play opened height holding seventh feeOpen feeOf3 drainedSlot joinedEmpty zeroBundle spending entryOf liveSlot noFee delivery byId drained failed fifteen damaged seventhId noCoins zeroFeeIntent Fips.K Fips.H0 Fips.pad Fips.schedule Fips.round Fips.rounds Fips.plus Fips.hashed
 specimens = refl
+
+-- every one of them starts from a sound book
+pub starts : allb (λ s. soundLists (s .start)) table ≡ true
+unfolding soundLists opened holding seventh feeOpen feeOf3 drainedSlot zeroBundle spending entryOf liveSlot noFee fifteen zeroFeeIntent
+starts = refl

@@ -1,0 +1,9 @@
+use borrow.Author.Needs.{needs}
+use Rattle.book_sound.proofs.cells.rising16.Statement.{statement}
+use Rattle.book_sound.proofs.cells.rising16.Tie as tie
+
+returns : tie.Need-returns
+returns c = cc
+
+pub rising16-spec : {M : Type 1} → statement M
+rising16-spec = tie.close (tie.spec (λ c. search needs) (λ c κs. search needs) (λ c κs. search needs) returns)

@@ -1,0 +1,19 @@
+use Rattle.book_data.specs.Sound.{soundEntry}
+use borrow.Author.Needs.{needs}
+use Rattle.book_sound.proofs.is_sound_entry.Statement.{statement}
+use Rattle.book_sound.proofs.is_sound_entry.Tie as tie
+
+returns : tie.Need-returns
+unfolding soundEntry
+returns c = cc
+
+pub is-sound-entry-spec : {M : Type 1} → statement M
+is-sound-entry-spec =
+    tie.close
+    (tie.spec
+    (λ c κs. search needs)
+    (λ c κs. search needs)
+    (λ c κs. search needs)
+    (λ c κs. search needs)
+    (λ c κs. search needs)
+    returns)

@@ -1,0 +1,11 @@
+use Rattle.book_data.specs.Sound.{soundSlots}
+use borrow.Author.Needs.{needs}
+use Rattle.book_sound.proofs.is_sound_slots.Statement.{statement}
+use Rattle.book_sound.proofs.is_sound_slots.Tie as tie
+
+returns : tie.Need-returns
+unfolding soundSlots
+returns c = cc
+
+pub is-sound-slots-spec : {M : Type 1} → statement M
+is-sound-slots-spec = tie.close (tie.spec (λ c κs. search needs) (λ c κs. search needs) returns)

@@ -1,0 +1,16 @@
+use native.Mathlib.Nat.{min-le-right, sub-zero}
+use Rattle.lists.specs.Laws.{take-min}
+use borrow.Author.Needs.{needs}
+use mathlib.Core.Path.{refl}
+use lib.ListN.{length}
+use Rattle.book_sound.proofs.numbers.first.Statement.{statement}
+use Rattle.book_sound.proofs.numbers.first.Tie as tie
+
+part-result-end : tie.Need-part-result-end
+part-result-end c = rw (c .at-most .ensures) (min-le-right (c .before .before .args .n) (length (c .before .before .args .s .now)))
+
+returns : tie.Need-returns
+returns c = rw (sub-zero, c .before .at-most .ensures) (take-min (length (c .before .before .before .args .s .now)) (c .before .before .before .args .n) (c .before .before .before .args .s .now) refl)
+
+pub first-spec : {M : Type 1} → statement M
+first-spec = tie.close (tie.spec (λ c κs. search needs) (λ c. search needs) (λ c. search needs) part-result-end returns)

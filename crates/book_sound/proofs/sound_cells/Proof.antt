@@ -1,0 +1,18 @@
+use Rattle.book_data.specs.Sound.{soundCells}
+use borrow.Author.Needs.{needs}
+use Rattle.book_sound.proofs.sound_cells.Statement.{statement}
+use Rattle.book_sound.proofs.sound_cells.Tie as tie
+
+returns : tie.Need-returns
+unfolding soundCells
+returns c = cc
+
+pub sound-cells-spec : {M : Type 1} → statement M
+sound-cells-spec =
+    tie.close
+    (tie.spec
+    (λ c κs. search needs)
+    (λ c κs. search needs)
+    (λ c κs. search needs)
+    (λ c κs. search needs)
+    returns)
