@@ -1,3 +1,4 @@
 pub mod ListLaws
 pub mod Sound
 pub mod StepRule
+pub mod Tokens

@@ -1,4 +1,4 @@
--- Every rule tree, so every call, leaves a sound book: `soundLists` holds and no list is over its limit.
+-- Every rule tree, so every call, leaves a sound book: its lists are sound and within their limits.
 use Prim.Native.Nat.{ℕ, _≤_}
 use mathlib.Core.Bool.{Bool, true, false, cond, not, _&&_, _||_}
 use mathlib.Core.List.{List, [], _∷_}
@@ -10,9 +10,11 @@ use borrow.Author.Tests.{ltb-false}
 use Rattle.lists.specs.Laws.{filter-length}
 use Rattle.book_data.specs.declared.AttemptSlots.{AttemptSlots}
 use Rattle.book_data.specs.declared.SubmittedTx.{SubmittedTx}
+use Rattle.book_data.specs.declared.BookData.{BookData}
 use Rattle.book_data.specs.declared.SubmissionDeliveryGoal.{SubmissionDeliveryGoal}
-use Rattle.book_data.specs.Model.{Book}
-use Rattle.book_data.specs.Sound.{idOf, soundLists}
+use Rattle.book_data.specs.Model.{Book, view, back}
+use Rattle.book_data.specs.Sound.{idOf, soundLists, soundb}
+use Rattle.book_data.specs.SoundLaws.{SoundLists, sound-lists, lists-sound, Fits, sound, fits-view, sound-back}
 use Rattle.rules.specs.Books.{callBook, bookAfter}
 use Rattle.rules.specs.Call.{Call}
 use Rattle.rules.specs.Calls.{rules}
@@ -25,15 +27,12 @@ use Rattle.rules.specs.Steps.Entry.{revised}
 use Rattle.rules.specs.Steps.Notes.{isId, unqueued, noted, forgotten, replayedWith}
 use Rattle.rules.specs.Steps.Slots.{issueAttempt, slotsIssued, slotsAside, slotsFinal}
 use Rattle.rule_laws.specs.ListLaws.{or-false}
-use Rattle.rule_laws.specs.Sound.Facts.{SoundFacts, facts, from-facts, Short, replayed-short}
+use Rattle.rule_laws.specs.Sound.Facts.{Short, replayed-short, short-of}
 use Rattle.rule_laws.specs.Sound.Steps.{sound-step}
 
 pub record SoundBook (b : Book) : Type 0 where
   pub lists : soundLists b ≡ true
-  pub submitted : length (b .submitted) ≤ 16
-  pub pending : length (b .pending) ≤ 16
-  pub retired : length (b .retired) ≤ 64
-  pub replayed : length (b .replayed) ≤ 16
+  pub fits : Fits b
 
 -- ---- lengths
 pub not-full : (b : Book) → full b ≡ false → Short b
@@ -106,16 +105,16 @@ short-step (replay i) b s e = short-replay i b s
 
 -- ---- trees
 abbrev Kept : {A : Type 0} → Outcome Book A → Type 0
-Kept (ended b xs a) = SoundFacts b × Short b
+Kept (ended b xs a) = SoundLists b × Short b
 Kept (undone n) = Unit {0}
-Kept (stopped b xs n) = SoundFacts b × Short b
+Kept (stopped b xs n) = SoundLists b × Short b
 
 kept-logged : {A : Type 0} (xs : List DrainedSubmission) (k : Outcome Book A) → Kept k → Kept (logged xs k)
 kept-logged xs (ended b ys a) h = h
 kept-logged xs (undone n) h = h
 kept-logged xs (stopped b ys n) h = h
 
-kept-run : {A : Type 0} (r : Rule A) (b : Book) → SoundFacts b → Short b → Kept (runBook r b)
+kept-run : {A : Type 0} (r : Rule A) (b : Book) → SoundLists b → Short b → Kept (runBook r b)
 unfolding run
 kept-run (done a) b s k = (s, k)
 kept-run (undo n) b s k = tt
@@ -129,12 +128,15 @@ kept-run (act p r) b s k = go (grows p && full (onBook p b .after)) refl (λ e. 
     go false e ih = kept-logged (onBook p b .out) (runBook r (onBook p b .after)) (ih e)
 kept-run (turn r) b s k = kept-run r b s k
 
-sound-of : (b : Book) → SoundFacts b → Short b → SoundBook b
-sound-of b s k = record { lists = from-facts b s; submitted = k .submitted; pending = k .pending; retired = k .retired; replayed = replayed-short b s k }
+sound-of : (b : Book) → SoundLists b → Short b → SoundBook b
+sound-of b s k = record {
+  lists = lists-sound b s;
+  fits = record { submitted = k .submitted; pending = k .pending; retired = k .retired; replayed = replayed-short b s k };
+}
 
 -- the book that any rules leave
 pub sound-left : {A : Type 0} (r : Rule A) (b : Book) → SoundBook b → SoundBook (left b (runBook r b))
-sound-left {A} r b h = go (runBook r b) (kept-run r b (facts b (h .lists)) (record { submitted = h .submitted; pending = h .pending; retired = h .retired }))
+sound-left {A} r b h = go (runBook r b) (kept-run r b (sound-lists b (h .lists)) (short-of b (h .fits)))
   where
     go : (k : Outcome Book A) → Kept k → SoundBook (left b k)
     go (ended c xs a) s = sound-of c (s .0) (s .1)
@@ -146,9 +148,16 @@ pub sound-call : (encode : Book → List ℕ) (c : Call) (b : Book) → SoundBoo
 unfolding callBook
 sound-call encode c b h = sound-left (rules encode c) b h
 
+-- the same of the book as data
+pub sound-call-data : (encode : Book → List ℕ) (c : Call) (b : BookData) → soundb b ≡ true → soundb (back (callBook encode c (view b))) ≡ true
+sound-call-data encode c b h =
+    let s = sound b h in
+    let k = sound-call encode c (view b) (record { lists = lists-sound (view b) (s .lists); fits = fits-view b s }) in
+    sound-back (callBook encode c (view b)) (k .fits) (k .lists)
+
 pub sound-opened : (o n : ℕ) → SoundBook (opened o n)
 unfolding opened soundLists
-sound-opened o n = record { lists = refl; submitted = omega arith; pending = omega arith; retired = omega arith; replayed = omega arith }
+sound-opened o n = record { lists = refl; fits = record { submitted = omega arith; pending = omega arith; retired = omega arith; replayed = omega arith } }
 
 -- so does every list of calls, from a sound book and from one just opened
 pub sound-after : (encode : Book → List ℕ) (cs : List Call) (b : Book) → SoundBook b → SoundBook (bookAfter encode cs b)

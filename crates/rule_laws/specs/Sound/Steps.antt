@@ -15,6 +15,7 @@ use Rattle.book_data.specs.declared.PendingSubmissionIntent.{PendingSubmissionI
 use Rattle.book_data.specs.declared.SubmissionDeliveryGoal.{SubmissionDeliveryGoal}
 use Rattle.book_data.specs.Model.{Book}
 use Rattle.book_data.specs.Sound.{readableBundle, soundSlots, soundSubmitted, soundIntent, soundDelivery, idOf, slotTokens, tokensOf, risingb}
+use Rattle.book_data.specs.SoundLaws.{SoundLists}
 use Rattle.book_data.specs.Zero.{noSlots}
 use Rattle.rules.specs.Keyed.{pick, change, without, map-change}
 use Rattle.rules.specs.Parts.{currentFingerprint}
@@ -24,122 +25,121 @@ use Rattle.rules.specs.Steps.Entry.{revised, newEntry}
 use Rattle.rules.specs.Steps.Notes.{isId, unqueued, unreplayed, noted, forgotten, replayedWith}
 use Rattle.rules.specs.Steps.Slots.{issueAttempt, slotsIssued, slotsAside, slotsFinal}
 use Rattle.rule_laws.specs.ListLaws.{or-false, all-snoc, all-change, all-weaken, elem-append, all-elem-without, change-flat-sub, flat-append, Adds, put, adds-after, distinct-adds, all-adds, below-elem, rising-sub, rising-insert, all-insert}
-use Rattle.rule_laws.specs.Sound.Facts.{SoundFacts}
-use Rattle.rule_laws.specs.Sound.Parts.{tokens-no-slots, sound-aside, sound-final, sound-issued, tokens-aside, tokens-final, tokens-issued, sound-slots, sound-entry, revised-id, sound-new}
+use Rattle.rule_laws.specs.Sound.Parts.{sound-entry, tokens-no-slots, sound-aside, sound-final, sound-issued, tokens-aside, tokens-final, tokens-issued, sound-slots, revised-id, sound-new}
 
 snoc-new : (xs : List ℕ) (x : ℕ) → distinctb xs ≡ true → elemb x xs ≡ false → distinctb (xs ++ (x ∷ [])) ≡ true
 snoc-new xs x h n = rw n at (pushNew-distinct xs x h)
 
 -- ---- notes
-sound-note : (n : Note) (b : Book) → SoundFacts b → SoundFacts (noteBook n b)
+sound-note : (n : Note) (b : Book) → SoundLists b → SoundLists (noteBook n b)
 unfolding noteBook noted unqueued unreplayed
 sound-note (enqueue d) b s = record {
-  submissions = s .submissions;
+  submitted = s .submitted;
   ids = s .ids;
   tokens = s .tokens;
   below = s .below;
-  retirements = s .retirements;
-  replays = s .replays;
-  known = s .known;
-  deliveries = go (soundDelivery d) refl;
+  retired = s .retired;
+  rising = s .rising;
+  replayed = s .replayed;
+  pending = go (soundDelivery d) refl;
 }
   where
     go : (t : Bool) → soundDelivery d ≡ t → allb soundDelivery (cond t (b .pending ++ d ∷ []) (b .pending)) ≡ true
-    go true q = all-snoc soundDelivery (b .pending) d (s .deliveries) q
-    go false q = s .deliveries
+    go true q = all-snoc soundDelivery (b .pending) d (s .pending) q
+    go false q = s .pending
 sound-note (unqueue i) b s = record {
-  submissions = s .submissions;
+  submitted = s .submitted;
   ids = s .ids;
   tokens = s .tokens;
   below = s .below;
-  retirements = s .retirements;
-  replays = s .replays;
-  known = s .known;
-  deliveries = all-sub soundDelivery (filter-sub (λ d. not (isId i (d .intent .id))) (b .pending)) (s .deliveries);
+  retired = s .retired;
+  rising = s .rising;
+  replayed = s .replayed;
+  pending = all-sub soundDelivery (filter-sub (λ d. not (isId i (d .intent .id))) (b .pending)) (s .pending);
 }
 sound-note (retire i) b s = record {
-  submissions = s .submissions;
+  submitted = s .submitted;
   ids = s .ids;
   tokens = s .tokens;
   below = s .below;
-  deliveries = s .deliveries;
-  replays = s .replays;
-  known = s .known;
-  retirements = pushNew-distinct (b .retired) i (s .retirements);
+  pending = s .pending;
+  rising = s .rising;
+  replayed = s .replayed;
+  retired = pushNew-distinct (b .retired) i (s .retired);
 }
 sound-note (unreplay i) b s = record {
-  submissions = s .submissions;
+  submitted = s .submitted;
   ids = s .ids;
   tokens = s .tokens;
   below = s .below;
-  deliveries = s .deliveries;
-  retirements = s .retirements;
-  replays = rising-sub (filter-sub (λ j. not (eqb j i)) (b .replayed)) (s .replays);
-  known = all-sub (λ j. elemb j (map idOf (b .submitted))) (filter-sub (λ j. not (eqb j i)) (b .replayed)) (s .known);
+  pending = s .pending;
+  retired = s .retired;
+  rising = rising-sub (filter-sub (λ j. not (eqb j i)) (b .replayed)) (s .rising);
+  replayed = all-sub (λ j. elemb j (map idOf (b .submitted))) (filter-sub (λ j. not (eqb j i)) (b .replayed)) (s .replayed);
 }
 sound-note unqueueAll b s = record {
-  submissions = s .submissions;
+  submitted = s .submitted;
   ids = s .ids;
   tokens = s .tokens;
   below = s .below;
-  retirements = s .retirements;
-  replays = s .replays;
-  known = s .known;
-  deliveries = refl;
+  retired = s .retired;
+  rising = s .rising;
+  replayed = s .replayed;
+  pending = refl;
 }
 sound-note unretireAll b s = record {
-  submissions = s .submissions;
+  submitted = s .submitted;
   ids = s .ids;
   tokens = s .tokens;
   below = s .below;
-  deliveries = s .deliveries;
-  replays = s .replays;
-  known = s .known;
-  retirements = refl;
+  pending = s .pending;
+  rising = s .rising;
+  replayed = s .replayed;
+  retired = refl;
 }
 sound-note (beginEpoch h) b s = record {
-  submissions = s .submissions;
+  submitted = s .submitted;
   ids = s .ids;
   tokens = s .tokens;
   below = s .below;
-  deliveries = s .deliveries;
-  retirements = s .retirements;
-  replays = refl;
-  known = refl;
+  pending = s .pending;
+  retired = s .retired;
+  rising = refl;
+  replayed = refl;
 }
 sound-note endEpoch b s = record {
-  submissions = s .submissions;
+  submitted = s .submitted;
   ids = s .ids;
   tokens = s .tokens;
   below = s .below;
-  deliveries = s .deliveries;
-  retirements = s .retirements;
-  replays = refl;
-  known = refl;
+  pending = s .pending;
+  retired = s .retired;
+  rising = refl;
+  replayed = refl;
 }
 
-sound-replay : (i : ℕ) (b : Book) → SoundFacts b → SoundFacts (replayBook i b)
+sound-replay : (i : ℕ) (b : Book) → SoundLists b → SoundLists (replayBook i b)
 unfolding replayBook replayedWith
 sound-replay i b s = record {
-  submissions = s .submissions;
+  submitted = s .submitted;
   ids = s .ids;
   tokens = s .tokens;
   below = s .below;
-  deliveries = s .deliveries;
-  retirements = s .retirements;
-  replays = rises (elemb i (map idOf (b .submitted))) (elemb i (b .replayed)) refl;
-  known = knows (elemb i (map idOf (b .submitted))) refl (elemb i (b .replayed));
+  pending = s .pending;
+  retired = s .retired;
+  rising = rises (elemb i (map idOf (b .submitted))) (elemb i (b .replayed)) refl;
+  replayed = knows (elemb i (map idOf (b .submitted))) refl (elemb i (b .replayed));
 }
   where
     rises : (x y : Bool) → elemb i (b .replayed) ≡ y → risingb (cond (x && not y) (insertUp i (b .replayed)) (b .replayed)) ≡ true
-    rises false y q = s .replays
-    rises true true q = s .replays
-    rises true false q = rising-insert i (b .replayed) (s .replays) q
+    rises false y q = s .rising
+    rises true true q = s .rising
+    rises true false q = rising-insert i (b .replayed) (s .rising) q
 
     knows : (x : Bool) → elemb i (map idOf (b .submitted)) ≡ x → (y : Bool) → allb (λ j. elemb j (map idOf (b .submitted))) (cond (x && not y) (insertUp i (b .replayed)) (b .replayed)) ≡ true
-    knows false q y = s .known
-    knows true q true = s .known
-    knows true q false = all-insert (λ j. elemb j (map idOf (b .submitted))) i (b .replayed) q (s .known)
+    knows false q y = s .replayed
+    knows true q true = s .replayed
+    knows true q false = all-insert (λ j. elemb j (map idOf (b .submitted))) i (b .replayed) q (s .replayed)
 
 -- ---- changes of one submission
 tokens-entry : (r : Revision) (i : ℕ) (ts : List SubmittedTx) → flatMap tokensOf (change idOf i (withEntry (revised r)) ts) ≡ flatMap tokensOf ts
@@ -155,50 +155,50 @@ tokens-entry r i (t ∷ ts) = go (eqb (idOf t) i) (tokens-entry r i ts)
 ids-entry : (r : Revision) (i : ℕ) (ts : List SubmittedTx) → map idOf (change idOf i (withEntry (revised r)) ts) ≡ map idOf ts
 ids-entry r i ts = map-change idOf idOf (withEntry (revised r)) (λ t. ap (λ x. x .0) (revised-id r (t .entry))) i ts
 
-sound-revise : (i : ℕ) (r : Revision) (b : Book) → SoundFacts b → SoundFacts (reviseBook i r b)
+sound-revise : (i : ℕ) (r : Revision) (b : Book) → SoundLists b → SoundLists (reviseBook i r b)
 unfolding reviseBook
 sound-revise i r b s = record {
-  submissions = all-change soundSubmitted idOf i (withEntry (revised r)) (sound-entry r) (b .submitted) (s .submissions);
+  submitted = all-change soundSubmitted idOf i (withEntry (revised r)) (sound-entry r) (b .submitted) (s .submitted);
   ids = ap distinctb (ids-entry r i (b .submitted)) ∙ s .ids;
   tokens = ap distinctb (tokens-entry r i (b .submitted)) ∙ s .tokens;
   below = ap (allb (λ t. ltb t (b .nextToken .0))) (tokens-entry r i (b .submitted)) ∙ s .below;
-  deliveries = s .deliveries;
-  retirements = s .retirements;
-  replays = s .replays;
-  known = ap (λ (is : List ℕ). allb (λ j. elemb j is) (b .replayed)) (ids-entry r i (b .submitted)) ∙ s .known;
+  pending = s .pending;
+  retired = s .retired;
+  rising = s .rising;
+  replayed = ap (λ (is : List ℕ). allb (λ j. elemb j is) (b .replayed)) (ids-entry r i (b .submitted)) ∙ s .replayed;
 }
 
 ids-slots : (g : AttemptSlots → AttemptSlots) (i : ℕ) (ts : List SubmittedTx) → map idOf (change idOf i (withSlots g) ts) ≡ map idOf ts
 ids-slots g i ts = map-change idOf idOf (withSlots g) (λ t. refl) i ts
 
 sound-mark : (g : AttemptSlots → AttemptSlots) → ((s : AttemptSlots) → soundSlots s ≡ true → soundSlots (g s) ≡ true) → ((s : AttemptSlots) → Sub (slotTokens (g s)) (slotTokens s))
-    → (i : ℕ) (b : Book) → SoundFacts b → SoundFacts (markBook g i b)
+    → (i : ℕ) (b : Book) → SoundLists b → SoundLists (markBook g i b)
 unfolding markBook
 sound-mark g keeps fewer i b s = record {
-  submissions = all-change soundSubmitted idOf i (withSlots g) (sound-slots g keeps) (b .submitted) (s .submissions);
+  submitted = all-change soundSubmitted idOf i (withSlots g) (sound-slots g keeps) (b .submitted) (s .submitted);
   ids = ap distinctb (ids-slots g i (b .submitted)) ∙ s .ids;
   tokens = distinct-sub (change-flat-sub tokensOf idOf i (withSlots g) (λ t. fewer (t .slots)) (b .submitted)) (s .tokens);
   below = all-sub (λ t. ltb t (b .nextToken .0)) (change-flat-sub tokensOf idOf i (withSlots g) (λ t. fewer (t .slots)) (b .submitted)) (s .below);
-  deliveries = s .deliveries;
-  retirements = s .retirements;
-  replays = s .replays;
-  known = ap (λ (is : List ℕ). allb (λ j. elemb j is) (b .replayed)) (ids-slots g i (b .submitted)) ∙ s .known;
+  pending = s .pending;
+  retired = s .retired;
+  rising = s .rising;
+  replayed = ap (λ (is : List ℕ). allb (λ j. elemb j is) (b .replayed)) (ids-slots g i (b .submitted)) ∙ s .replayed;
 }
 
 -- ---- a new submission
-sound-retained : (p : PendingSubmissionIntent) (b : Book) → SoundFacts b → soundIntent p ≡ true → readableBundle (p .bundle) ≡ true
-    → elemb (b .nextId .0) (map idOf (b .submitted)) ≡ false → SoundFacts (retained p b)
+sound-retained : (p : PendingSubmissionIntent) (b : Book) → SoundLists b → soundIntent p ≡ true → readableBundle (p .bundle) ≡ true
+    → elemb (b .nextId .0) (map idOf (b .submitted)) ≡ false → SoundLists (retained p b)
 unfolding retained
 sound-retained p b s h r n = record {
-  submissions = all-snoc soundSubmitted (b .submitted) new (s .submissions) (sound-new (b .nextId) p h r);
+  submitted = all-snoc soundSubmitted (b .submitted) new (s .submitted) (sound-new (b .nextId) p h r);
   ids = ap distinctb ids-are ∙ snoc-new (map idOf (b .submitted)) (b .nextId .0) (s .ids) n;
   tokens = ap distinctb tokens-are ∙ s .tokens;
   below = ap (allb (λ t. ltb t (b .nextToken .0))) tokens-are ∙ s .below;
-  deliveries = s .deliveries;
-  retirements = s .retirements;
-  replays = s .replays;
-  known = ap (λ (is : List ℕ). allb (λ j. elemb j is) (b .replayed)) ids-are
-      ∙ all-weaken (λ j. elemb j (map idOf (b .submitted))) (λ j. elemb j (map idOf (b .submitted) ++ b .nextId .0 ∷ [])) (λ j k. elem-append j (map idOf (b .submitted)) (b .nextId .0 ∷ []) k) (b .replayed) (s .known);
+  pending = s .pending;
+  retired = s .retired;
+  rising = s .rising;
+  replayed = ap (λ (is : List ℕ). allb (λ j. elemb j is) (b .replayed)) ids-are
+      ∙ all-weaken (λ j. elemb j (map idOf (b .submitted))) (λ j. elemb j (map idOf (b .submitted) ++ b .nextId .0 ∷ [])) (λ j k. elem-append j (map idOf (b .submitted)) (b .nextId .0 ∷ []) k) (b .replayed) (s .replayed);
 }
   where
     new : SubmittedTx
@@ -214,28 +214,28 @@ sound-retained p b s h r n = record {
     tokens-are : flatMap tokensOf (b .submitted ++ new ∷ []) ≡ flatMap tokensOf (b .submitted)
     tokens-are = flat-append tokensOf (b .submitted) (new ∷ []) ∙ ap (λ (l : List ℕ). flatMap tokensOf (b .submitted) ++ (l ++ [])) tokens-no-slots ∙ append-nil (flatMap tokensOf (b .submitted))
 
-sound-retain : (p : PendingSubmissionIntent) (b : Book) → SoundFacts b → SoundFacts (retainBook p b)
+sound-retain : (p : PendingSubmissionIntent) (b : Book) → SoundLists b → SoundLists (retainBook p b)
 unfolding retainBook retainable
 sound-retain p b s = go (soundIntent p) refl (readableBundle (p .bundle)) refl (elemb (b .nextId .0) (map idOf (b .submitted))) refl
   where
-    go : (x : Bool) → soundIntent p ≡ x → (y : Bool) → readableBundle (p .bundle) ≡ y → (z : Bool) → elemb (b .nextId .0) (map idOf (b .submitted)) ≡ z → SoundFacts (cond (x && y && not z) (retained p b) b)
+    go : (x : Bool) → soundIntent p ≡ x → (y : Bool) → readableBundle (p .bundle) ≡ y → (z : Bool) → elemb (b .nextId .0) (map idOf (b .submitted)) ≡ z → SoundLists (cond (x && y && not z) (retained p b) b)
     go false h y r z n = s
     go true h false r z n = s
     go true h true r true n = s
     go true h true r false n = sound-retained p b s h r n
 
 -- ---- removal
-sound-remove : (i : ℕ) (b : Book) → SoundFacts b → SoundFacts (removeBook i b)
+sound-remove : (i : ℕ) (b : Book) → SoundLists b → SoundLists (removeBook i b)
 unfolding removeBook forgotten without unqueued unreplayed
 sound-remove i b s = record {
-  submissions = all-sub soundSubmitted less (s .submissions);
+  submitted = all-sub soundSubmitted less (s .submitted);
   ids = distinct-sub (map-sub idOf less) (s .ids);
   tokens = distinct-sub (flat-sub tokensOf less) (s .tokens);
   below = all-sub (λ t. ltb t (b .nextToken .0)) (flat-sub tokensOf less) (s .below);
-  deliveries = all-sub soundDelivery (filter-sub (λ d. not (isId i (d .intent .id))) (b .pending)) (s .deliveries);
-  retirements = s .retirements;
-  replays = rising-sub (filter-sub (λ j. not (eqb j i)) (b .replayed)) (s .replays);
-  known = all-elem-without idOf i (b .submitted) (b .replayed) (s .known);
+  pending = all-sub soundDelivery (filter-sub (λ d. not (isId i (d .intent .id))) (b .pending)) (s .pending);
+  retired = s .retired;
+  rising = rising-sub (filter-sub (λ j. not (eqb j i)) (b .replayed)) (s .rising);
+  replayed = all-elem-without idOf i (b .submitted) (b .replayed) (s .replayed);
 }
   where
     less : Sub (filterb (λ t. not (eqb (idOf t) i)) (b .submitted)) (b .submitted)
@@ -273,18 +273,18 @@ issued-adds i n g v (t ∷ ts) d h = go (eqb (idOf t) i) refl (λ d′ h′. iss
     go true q ih = here q
     go false q ih = adds-after (tokensOf t) (ih (u .1) (rw q at h))
 
-sound-issue : (i : ℕ) (g : SubmissionDeliveryGoal) (v : List ℕ) (b : Book) → elemb i (map idOf (b .submitted)) ≡ true → SoundFacts b → SoundFacts (issueBook i g v b)
+sound-issue : (i : ℕ) (g : SubmissionDeliveryGoal) (v : List ℕ) (b : Book) → elemb i (map idOf (b .submitted)) ≡ true → SoundLists b → SoundLists (issueBook i g v b)
 unfolding issueBook
 sound-issue i g v b h s = record {
-  submissions = all-change soundSubmitted idOf i (withSlots new) (sound-slots new (sound-issued n g v)) (b .submitted) (s .submissions);
+  submitted = all-change soundSubmitted idOf i (withSlots new) (sound-slots new (sound-issued n g v)) (b .submitted) (s .submitted);
   ids = ap distinctb (ids-slots new i (b .submitted)) ∙ s .ids;
   tokens = distinct-adds added (s .tokens) (below-elem n (flatMap tokensOf (b .submitted)) (s .below));
   below = all-adds (λ t. ltb t (suc n)) added (lt-ltb n (suc n) (omega arith))
       (all-weaken (λ t. ltb t n) (λ t. ltb t (suc n)) (λ t k. lt-ltb t (suc n) (let l = ltb-true t n k in omega arith)) (flatMap tokensOf (b .submitted)) (s .below));
-  deliveries = s .deliveries;
-  retirements = s .retirements;
-  replays = s .replays;
-  known = ap (λ (is : List ℕ). allb (λ j. elemb j is) (b .replayed)) (ids-slots new i (b .submitted)) ∙ s .known;
+  pending = s .pending;
+  retired = s .retired;
+  rising = s .rising;
+  replayed = ap (λ (is : List ℕ). allb (λ j. elemb j is) (b .replayed)) (ids-slots new i (b .submitted)) ∙ s .replayed;
 }
   where
     n : ℕ
@@ -305,15 +305,15 @@ picked-elem i (t ∷ ts) {u} {us} e = go (eqb (idOf t) i) e (λ k. picked-elem i
     go true k ih = refl
     go false k ih = ih k
 
-sound-emit : (i : ℕ) (g : SubmissionDeliveryGoal) (b : Book) → SoundFacts b → SoundFacts (emitBook i g b .after)
+sound-emit : (i : ℕ) (g : SubmissionDeliveryGoal) (b : Book) → SoundLists b → SoundLists (emitBook i g b .after)
 unfolding emitBook
 sound-emit i g b s = go (pick idOf i (b .submitted)) refl
   where
-    go : (ts : List SubmittedTx) → pick idOf i (b .submitted) ≡ ts → SoundFacts (emitTo i g b ts .after)
+    go : (ts : List SubmittedTx) → pick idOf i (b .submitted) ≡ ts → SoundLists (emitTo i g b ts .after)
     go [] q = s
     go (t ∷ ts) q = sound-issue i g (currentFingerprint (t .entry)) b (picked-elem i (b .submitted) q) s
 
-pub sound-step : (p : Step) (b : Book) → SoundFacts b → SoundFacts (onBook p b .after)
+pub sound-step : (p : Step) (b : Book) → SoundLists b → SoundLists (onBook p b .after)
 unfolding onBook
 sound-step (note n) b s = sound-note n b s
 sound-step (revise i r) b s = sound-revise i r b s

@@ -4,6 +4,7 @@ use mathlib.Core.Bool.{Bool, true, false, cond, not, _&&_, _||_}
 use mathlib.Core.List.{List, [], _∷_, map}
 use mathlib.Core.Option.{Option, none, some}
 use mathlib.Core.Path.{_≡_, refl}
+use native.Mathlib.Omega.{arith}
 use lib.Dec.{eqb, leb}
 use lib.ListN.{length}
 use Rattle.lists.specs.Bytes.{eqs}
@@ -24,26 +25,27 @@ use Rattle.book_data.specs.declared.SubmissionChainTerminality.{SubmissionChain
 use Rattle.book_data.specs.declared.SubmissionChainTerminality.the-variants.{Landed}
 use Rattle.book_data.specs.Model.{Book}
 use Rattle.book_data.specs.Sound.{readableBundle, soundDelivery, idOf}
+use Rattle.rules.specs.Books.{answerBook}
 use Rattle.rules.specs.Call.{FeeSource, Call, Cause, Value}
 use Rattle.rules.specs.Calls.{rules}
 use Rattle.rules.specs.CoinLists.{encodeCoins}
 use Rattle.rules.specs.Doors.{idsOk}
 use Rattle.rules.specs.Keyed.{pick}
 use Rattle.rules.specs.Parts.{currentFingerprint, feeUnresolved, activeEntry, intentOf, validate}
-use Rattle.rules.specs.Rule.{done, reopen, revise, replay, Rule, undo, stop, look, act, turn, _>>=_, _>>_, step, guarded, grows, full}
-use Rattle.rules.specs.Steps.{runBook}
+use Rattle.rules.specs.Rule.{done, DrainedSubmission, reopen, revise, replay, Rule, undo, stop, look, act, turn, _>>=_, _>>_, step, Outcome, ended, undone, stopped, logged, guarded, grows, full, run, refused, answered}
+use Rattle.rules.specs.Steps.{onBook, runBook}
 use Rattle.rules.specs.Steps.Slots.{resolved}
 use Rattle.rules.specs.Calls.AbandonAttempt.{abandonLive, abandonAttempt}
 use Rattle.rules.specs.Calls.AbsentOutputsForIds.{absentOutputs}
 use Rattle.rules.specs.Calls.AcknowledgeAttempt.{acknowledgeLive, acknowledgeAttempt}
 use Rattle.rules.specs.Calls.ClearLocalArtifacts.{clearLocalArtifacts}
 use Rattle.rules.specs.Calls.CollectRollbackReplayIds.{markEach, offerAgain, collectRollbackReplayIds}
-use Rattle.rules.specs.Calls.Common.{live, Found, aside, gone, neverIssued, find, byLive, withLive, withdraw, withdrawEach, writing}
+use Rattle.rules.specs.Calls.Common.{Found, live, aside, gone, neverIssued, find, byLive, withLive, withdraw, withdrawEach, writing}
 use Rattle.rules.specs.Calls.Drain.{isOneOf, oneCandidate, candidates, drain}
 use Rattle.rules.specs.Calls.FeeIntentForAttempt.{feeIntentForAttempt}
 use Rattle.rules.specs.Calls.FinalizeAttempt.{isJoined, isNoSource, finalizeAs, finalizeWith, finalizeLive, soundSource, finalizeAttempt}
 use Rattle.rules.specs.Calls.Offer.{isQueued, deliverable, offerTo, offer, goalFor}
-use Rattle.rules.specs.Calls.Plan.{named, Memory, blank, withEmitted, last64, deliver, missOf, wanted, met, knownBy, known, unknown, unnamed, plannedBy, candidate}
+use Rattle.rules.specs.Calls.Plan.{Memory, blank, withEmitted, last64, deliver, missOf, wanted, met, knownBy, known, unknown, named, unnamed, plannedBy, candidate}
 use Rattle.rules.specs.Calls.Queue.{queue}
 use Rattle.rules.specs.Calls.QueueFeeReadiness.{offerEach, queueFeeReadiness}
 use Rattle.rules.specs.Calls.QueueRebroadcastEpoch.{rebroadcastOf, rebroadcast, queueRebroadcastEpoch}
@@ -55,8 +57,9 @@ use Rattle.rules.specs.Calls.Replay.{isAt, isBefore, beginReplay, finishReplayI
 use Rattle.rules.specs.Calls.RestoreRuntime.{setAsideEach}
 use Rattle.rules.specs.Calls.RetainSubmitted.{toRemove, retainSubmitted}
 use Rattle.rules.specs.Calls.StopAttempt.{stopLive, stopAttempt}
+use Rattle.rule_laws.specs.Sound.Facts.{short-of}
 use Rattle.rule_laws.specs.Sound.Run.{SoundBook}
-use Rattle.rule_laws.specs.StepRule.Free.{runFree, booksAfter, PacedTo, Settled}
+use Rattle.rule_laws.specs.StepRule.Free.{runFree, booksAfter, isRefusal, PacedTo, Settled}
 use Rattle.rule_laws.specs.StepRule.Paced.{step-rule}
 
 no-shrink : (g : Bool) → (g && false) ≡ false
@@ -100,7 +103,7 @@ paced-byLive : (v : Value) (k : SubmittedTx → Rule Value) → ((s : SubmittedT
 paced-byLive v k h (live s) = h s
 paced-byLive v k h aside = refl
 paced-byLive v k h gone = refl
-paced-byLive v k h neverIssued = refl
+paced-byLive v k h neverIssued = (refl, refl)
 
 paced-live : (t : ℕ) (v : Value) (k : SubmittedTx → Rule Value) → ((s : SubmittedTx) → Paced (k s)) → Paced (withLive t v k)
 unfolding withLive
@@ -108,12 +111,12 @@ paced-live t v k h = λ b. paced-byLive v k h (find t b)
 
 paced-writing : (room : ℕ) (s : List ℕ) → Paced (writing room s)
 unfolding writing
-paced-writing room s = paced-cond Settled false (leb (length s) room) _ _ refl refl
+paced-writing room s = paced-cond Settled false (leb (length s) room) _ _ refl (refl, refl)
 
 -- ---- queue
 paced-queue : (d : PendingDelivery) → Paced (queue d)
 unfolding queue
-paced-queue d = paced-cond Settled false (soundDelivery d) _ _ (refl, refl) refl
+paced-queue d = paced-cond Settled false (soundDelivery d) _ _ (refl, refl) (refl, refl)
 
 paced-retained-delivery : (i : ℕ) (w : DeliveryTrigger) (goal : SubmissionDeliveryGoal) → Paced (queueRetainedDelivery i w goal)
 unfolding queueRetainedDelivery
@@ -130,7 +133,7 @@ paced-rebroadcast w (i ∷ is) = λ b. paced-bind Settled false (rebroadcastOf w
 
 paced-epoch : (is : List ℕ) (w : DeliveryTrigger) → Paced (queueRebroadcastEpoch is w)
 unfolding queueRebroadcastEpoch
-paced-epoch is w = paced-cond Settled false (idsOk is) _ _ (paced-rebroadcast w is) refl
+paced-epoch is w = paced-cond Settled false (idsOk is) _ _ (paced-rebroadcast w is) (refl, refl)
 
 paced-offers : (w : DeliveryTrigger) (ts : List SubmittedTx) → Paced (offerEach w ts)
 unfolding offerEach
@@ -146,7 +149,7 @@ module _ (P : Bool → Memory → Type 0) (h : (g : Bool) (a : Memory) → P g a
   paced-deliver : (g : Bool) (i : ℕ) (goal : SubmissionDeliveryGoal) (a : Memory) → PacedTo P g (deliver i goal a)
   unfolding deliver
   paced-deliver g i goal a = paced-cond P g (elemb i (a .emitted)) _ _ (h g a)
-      (λ b. paced-cond P g (eqb (b .nextToken .0) last64) _ _ tt (no-shrink g, h (g || false) (withEmitted i a)))
+      (λ b. paced-cond P g (eqb (b .nextToken .0) last64) _ _ refl (no-shrink g, h (g || false) (withEmitted i a)))
 
   paced-met : (c : PendingDelivery) (t : SubmittedTx) (a : Memory) → PacedTo P false (met c t a)
   unfolding met
@@ -199,18 +202,18 @@ unfolding finalizeWith finalizeAs
 paced-finalizeWith source j t =
     paced-cond Settled false (feeUnresolved (t .entry)) _ _
     (paced-cond Settled false (isJoined source) _ _ (refl, (refl, refl)) (refl, refl))
-    (paced-cond Settled false (isNoSource source) _ _ (refl, refl) refl)
+    (paced-cond Settled false (isNoSource source) _ _ (refl, refl) (refl, refl))
 
 paced-finalizeLive : (source : FeeSource) (j : SpendBundle) (t : SubmittedTx) → Paced (finalizeLive source j t)
 unfolding finalizeLive
 paced-finalizeLive source j t =
-    paced-cond Settled false (t .slots .«active_attempt» .attempt .«finalized_variant_fingerprint» .present) _ _ refl
-    (paced-cond Settled false (not (validate (t .entry))) _ _ refl
-    (paced-cond Settled false (eqs (currentFingerprint (t .entry)) (t .slots .«active_attempt» .attempt .«drained_variant_fingerprint»)) _ _ (paced-finalizeWith source j t) refl))
+    paced-cond Settled false (t .slots .«active_attempt» .attempt .«finalized_variant_fingerprint» .present) _ _ (refl, refl)
+    (paced-cond Settled false (not (validate (t .entry))) _ _ (refl, refl)
+    (paced-cond Settled false (eqs (currentFingerprint (t .entry)) (t .slots .«active_attempt» .attempt .«drained_variant_fingerprint»)) _ _ (paced-finalizeWith source j t) (refl, refl)))
 
 paced-finalize : (t : ℕ) (source : FeeSource) (j : SpendBundle) → Paced (finalizeAttempt t source j)
 unfolding finalizeAttempt
-paced-finalize t source j = paced-cond Settled false (soundSource source j) _ _ (paced-live t _ _ (paced-finalizeLive source j)) refl
+paced-finalize t source j = paced-cond Settled false (soundSource source j) _ _ (paced-live t _ _ (paced-finalizeLive source j)) (refl, refl)
 
 paced-fee : (t : ℕ) → Paced (feeIntentForAttempt t)
 unfolding feeIntentForAttempt
@@ -219,8 +222,8 @@ paced-fee t = paced-live t _ _ (λ s. refl)
 paced-acknowledge : (t : ℕ) → Paced (acknowledgeAttempt t)
 unfolding acknowledgeAttempt acknowledgeLive
 paced-acknowledge t = paced-live t _ _ (λ s.
-    paced-cond Settled false (not (s .slots .«active_attempt» .attempt .«finalized_variant_fingerprint» .present)) _ _ refl
-    (paced-cond Settled false (eqs (currentFingerprint (s .entry)) (resolved (s .slots .«active_attempt» .attempt))) _ _ (refl, (refl, (refl, refl))) refl))
+    paced-cond Settled false (not (s .slots .«active_attempt» .attempt .«finalized_variant_fingerprint» .present)) _ _ (refl, refl)
+    (paced-cond Settled false (eqs (currentFingerprint (s .entry)) (resolved (s .slots .«active_attempt» .attempt))) _ _ (refl, (refl, (refl, refl))) (refl, refl)))
 
 paced-stop : (t : ℕ) → Paced (stopAttempt t)
 unfolding stopAttempt stopLive
@@ -238,12 +241,12 @@ paced-relinquish t = λ b. go (find t b)
     go (live s) = refl
     go aside = refl
     go gone = refl
-    go neverIssued = refl
+    go neverIssued = (refl, refl)
 
 -- ---- removal and retirements
 paced-retain-submitted : (is : List ℕ) → Paced (retainSubmitted is)
 unfolding retainSubmitted
-paced-retain-submitted is = paced-cond Settled false (idsOk is) _ _ (λ b. paced-withdraws Settled _ refl (toRemove is b)) refl
+paced-retain-submitted is = paced-cond Settled false (idsOk is) _ _ (λ b. paced-withdraws Settled _ refl (toRemove is b)) (refl, refl)
 
 paced-clear : Paced clearLocalArtifacts
 unfolding clearLocalArtifacts
@@ -271,7 +274,7 @@ paced-judges observed spent reorg ids (t ∷ ts) = paced-bind Settled false (jud
 paced-reconcile : (observed spent : List ℕ) (reorg : Bool) (ids : List ℕ) → Paced (reconcileChainTerminality observed spent reorg ids)
 unfolding reconcileChainTerminality
 paced-reconcile observed spent reorg ids =
-    paced-cond Settled false (coinListb observed && idListb spent && idsOk ids) _ _ (λ b. paced-judges (coinsIn observed) (idsIn spent) reorg ids (b .submitted)) refl
+    paced-cond Settled false (coinListb observed && idListb spent && idsOk ids) _ _ (λ b. paced-judges (coinsIn observed) (idsIn spent) reorg ids (b .submitted)) (refl, refl)
 
 paced-offerAgain : (is : List ℕ) → Paced (offerAgain is)
 unfolding offerAgain
@@ -290,7 +293,7 @@ paced-marks b r h (i ∷ is) = go (elemb i (b .replayed)) (paced-marks b r h is)
 paced-collect : (is : List ℕ) → Paced (collectRollbackReplayIds is)
 unfolding collectRollbackReplayIds
 paced-collect is = paced-cond Settled false (idsOk is) _ _
-    (λ b. paced-marks b _ (paced-offerAgain (filterb (λ i. elemb i is) (map idOf (b .submitted)))) (filterb (λ i. elemb i is) (map idOf (b .submitted)))) refl
+    (λ b. paced-marks b _ (paced-offerAgain (filterb (λ i. elemb i is) (map idOf (b .submitted)))) (filterb (λ i. elemb i is) (map idOf (b .submitted)))) (refl, refl)
 
 paced-setAsides : (is : List ℕ) → Paced (setAsideEach is)
 unfolding setAsideEach
@@ -322,14 +325,14 @@ paced encode (Call.RelinquishCompletedAttempt t) = paced-relinquish t
 paced encode (Call.RetainSubmitted is) = paced-retain-submitted is
 paced encode (Call.EmitRetirement i) = (refl, refl)
 paced encode Call.DrainRetirements = λ b. (refl, refl)
-paced encode (Call.ReconciliationInputCoins outputs room) = paced-cond Settled false (coinListb outputs) _ _ (λ b. paced-writing room (encodeCoins (inputCoinsToReconcile (coinsIn outputs) b))) refl
+paced encode (Call.ReconciliationInputCoins outputs room) = paced-cond Settled false (coinListb outputs) _ _ (λ b. paced-writing room (encodeCoins (inputCoinsToReconcile (coinsIn outputs) b))) (refl, refl)
 paced encode Call.ActiveIds = λ b. refl
 paced encode (Call.BeginReplay h) = paced-begin h
 paced encode (Call.FinishReplayIfAdvanced h) = paced-finish h
 paced encode Call.ReplayRollbackHeight = λ b. refl
 paced encode (Call.ReconcileChainTerminality observed spent reorg ids) = paced-reconcile observed spent reorg ids
-paced encode (Call.CausallyRolledBackIds absent inputs) = paced-cond Settled false (coinListb absent && idListb inputs) _ _ (λ b. refl) refl
-paced encode (Call.AbsentOutputsForIds is absent room) = paced-cond Settled false (idsOk is && coinListb absent) _ _ (λ b. paced-writing room (encodeCoins (flatMap (λ t. absentOutputs (coinsIn absent) (t .entry)) (filterb (λ t. elemb (idOf t) is) (b .submitted))))) refl
+paced encode (Call.CausallyRolledBackIds absent inputs) = paced-cond Settled false (coinListb absent && idListb inputs) _ _ (λ b. refl) (refl, refl)
+paced encode (Call.AbsentOutputsForIds is absent room) = paced-cond Settled false (idsOk is && coinListb absent) _ _ (λ b. paced-writing room (encodeCoins (flatMap (λ t. absentOutputs (coinsIn absent) (t .entry)) (filterb (λ t. elemb (idOf t) is) (b .submitted))))) (refl, refl)
 paced encode (Call.CollectRollbackReplayIds is) = paced-collect is
 paced encode Call.ClearLocalArtifacts = paced-clear
 paced encode Call.RestoreRuntime = λ b. paced-setAsides (map idOf (b .submitted))
@@ -340,4 +343,36 @@ paced encode (Call.WriteArchive room) = λ b. paced-writing room (encode b)
 -- otherwise it comes to what the unlimited rules come to
 pub full-by-steps : (encode : Book → List ℕ) (c : Call) (b : Book) → SoundBook b
     → runBook (rules encode c) b ≡ guarded (anyb full (booksAfter (rules encode c) b)) (runFree (rules encode c) b)
-full-by-steps encode c b s = step-rule false (rules encode c) b (paced encode c) (record { submitted = s .submitted; pending = s .pending; retired = s .retired })
+full-by-steps encode c b s = step-rule false (rules encode c) b (paced encode c) (short-of b (s .fits))
+
+-- ---- the numbers
+abbrev Numbered : {A : Type 0} → Outcome Book A → Type 0
+Numbered (ended b xs a) = Unit {0}
+Numbered (undone n) = isRefusal n ≡ true
+Numbered (stopped b xs n) = isRefusal n ≡ true
+
+numbered-logged : {A : Type 0} (t : Bool) (xs : List DrainedSubmission) (k : Outcome Book A) → Numbered k → Numbered (guarded t (logged xs k))
+numbered-logged true xs k h = refl
+numbered-logged false xs (ended b ys a) h = h
+numbered-logged false xs (undone n) h = h
+numbered-logged false xs (stopped b ys n) h = h
+
+numbered : {A : Type 0} (P : Bool → A → Type 0) (g : Bool) (r : Rule A) (b : Book) → PacedTo P g r → Numbered (runBook r b)
+unfolding run
+numbered P g (done a) b p = tt
+numbered P g (undo n) b p = p .1
+numbered P g (stop n) b p = p
+numbered P g (look k) b p = numbered P g (k b) b (p b)
+numbered P g (act q r) b p =
+    numbered-logged (grows q && full (onBook q b .after)) (onBook q b .out) (runBook r (onBook q b .after)) (numbered P (g || grows q) r (onBook q b .after) (p .1))
+numbered P g (turn r) b p = numbered P false r b p
+
+-- behind the door for 1 a call is refused by a number from 2 to 12 or not at all
+pub refused-by : (encode : Book → List ℕ) (c : Call) (b : Book) (n : ℕ) → answerBook encode c b ≡ refused n → isRefusal n ≡ true
+unfolding answerBook
+refused-by encode c b n e = go (runBook (rules encode c) b) (numbered Settled false (rules encode c) b (paced encode c)) e
+  where
+    go : (k : Outcome Book Value) → Numbered k → answered k ≡ refused n → isRefusal n ≡ true
+    go (ended b′ xs v) h q = absurd (let z : _≡_ {A = ℕ} 0 1 = cc in omega arith)
+    go (undone m) h q = let z : m ≡ n = cc in rw z at h
+    go (stopped b′ xs m) h q = let z : m ≡ n = cc in rw z at h

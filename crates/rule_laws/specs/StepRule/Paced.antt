@@ -15,7 +15,7 @@ use Rattle.rule_laws.specs.StepRule.Stays.{stays}
 over : {A : Type 0} (r : Rule A) (b : Book) → PacedTo Settled true r → full b ≡ true → anyb full (booksAfter r b) ≡ true
 unfolding booksAfter
 over (done a) b p h = absurd (true≢false p)
-over (undo n) b p h = absurd (true≢false p)
+over (undo n) b p h = absurd (true≢false (p .0))
 over (stop n) b p h = ap (λ (x : Bool). x || false) h
 over (look k) b p h = over (k b) b (p b) h
 over (act q r) b p h = over r (onBook q b .after) (p .1) (stays q b (p .0) h)

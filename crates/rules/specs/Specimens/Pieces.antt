@@ -1,6 +1,6 @@
 -- Small books, deliveries and answers that the specimens are made of.
 use Prim.Native.Nat.{ℕ, zero, suc}
-use mathlib.Core.Bool.{true}
+use mathlib.Core.Bool.{true, false}
 use mathlib.Core.List.{List, [], _∷_}
 use mathlib.Core.Option.{Option}
 use lib.ListN.{replicate}
@@ -11,18 +11,20 @@ use Rattle.book_data.specs.declared.SubmittedEntry.{SubmittedEntry}
 use Rattle.book_data.specs.declared.SubmittedTx.{SubmittedTx}
 use Rattle.book_data.specs.declared.PendingSubmissionIntent.{PendingSubmissionIntent}
 use Rattle.book_data.specs.declared.PendingDelivery.{PendingDelivery}
+use Rattle.book_data.specs.declared.OptionalHeight.{OptionalHeight}
 use Rattle.book_data.specs.declared.OptionalHeight.the-variants.{NoHeight, At}
 use Rattle.book_data.specs.declared.OptionalId.{OptionalId}
 use Rattle.book_data.specs.declared.OptionalId.the-variants.{NoId, Of}
-use Rattle.book_data.specs.declared.FeeIntentKind.the-variants.{AlreadyPaid, NoFeeConfigured}
+use Rattle.book_data.specs.declared.FeeIntentKind.the-variants.{AlreadyPaid, NoFeeConfigured, Attach}
 use Rattle.book_data.specs.declared.SubmissionDeliveryGoal.the-variants.{EnsureBroadcast}
 use Rattle.book_data.specs.declared.DeliveryTrigger.the-variants.{Protocol}
 use Rattle.book_data.specs.declared.SubmissionChainTerminality.{SubmissionChainTerminality}
-use Rattle.book_data.specs.declared.SubmissionChainTerminality.the-variants.{Landed}
-use Rattle.book_data.specs.declared.FeeResolution.the-variants.{NotRequested}
+use Rattle.book_data.specs.declared.SubmissionChainTerminality.the-variants.{Active, Landed}
+use Rattle.book_data.specs.declared.FeeResolution.the-variants.{Unresolved, NotRequested}
 use Rattle.book_data.specs.Model.{Book}
 use Rattle.book_data.specs.Zero.{zeros, zeroOutput, zeroSpend, zeroBundle, zeroFeeIntent, zeroHash, noAttempt, noSlots, baseVariant}
-use Rattle.rules.specs.Call.{Cause, Failure}
+use Rattle.spend.specs.Forms.{variantFingerprint}
+use Rattle.rules.specs.Call.{Cause, Failure, FeeAttached, FinalizedSubmission}
 use Rattle.rules.specs.Parts.{intentOf}
 use Rattle.rules.specs.Rule.{Relationship, DrainedSubmission}
 
@@ -35,7 +37,11 @@ height n = record { 0 = n }
 unfoldable pub byId : ℕ → OptionalId
 byId i = Of (record { 0 = i })
 
--- 0 for an entry without id
+-- 0 for none
+abbrev pub heightNumber : OptionalHeight → ℕ
+heightNumber NoHeight = 0
+heightNumber (At h) = h .0
+
 abbrev pub queuedId : OptionalId → ℕ
 queuedId NoId = 0
 queuedId (Of i) = i .0
@@ -111,6 +117,54 @@ liveSlot t = record {
   «active_attempt» = record { present = true; attempt = record { token = record { 0 = t }; goal = EnsureBroadcast; «drained_variant_fingerprint» = zeros 32; «finalized_variant_fingerprint» = zeroHash } };
   «completed_attempt» = noAttempt;
 }
+
+-- the intent fingerprint of `intentBy i 7`, and the variant fingerprint of the empty bundle
+unfoldable pub seventhIntent : List ℕ
+seventhIntent = 168 ∷ 244 ∷ 202 ∷ 142 ∷ 245 ∷ 48 ∷ 68 ∷ 123 ∷ 89 ∷ 185 ∷ 99 ∷ 91 ∷ 42 ∷ 126 ∷ 20 ∷ 207 ∷ 227 ∷ 7 ∷ 87 ∷ 189 ∷ 106 ∷ 4 ∷ 15 ∷ 249 ∷ 57 ∷ 92 ∷ 20 ∷ 187 ∷ 15 ∷ 93 ∷ 228 ∷ 61 ∷ []
+
+unfoldable pub emptyVariant : List ℕ
+emptyVariant = 110 ∷ 52 ∷ 11 ∷ 156 ∷ 255 ∷ 179 ∷ 122 ∷ 152 ∷ 156 ∷ 165 ∷ 68 ∷ 230 ∷ 187 ∷ 120 ∷ 10 ∷ 44 ∷ 120 ∷ 144 ∷ 29 ∷ 63 ∷ 179 ∷ 55 ∷ 56 ∷ 118 ∷ 133 ∷ 17 ∷ 163 ∷ 6 ∷ 23 ∷ 175 ∷ 160 ∷ 29 ∷ []
+
+-- the submission of `intentBy i 7`, of which the expiry has become 9
+unfoldable pub seventh : SubmissionChainTerminality → SubmittedEntry
+unfolding zeroBundle baseVariant zeroHash zeroFeeIntent seventhIntent
+seventh c = record {
+  id = record { 0 = 1 };
+  «intent_fingerprint» = seventhIntent;
+  «base_bundle» = zeroBundle;
+  «current_variant» = baseVariant;
+  «fee_intent» = zeroFeeIntent;
+  «wallet_acknowledged_variant» = zeroHash;
+  status = record { «fee_resolution» = NotRequested; «chain_terminality» = c; expiry = At (record { 0 = 9 }) };
+}
+
+-- a fee of 3 to be attached
+unfoldable pub feeOf3 : SubmissionFeeIntent
+feeOf3 = record { kind = Attach; target = zeros 32; amount = 3 }
+
+unfoldable pub feeOpen : SubmittedEntry
+unfolding zeroBundle baseVariant zeroHash feeOf3
+feeOpen = record {
+  id = record { 0 = 1 };
+  «intent_fingerprint» = zeros 32;
+  «base_bundle» = zeroBundle;
+  «current_variant» = baseVariant;
+  «fee_intent» = feeOf3;
+  «wallet_acknowledged_variant» = zeroHash;
+  status = record { «fee_resolution» = Unresolved; «chain_terminality» = Active; expiry = NoHeight };
+}
+
+-- a live attempt that was drained with the empty bundle
+unfoldable pub drainedSlot : ℕ → AttemptSlots
+unfolding noAttempt zeroHash emptyVariant
+drainedSlot t = record {
+  «active_attempt» = record { present = true; attempt = record { token = record { 0 = t }; goal = EnsureBroadcast; «drained_variant_fingerprint» = emptyVariant; «finalized_variant_fingerprint» = zeroHash } };
+  «completed_attempt» = noAttempt;
+}
+
+unfoldable pub joinedEmpty : FinalizedSubmission
+unfolding zeroBundle
+joinedEmpty = record { bundle = zeroBundle; appliedFee = 3; warning = false; disposition = FeeAttached; fingerprint = variantFingerprint zeroBundle; shouldBroadcast = true }
 
 -- a book that retains one submission, as 1, with these replayed ids
 unfoldable pub holding : SubmittedEntry → AttemptSlots → List ℕ → Book
