@@ -11,7 +11,6 @@ use Rattle.book_data.specs.declared.SubmittedTx.{SubmittedTx}
 use Rattle.book_data.specs.declared.PendingDelivery.{PendingDelivery}
 use Rattle.book_data.specs.declared.Ids16.{Ids16}
 use Rattle.book_data.specs.declared.Ids64.{Ids64}
-use Rattle.book_data.specs.declared.ReplayEpoch.{ReplayEpoch}
 use Rattle.book_data.specs.declared.BookData.{BookData}
 
 -- the fields of the Rust's `SubmissionBook`, its vectors and sets as lists; ids as numbers

@@ -1,14 +1,14 @@
 -- Paper 01, "Sound": within these ranges; retained ids distinct; slot tokens distinct and below next token; base bundles
 -- readable; retirements distinct; replayed ids retained (the archive has them rising); every cell that a count or mark leaves
 -- unused is zero. That numbers are within their types and arrays of their lengths is the type's own matter.
-use mathlib.Core.Bool.{Bool, true, false, cond, not, _&&_, _||_}
+use mathlib.Core.Bool.{Bool, true, false, cond, _&&_, _||_}
 use mathlib.Core.List.{List, [], _∷_, _++_, map}
 use Prim.Native.Nat.{ℕ}
 use lib.Dec.{leb, ltb}
 use lib.ListN.{take}
-use Rattle.lists.specs.Lists.{allb, anyb, elemb, distinctb, flatMap, tailOf, isZero}
-use Rattle.book_data.specs.Zero.{isZero32, isZeroOutput, isZeroSpend, isZeroHash, isZeroAttempt, isNoAttempt, isBaseVariant, isZeroSubmitted, isZeroDelivery}
-use Rattle.book_data.specs.Model.{Book, view, list16, list64}
+use Rattle.lists.specs.Lists.{allb, elemb, distinctb, flatMap, tailOf, isZero}
+use Rattle.book_data.specs.Zero.{isZero32, isZeroOutput, isZeroSpend, isZeroHash, isNoAttempt, isBaseVariant, isZeroSubmitted, isZeroDelivery}
+use Rattle.book_data.specs.Model.{Book, view}
 use Rattle.book_data.specs.declared.Output.{Output}
 use Rattle.book_data.specs.declared.CoinSpend.{CoinSpend}
 use Rattle.book_data.specs.declared.SpendBundle.{SpendBundle}
@@ -16,7 +16,6 @@ use Rattle.book_data.specs.declared.FeeIntentKind.{FeeIntentKind}
 use Rattle.book_data.specs.declared.FeeIntentKind.the-variants.{AlreadyPaid, NoFeeConfigured, Attach}
 use Rattle.book_data.specs.declared.SubmissionFeeIntent.{SubmissionFeeIntent}
 use Rattle.book_data.specs.declared.OptionalHash.{OptionalHash}
-use Rattle.book_data.specs.declared.DeliveryAttempt.{DeliveryAttempt}
 use Rattle.book_data.specs.declared.OptionalAttempt.{OptionalAttempt}
 use Rattle.book_data.specs.declared.AttemptSlots.{AttemptSlots}
 use Rattle.book_data.specs.declared.SubmissionBroadcastVariant.{SubmissionBroadcastVariant}
@@ -24,8 +23,6 @@ use Rattle.book_data.specs.declared.SubmittedEntry.{SubmittedEntry}
 use Rattle.book_data.specs.declared.SubmittedTx.{SubmittedTx}
 use Rattle.book_data.specs.declared.PendingSubmissionIntent.{PendingSubmissionIntent}
 use Rattle.book_data.specs.declared.PendingDelivery.{PendingDelivery}
-use Rattle.book_data.specs.declared.Ids16.{Ids16}
-use Rattle.book_data.specs.declared.Ids64.{Ids64}
 use Rattle.book_data.specs.declared.BookData.{BookData}
 
 -- ---- bundles

@@ -1,6 +1,6 @@
 -- What soundness gives, and what gives it.
 use mathlib.Core.Path.{_≡_, refl, sym, ap, _∙_}
-use mathlib.Core.Bool.{Bool, true, false, cond, _&&_, _||_, false≢true}
+use mathlib.Core.Bool.{Bool, true, _||_}
 use mathlib.Core.List.{List, [], _∷_, map}
 use Prim.Native.Nat.{ℕ, _≤_}
 use native.Mathlib.Omega.{arith}
@@ -12,19 +12,12 @@ use Rattle.lists.specs.Lists.{allb, elemb, distinctb, flatMap, cells, tailOf, i
 use Rattle.lists.specs.Laws.{trues, and-split, and-both, cells-take, tail-length, take-cells, tail-cells}
 use Rattle.book_data.specs.Zero.{zeroOutput, zeroSpend, zeroSubmitted, zeroDelivery, isZeroOutput, isZeroSpend, isZeroSubmitted, isZeroDelivery}
 use Rattle.book_data.specs.ZeroLaws.{number-zero, output-zero, spend-zero, submitted-zero, delivery-zero, submitted-zero-is, delivery-zero-is}
-use Rattle.book_data.specs.Model.{Book, view, back, list16, list64, ids16, ids64}
-use Rattle.book_data.specs.Sound.{soundSpend, spendsOf, outputsOf, soundBundle, readableBundle, soundFeeIntent, soundHash, soundSlots, soundVariant, soundEntry, soundSubmitted, soundDelivery, idOf, tokensOf, risingb, soundLists, soundCells, soundb}
+use Rattle.book_data.specs.Model.{Book, view, back}
+use Rattle.book_data.specs.Sound.{soundSpend, spendsOf, soundBundle, readableBundle, soundFeeIntent, soundHash, soundSlots, soundVariant, soundEntry, soundSubmitted, soundDelivery, idOf, tokensOf, risingb, soundLists, soundCells, soundb}
 use Rattle.book_data.specs.declared.CoinSpend.{CoinSpend}
 use Rattle.book_data.specs.declared.SpendBundle.{SpendBundle}
 use Rattle.book_data.specs.declared.SubmittedEntry.{SubmittedEntry}
 use Rattle.book_data.specs.declared.SubmittedTx.{SubmittedTx}
-use Rattle.book_data.specs.declared.PendingDelivery.{PendingDelivery}
-use Rattle.book_data.specs.declared.Token.{Token}
-use Rattle.book_data.specs.declared.SubmissionId.{SubmissionId}
-use Rattle.book_data.specs.declared.OptionalHeight.{OptionalHeight}
-use Rattle.book_data.specs.declared.Ids16.{Ids16}
-use Rattle.book_data.specs.declared.Ids64.{Ids64}
-use Rattle.book_data.specs.declared.ReplayEpoch.{ReplayEpoch}
 use Rattle.book_data.specs.declared.BookData.{BookData}
 
 -- ---- counted cells in an array: n is within N, and what is behind the first n is z

@@ -4,9 +4,6 @@ use mathlib.Core.List.{List}
 use Prim.Native.Nat.{ℕ}
 use lib.ListN.{replicate}
 use Rattle.lists.specs.Lists.{fullOf, isZero}
-use Rattle.book_data.specs.declared.Token.{Token}
-use Rattle.book_data.specs.declared.SubmissionId.{SubmissionId}
-use Rattle.book_data.specs.declared.Height.{Height}
 use Rattle.book_data.specs.declared.OptionalHeight.{OptionalHeight}
 use Rattle.book_data.specs.declared.OptionalHeight.the-variants.{NoHeight, At}
 use Rattle.book_data.specs.declared.OptionalId.{OptionalId}
@@ -35,10 +32,6 @@ use Rattle.book_data.specs.declared.SubmittedEntry.{SubmittedEntry}
 use Rattle.book_data.specs.declared.SubmittedTx.{SubmittedTx}
 use Rattle.book_data.specs.declared.PendingSubmissionIntent.{PendingSubmissionIntent}
 use Rattle.book_data.specs.declared.PendingDelivery.{PendingDelivery}
-use Rattle.book_data.specs.declared.Ids16.{Ids16}
-use Rattle.book_data.specs.declared.Ids64.{Ids64}
-use Rattle.book_data.specs.declared.ReplayEpoch.{ReplayEpoch}
-use Rattle.book_data.specs.declared.BookData.{BookData}
 
 abbrev pub zeros : ℕ → List ℕ
 zeros n = replicate n 0

@@ -1,6 +1,6 @@
 // The coins that a bundle spends and makes.
 ghost use mathlib.Core.Path.{_≡_};
-ghost use Prim.Native.Nat.{_<_, _≤_, min};
+ghost use Prim.Native.Nat.{_<_, min};
 ghost use Rattle.lists.specs.Lists.{cells};
 ghost use Rattle.coin_string.specs.Coin.{FromParts};
 ghost use Rattle.coin_string.specs.CoinList.{coinsIn};

@@ -145,8 +145,8 @@ fn within(len: u8) -> usize
 pub fn to_coin_id(coin: [u8; 73], len: u8) -> [u8; 32]
     ensures { λ r. ⌜ r ≡ coinIdOf (take len coin) ⌝ }
 {
-    let n = within(len);
-    sha256::sha256(&coin[0..n])
+    let end = within(len);
+    sha256::sha256(&coin[0..end])
 }
 
 // The bytes of s from one place to another, as far as they are there.

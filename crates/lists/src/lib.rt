@@ -68,13 +68,13 @@ pub fn zeros(s: &[u64]) -> bool
     ok
 }
 
-pub fn zero_bytes(s: &[u8]) -> bool
-    ensures { λ r. ⌜ r ≡ allb isZero (now (s .entry)) ⌝ }
+pub fn zero_bytes(a: &[u8]) -> bool
+    ensures { λ r. ⌜ r ≡ allb isZero (now (a .entry)) ⌝ }
 {
     let mut ok = true;
     let mut i = 0;
-    while i < s.len() {
-        ok = ok & (s[i] == 0);
+    while i < a.len() {
+        ok = ok & (a[i] == 0);
         i += 1;
     }
     ok
@@ -86,10 +86,10 @@ pub fn zero32(a: &[u8; 32]) -> bool
     zero_bytes(a)
 }
 
-pub fn zero73(a: &[u8; 73]) -> bool
-    ensures { λ r. ⌜ r ≡ fullOf 73 isZero (now (a .entry)) ⌝ }
+pub fn zero73(cell: &[u8; 73]) -> bool
+    ensures { λ r. ⌜ r ≡ fullOf 73 isZero (now (cell .entry)) ⌝ }
 {
-    zero_bytes(a)
+    zero_bytes(cell)
 }
 
 pub fn same(a: &[u8], b: &[u8]) -> bool

@@ -6,7 +6,9 @@ pub mod QueueRetainedDelivery
 pub mod QueueRebroadcastEpoch
 pub mod QueueFeeReadiness
 pub mod Plan
+pub mod Candidate
 pub mod Drain
+pub mod Finalized
 pub mod FinalizeAttempt
 pub mod FeeIntentForAttempt
 pub mod AcknowledgeAttempt

@@ -8,4 +8,4 @@ pub mod Call
 pub mod Calls
 pub mod Opened
 pub mod Books
-pub mod Specimens
+pub mod Examples

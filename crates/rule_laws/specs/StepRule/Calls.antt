@@ -38,6 +38,7 @@ use Rattle.rules.specs.Steps.Slots.{resolved}
 use Rattle.rules.specs.Calls.AbandonAttempt.{abandonLive, abandonAttempt}
 use Rattle.rules.specs.Calls.AbsentOutputsForIds.{absentOutputs}
 use Rattle.rules.specs.Calls.AcknowledgeAttempt.{acknowledgeLive, acknowledgeAttempt}
+use Rattle.rules.specs.Calls.Candidate.{deliver, met, knownBy, known, unknown, named, unnamed, plannedBy, candidate}
 use Rattle.rules.specs.Calls.ClearLocalArtifacts.{clearLocalArtifacts}
 use Rattle.rules.specs.Calls.CollectRollbackReplayIds.{markEach, offerAgain, collectRollbackReplayIds}
 use Rattle.rules.specs.Calls.Common.{Found, live, aside, gone, neverIssued, find, byLive, withLive, withdraw, withdrawEach, writing}
@@ -45,7 +46,7 @@ use Rattle.rules.specs.Calls.Drain.{isOneOf, oneCandidate, candidates, drain}
 use Rattle.rules.specs.Calls.FeeIntentForAttempt.{feeIntentForAttempt}
 use Rattle.rules.specs.Calls.FinalizeAttempt.{isJoined, isNoSource, finalizeAs, finalizeWith, finalizeLive, soundSource, finalizeAttempt}
 use Rattle.rules.specs.Calls.Offer.{isQueued, deliverable, offerTo, offer, goalFor}
-use Rattle.rules.specs.Calls.Plan.{Memory, blank, withEmitted, last64, deliver, missOf, wanted, met, knownBy, known, unknown, named, unnamed, plannedBy, candidate}
+use Rattle.rules.specs.Calls.Plan.{Memory, blank, withEmitted, last64, missOf, wanted}
 use Rattle.rules.specs.Calls.Queue.{queue}
 use Rattle.rules.specs.Calls.QueueFeeReadiness.{offerEach, queueFeeReadiness}
 use Rattle.rules.specs.Calls.QueueRebroadcastEpoch.{rebroadcastOf, rebroadcast, queueRebroadcastEpoch}

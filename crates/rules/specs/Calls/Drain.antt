@@ -7,7 +7,8 @@ use Rattle.book_data.specs.declared.PendingDelivery.{PendingDelivery}
 use Rattle.book_data.specs.declared.OptionalId.{OptionalId}
 use Rattle.book_data.specs.declared.OptionalId.the-variants.{NoId, Of}
 use Rattle.rules.specs.Call.{Value, failures}
-use Rattle.rules.specs.Calls.Plan.{Memory, blank, candidate}
+use Rattle.rules.specs.Calls.Candidate.{candidate}
+use Rattle.rules.specs.Calls.Plan.{Memory, blank}
 use Rattle.rules.specs.Rule.{done, unqueueAll, note, Rule, _>>=_, _>>_, book, step, endTurn}
 
 abbrev pub isOneOf : OptionalId → List ℕ → Bool

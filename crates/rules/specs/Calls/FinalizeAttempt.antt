@@ -1,18 +1,16 @@
 -- `finalize_attempt`. Refusals 3 (the joined bundle), 4, 5, 7, 8, 9 in this order.
 use Prim.Native.Nat.{ℕ}
-use mathlib.Core.Bool.{Bool, true, false, cond, not, _&&_}
+use mathlib.Core.Bool.{Bool, true, false, cond, not}
 use mathlib.Core.Option.{none, some}
 use Rattle.lists.specs.Bytes.{eqs}
 use Rattle.book_data.specs.declared.SpendBundle.{SpendBundle}
-use Rattle.book_data.specs.declared.SubmittedEntry.{SubmittedEntry}
 use Rattle.book_data.specs.declared.SubmittedTx.{SubmittedTx}
-use Rattle.book_data.specs.declared.SubmissionDeliveryGoal.{SubmissionDeliveryGoal}
 use Rattle.book_data.specs.Sound.{soundBundle, idOf}
-use Rattle.book_data.specs.Zero.{isZeroBundle, isEnsureBroadcast}
-use Rattle.spend.specs.Forms.{variantFingerprint}
-use Rattle.rules.specs.Call.{FeeSource, NoSource, Joined, JoinFailed, SourceFailed, FeeAttached, FeeUnused, FeeNotRequested, FinalizedSubmission, Value, finalized}
+use Rattle.book_data.specs.Zero.{isZeroBundle}
+use Rattle.rules.specs.Call.{FeeSource, NoSource, Joined, JoinFailed, SourceFailed, FinalizedSubmission, Value, finalized}
 use Rattle.rules.specs.Calls.Common.{withLive}
-use Rattle.rules.specs.Parts.{currentBundle, currentAppliedFee, currentFingerprint, holdsHash, currentAcknowledged, feeUnresolved, validate}
+use Rattle.rules.specs.Calls.Finalized.{unusedFee, currentFinal, attachedFinal}
+use Rattle.rules.specs.Parts.{currentFingerprint, feeUnresolved, validate}
 use Rattle.rules.specs.Rule.{done, attach, revise, finalise, Rule, undo, _>>=_, _>>_, step}
 
 abbrev pub isJoined : FeeSource → Bool
@@ -26,42 +24,6 @@ isNoSource NoSource = true
 isNoSource Joined = false
 isNoSource JoinFailed = false
 isNoSource SourceFailed = false
-
--- the base is broadcast without the fee: `SubmitWithoutFee`
-unfoldable pub unusedFee : SubmissionDeliveryGoal → SubmittedEntry → FinalizedSubmission
-unfolding currentFingerprint currentAcknowledged
-unusedFee g e = record {
-  bundle = e .«base_bundle»;
-  appliedFee = 0;
-  warning = true;
-  disposition = FeeUnused;
-  fingerprint = currentFingerprint e;
-  shouldBroadcast = isEnsureBroadcast g && not (currentAcknowledged e);
-}
-
--- no fee is open: the current variant
-unfoldable pub currentFinal : SubmissionDeliveryGoal → SubmittedEntry → FinalizedSubmission
-unfolding currentBundle currentAppliedFee currentFingerprint currentAcknowledged
-currentFinal g e = record {
-  bundle = currentBundle e;
-  appliedFee = currentAppliedFee e;
-  warning = false;
-  disposition = FeeNotRequested;
-  fingerprint = currentFingerprint e;
-  shouldBroadcast = isEnsureBroadcast g && not (currentAcknowledged e);
-}
-
--- the joined bundle, with the fee that was asked for
-unfoldable pub attachedFinal : SpendBundle → SubmittedEntry → FinalizedSubmission
-unfolding variantFingerprint holdsHash
-attachedFinal j e = record {
-  bundle = j;
-  appliedFee = e .«fee_intent» .amount;
-  warning = false;
-  disposition = FeeAttached;
-  fingerprint = variantFingerprint j;
-  shouldBroadcast = not (holdsHash (e .«wallet_acknowledged_variant») (variantFingerprint j));
-}
 
 unfoldable pub finalizeAs : ℕ → FinalizedSubmission → Rule Value
 finalizeAs i r = do

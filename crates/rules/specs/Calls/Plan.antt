@@ -1,27 +1,15 @@
--- Paper 01, "Drain and its plan": one candidate. `plan_pending_submission` and what `drain` makes of it.
+-- Paper 01, "Drain and its plan": what a drain remembers, and the tests of `plan_pending_submission` on a retained submission.
 use Prim.Native.Nat.{ℕ}
 use mathlib.Core.Bool.{Bool, cond, not, _&&_}
-use mathlib.Core.List.{List, [], _∷_, _++_, map}
+use mathlib.Core.List.{List, [], _∷_, _++_}
 use mathlib.Core.Option.{Option, none, some}
-use lib.Dec.{eqb}
 use Rattle.lists.specs.Bytes.{eqs}
-use Rattle.lists.specs.Lists.{filterb, elemb}
 use Rattle.book_data.specs.declared.SubmittedEntry.{SubmittedEntry}
-use Rattle.book_data.specs.declared.SubmittedTx.{SubmittedTx}
 use Rattle.book_data.specs.declared.PendingSubmissionIntent.{PendingSubmissionIntent}
-use Rattle.book_data.specs.declared.PendingDelivery.{PendingDelivery}
-use Rattle.book_data.specs.declared.OptionalId.{OptionalId}
-use Rattle.book_data.specs.declared.OptionalId.the-variants.{NoId, Of}
 use Rattle.book_data.specs.declared.SubmissionDeliveryGoal.{SubmissionDeliveryGoal}
-use Rattle.book_data.specs.Model.{Book}
-use Rattle.book_data.specs.Sound.{readableBundle, idOf}
 use Rattle.book_data.specs.Zero.{isEnsureBroadcast}
-use Rattle.rules.specs.Call.{Cause, NoRetainedState, FeeIntentDiffers, InvalidRetainedState, IntentDiffers, IdCollides, OutputsUnreadable, IdsExhausted, Failure}
-use Rattle.rules.specs.Calls.Common.{withdraw}
-use Rattle.rules.specs.Keyed.{pick}
-use Rattle.rules.specs.Parts.{currentAcknowledged, feeUnresolved, activeEntry, sameFeeIntent, intentOf, validate}
-use Rattle.rules.specs.Rule.{done, tighten, revise, retain, emit, Rule, stop, _>>=_, _>>_, book, step}
-use Rattle.rules.specs.Specimens.Pieces.{failed}
+use Rattle.rules.specs.Call.{Cause, FeeIntentDiffers, InvalidRetainedState, IntentDiffers, Failure}
+use Rattle.rules.specs.Parts.{currentAcknowledged, feeUnresolved, activeEntry, sameFeeIntent, validate}
 
 -- what a drain remembers: the ids that were emitted, those that were removed, and the failures
 pub record Memory : Type 0 where
@@ -49,14 +37,6 @@ withFailure n c i f a = record {
 abbrev pub last64 : ℕ
 last64 = 18446744073709551615
 
--- "An id is emitted once a drain"; 11: "token needed, next token 2^64 − 1"
-unfoldable pub deliver : ℕ → SubmissionDeliveryGoal → Memory → Rule Memory
-deliver i g a = cond (elemb i (a .emitted)) (done a) (do
-  b ← book
-  cond (eqb (b .nextToken .0) last64) (stop 11) (do
-    step (emit i g)
-    done (withEmitted i a)))
-
 -- plan 2: "fee intents equal; `validate` passes; fingerprints equal"
 unfoldable pub missOf : PendingSubmissionIntent → List ℕ → SubmittedEntry → Option Cause
 unfolding sameFeeIntent validate
@@ -69,52 +49,3 @@ missOf p f e =
 unfoldable pub wanted : SubmissionDeliveryGoal → SubmittedEntry → Bool
 unfolding currentAcknowledged
 wanted g e = activeEntry e && cond (isEnsureBroadcast g) (not (currentAcknowledged e)) (feeUnresolved e)
-
--- plan 2, the candidate fits: "expiry becomes the smaller one present", also where nothing is emitted
-unfoldable pub met : PendingDelivery → SubmittedTx → Memory → Rule Memory
-unfolding wanted deliver
-met c t a = do
-  step (revise (idOf t) (tighten (c .intent .expiry)))
-  cond (wanted (c .goal) (t .entry)) (deliver (idOf t) (c .goal) a) (done a)
-
--- plan 2, a miss: "that submission is removed with its queue entries, here and in the remaining candidates, and retired"
-abbrev pub knownBy : ℕ → PendingDelivery → List ℕ → SubmittedTx → Memory → Option Cause → Rule Memory
-knownBy n c f t a none = met c t a
-knownBy n c f t a (some m) = do
-  withdraw (idOf t)
-  done (withFailure n m (idOf t) f (withRemoved (idOf t) a))
-
-unfoldable pub known : ℕ → PendingDelivery → List ℕ → SubmittedTx → Memory → Rule Memory
-unfolding missOf met withdraw
-known n c f t a = knownBy n c f t a (missOf (c .intent) f (t .entry))
-
--- plan 3: "next id already retained, SubmissionId; unreadable bundle, ExpectedOutputs; next id 2^64 − 1, SubmissionId. Else retain and emit"
-unfoldable pub unknown : ℕ → PendingDelivery → List ℕ → Book → Memory → Rule Memory
-unfolding readableBundle deliver
-unknown n c f b a =
-    cond (elemb (b .nextId .0) (map idOf (b .submitted))) (done (withFailure n IdCollides (b .nextId .0) f a))
-    (cond (not (readableBundle (c .intent .bundle))) (done (withFailure n OutputsUnreadable (b .nextId .0) f a))
-    (cond (eqb (b .nextId .0) last64) (done (withFailure n IdsExhausted (b .nextId .0) f a))
-    (do
-      step (retain (c .intent))
-      deliver (b .nextId .0) (c .goal) a)))
-
--- plan 1: "With an id: the retained one, else failure RetainedState without removal"
-abbrev pub named : ℕ → PendingDelivery → List ℕ → ℕ → Memory → List SubmittedTx → Rule Memory
-named n c f i a [] = done (withFailure n NoRetainedState i f a)
-named n c f i a (t ∷ ts) = known n c f t a
-
--- plan 1: "Without: first retained of equal intent fingerprint"
-abbrev pub unnamed : ℕ → PendingDelivery → List ℕ → Book → Memory → List SubmittedTx → Rule Memory
-unnamed n c f b a [] = unknown n c f b a
-unnamed n c f b a (t ∷ ts) = known n c f t a
-
-abbrev pub plannedBy : ℕ → PendingDelivery → List ℕ → Book → Memory → OptionalId → Rule Memory
-plannedBy n c f b a NoId = unnamed n c f b a (filterb (λ t. eqs (t .entry .«intent_fingerprint») f) (b .submitted))
-plannedBy n c f b a (Of i) = named n c f (i .0) a (pick idOf (i .0) (b .submitted))
-
-unfoldable pub candidate : ℕ → PendingDelivery → Memory → Rule Memory
-unfolding intentOf pick known unknown
-candidate n c a = do
-  b ← book
-  let f = intentOf (c .intent) in plannedBy n c f b a (c .intent .id)

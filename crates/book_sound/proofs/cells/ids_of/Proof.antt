@@ -4,7 +4,6 @@ use Rattle.lists.specs.Lists.{cells}
 use Rattle.book_data.specs.Sound.{idOf}
 use Rattle.book_data.specs.Counted.{map-step, take-cut, count-cut}
 use Rattle.book_data.specs.declared.SubmittedTx.{SubmittedTx}
-use Rattle.book_data.specs.declared.Ids16.{Ids16}
 use borrow.Author.Needs.{needs}
 use mathlib.Core.Path.{_≡_, refl, sym, ap, _∙_}
 use mathlib.Core.List.{List, map}

@@ -1,0 +1,65 @@
+use borrow.Author.Needs.{needs}
+use native.Mathlib.Omega.{arith}
+use mathlib.Core.Path.{_≡_, ap}
+use Prim.Native.Nat.{_-_, _≤_}
+use lib.ListN.{length}
+use Rattle.wire.specs.Wire.{encMany}
+use Rattle.wire.specs.Puts.{take-cut, size-as, Sizing, sizing-start, sizing-more, sizing-done}
+use Rattle.archive_form.specs.Encode.{encodeSubmitted}
+use Rattle.archive_size.proofs.size_submissions.Statement.{statement}
+use Rattle.archive_size.proofs.size_submissions.Tie as tie
+
+abbrev Inv-loop : tie.InvT-loop
+Inv-loop n a k r₀ i₀ r i = Sizing encodeSubmitted a 2430 k r i × (k ≤ 16) × (length a ≡ 16)
+
+abbrev μ-loop : tie.MeasureT-loop
+μ-loop n a k r₀ i₀ r i = k - i
+
+at-most-requires : tie.Need-at-most-requires Inv-loop μ-loop
+at-most-requires c κs = search needs
+
+loop-holds : tie.Need-loop-holds Inv-loop μ-loop
+loop-holds c = let l : length ((c .before .args) .t1) ≡ 16 = search needs in (sizing-start encodeSubmitted ((c .before .args) .t1) 2430 ((c .at-most) .result), omega (arith, (c .at-most) .ensures), l)
+
+mul-t : tie.Need-mul-t Inv-loop μ-loop
+mul-t c = search needs
+
+array-copy-out-t : tie.Need-array-copy-out-t Inv-loop μ-loop
+array-copy-out-t c = search needs
+
+size-submitted-requires : tie.Need-size-submitted-requires Inv-loop μ-loop
+size-submitted-requires c κs = search needs
+
+add-r : tie.Need-add-r Inv-loop μ-loop
+add-r c = omega (arith, (c .before .before .before .loop) .inv .0 .sum .few, (c .size-submitted) .ensures .few)
+
+add-i : tie.Need-add-i Inv-loop μ-loop
+add-i c = search needs
+
+loop-less : tie.Need-loop-less Inv-loop μ-loop
+loop-less c = search needs
+
+loop-again : tie.Need-loop-again Inv-loop μ-loop
+loop-again c = let l = (c .before .before .before .loop) in
+    (sizing-more _ encodeSubmitted ((c .before .before .before .before .before .args) .t1) 2430 ((c .before .before .before .before .at-most) .result) (l .r) (l .i) ((c .size-submitted) .result) (l .inv .0) ((c .before .before .loop-test) .taken) (omega (arith, l .inv .1, l .inv .2)) ((c .size-submitted) .ensures), l .inv .1, l .inv .2)
+
+returns : tie.Need-returns Inv-loop μ-loop
+returns c = let l = (c .before .loop) in let s = sizing-done encodeSubmitted ((c .before .before .before .args) .t1) 2430 ((c .before .before .at-most) .result) (l .r) (l .i) (l .inv .0) ((c .loop-test) .left) in
+    size-as (ap (encMany encodeSubmitted) (take-cut 16 ((c .before .before .before .args) .n) ((c .before .before .at-most) .result) ((c .before .before .before .args) .t1) (l .inv .2) ((c .before .before .at-most) .ensures))) (record { is = s .is; few = omega (arith, s .few, l .inv .1) })
+
+pub size-submissions-spec : {M : Type 1} → statement M
+size-submissions-spec =
+    tie.close
+    (tie.spec
+    Inv-loop
+    μ-loop
+    at-most-requires
+    loop-holds
+    mul-t
+    array-copy-out-t
+    size-submitted-requires
+    add-r
+    add-i
+    loop-less
+    loop-again
+    returns)

@@ -1,0 +1,190 @@
+// Changes of a book by value. The book is held in one local and its cells are changed in place.
+ghost use mathlib.Core.Path.{_≡_};
+ghost use mathlib.Core.Bool.{true};
+ghost use Prim.Native.Nat.{_+_, _<_};
+ghost use lib.ListN.{length};
+ghost use Rattle.book_data.specs.Model.{view, back};
+ghost use Rattle.book_data.specs.Sound.{idOf, soundDelivery};
+ghost use Rattle.rules.specs.Keyed.{without};
+ghost use Rattle.rules.specs.Rule.{enqueue, unqueue, unqueueAll, unretireAll};
+ghost use Rattle.rules.specs.Steps.{withSubmitted, noteBook, removeBook};
+ghost use Rattle.rules.specs.Calls.Plan.{last64};
+ghost use Rattle.replay.specs.Epoch.{replayedOf};
+ghost use Rattle.book_cells.specs.Normal.{Normal};
+ghost use Rattle.book_change.specs.Changes.{storedAt, issuedAt, grown, withEpochOf, retiring};
+use book_cells::is_id;
+use book_data::BookData;
+use book_data::PendingDelivery;
+use book_data::ReplayEpoch;
+use book_data::SubmissionId;
+use book_data::SubmittedTx;
+use book_data::Token;
+use ids::empty64;
+use ids::push_new64;
+
+// The book with one more retirement; full where that would be a 65th, and then the book as it was.
+pub struct Retired {
+    pub full: bool,
+    pub book: BookData,
+}
+
+// ---- submissions
+pub fn store_submitted(b: BookData, k: usize, t: SubmittedTx) -> BookData
+    requires { ⌜ Normal b × (k < length (view b .submitted)) ⌝ }
+    ensures { λ r. ⌜ r ≡ back (storedAt k t (view b)) ⌝ }
+{
+    let mut out = b;
+    out.submitted[k] = t;
+    out
+}
+
+// The submission at k as it is with the next token, which is taken.
+pub fn store_issued(b: BookData, k: usize, t: SubmittedTx) -> BookData
+    requires { ⌜ Normal b × (k < length (view b .submitted)) × (b .«next_delivery_attempt_token» .0 < last64) ⌝ }
+    ensures { λ r. ⌜ r ≡ back (issuedAt k t (view b)) ⌝ }
+{
+    let next = Token(b.next_delivery_attempt_token.0 + 1);
+    let mut out = b;
+    out.submitted[k] = t;
+    out.next_delivery_attempt_token = next;
+    out
+}
+
+// A new submission at the end; the next id is taken.
+pub fn push_submitted(b: BookData, t: SubmittedTx) -> BookData
+    requires { ⌜ Normal b × (length (view b .submitted) < 16) × (b .«next_submission_id» .0 < last64) ⌝ }
+    ensures { λ r. ⌜ r ≡ back (grown t (view b)) ⌝ }
+{
+    let n = b.submitted_count;
+    let next = SubmissionId(b.next_submission_id.0 + 1);
+    let mut out = b;
+    out.submitted[n] = t;
+    out.submitted_count = n + 1;
+    out.next_submission_id = next;
+    out
+}
+
+// The submission of the id goes.
+fn drop_submitted(b: BookData, id: SubmissionId) -> BookData
+    requires { ⌜ Normal b ⌝ }
+    ensures { λ r. ⌜ r ≡ back (withSubmitted (without idOf (id .0) (view b .submitted)) (view b)) ⌝ }
+{
+    let n = b.submitted_count;
+    let z = SubmittedTx::zero();
+    let mut out = b;
+    let mut w: usize = 0;
+    let mut i = 0;
+    while i < n {
+        let t = out.submitted[i];
+        out.submitted[i] = z;
+        if t.entry.id.0 == id.0 {
+            i += 1;
+        } else {
+            out.submitted[w] = t;
+            w += 1;
+            i += 1;
+        }
+    }
+    out.submitted_count = w;
+    out
+}
+
+// The submission of the id goes, with its queue entries and its replay mark.
+pub fn remove_submitted(b: BookData, id: SubmissionId) -> BookData
+    requires { ⌜ Normal b ⌝ }
+    ensures { λ r. ⌜ r ≡ back (removeBook (id .0) (view b)) ⌝ }
+{
+    let kept = drop_submitted(b, id);
+    let mut out = unqueue(kept, id);
+    let epoch = out.replay_epoch;
+    let next = replay::remove(epoch, id);
+    out.replay_epoch = next;
+    out
+}
+
+// ---- queue
+pub fn push_pending(b: BookData, d: PendingDelivery) -> BookData
+    requires { ⌜ Normal b × (length (view b .pending) < 16) × (soundDelivery d ≡ true) ⌝ }
+    ensures { λ r. ⌜ r ≡ back (noteBook (enqueue d) (view b)) ⌝ }
+{
+    let n = b.pending_count;
+    let mut out = b;
+    out.pending_deliveries[n] = d;
+    out.pending_count = n + 1;
+    out
+}
+
+pub fn clear_pending(b: BookData) -> BookData
+    requires { ⌜ Normal b ⌝ }
+    ensures { λ r. ⌜ r ≡ back (noteBook unqueueAll (view b)) ⌝ }
+{
+    let z = PendingDelivery::zero();
+    let none = [z; 16];
+    let mut out = b;
+    out.pending_deliveries = none;
+    out.pending_count = 0;
+    out
+}
+
+// The queue entries of the id go.
+pub fn unqueue(b: BookData, id: SubmissionId) -> BookData
+    requires { ⌜ Normal b ⌝ }
+    ensures { λ r. ⌜ r ≡ back (noteBook (unqueue (id .0)) (view b)) ⌝ }
+{
+    let n = b.pending_count;
+    let z = PendingDelivery::zero();
+    let mut out = b;
+    let mut w: usize = 0;
+    let mut i = 0;
+    while i < n {
+        let d = out.pending_deliveries[i];
+        out.pending_deliveries[i] = z;
+        let intent = d.intent;
+        let of = intent.id;
+        if is_id(of, id) {
+            i += 1;
+        } else {
+            out.pending_deliveries[w] = d;
+            w += 1;
+            i += 1;
+        }
+    }
+    out.pending_count = w;
+    out
+}
+
+// ---- retirements and replay epoch
+// `emit_retirement`.
+pub fn retire(b: BookData, id: SubmissionId) -> Retired
+    requires { ⌜ Normal b ⌝ }
+    ensures { λ r. ⌜ r ≡ retiring (id .0) (view b) ⌝ }
+{
+    let held = b.retired_submission_ids;
+    let next = push_new64(held, id);
+    let ids = next.ids;
+    let mut out = b;
+    out.retired_submission_ids = ids;
+    Retired {
+        full: next.full,
+        book: out,
+    }
+}
+
+pub fn clear_retired(b: BookData) -> BookData
+    requires { ⌜ Normal b ⌝ }
+    ensures { λ r. ⌜ r ≡ back (noteBook unretireAll (view b)) ⌝ }
+{
+    let none = empty64();
+    let mut out = b;
+    out.retired_submission_ids = none;
+    out
+}
+
+pub fn set_epoch(b: BookData, e: ReplayEpoch) -> BookData
+    requires { ⌜ Normal b × Rattle.replay.specs.Epoch.Normal e ⌝ }
+    ensures { λ r. ⌜ r ≡ back (withEpochOf (e .«rollback_height») (replayedOf e) (view b)) ⌝ }
+{
+    let mut out = b;
+    out.replay_epoch = e;
+    out
+}

@@ -1,0 +1,4 @@
+pub mod Counted
+pub mod Moving
+pub mod Ids
+pub mod IdLaws

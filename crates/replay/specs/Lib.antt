@@ -1,0 +1,2 @@
+pub mod Epoch
+pub mod EpochLaws

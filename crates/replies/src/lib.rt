@@ -1,0 +1,98 @@
+// What the calls of a book answer, beside the book that they leave. A refusal has paper 01's number; what stands beside a refusal is
+// empty. Arrays cannot stand in an enum, so each answer is a struct: whether the call was refused, its value, the book.
+use book_data::BookData;
+use book_data::Ids64;
+use book_data::OptionalAttempt;
+use book_data::OptionalHeight;
+use book_data::SpendBundle;
+use book_data::SubmissionFeeIntent;
+
+pub enum CallAnswer {
+    Done,
+    Refused(u8),
+}
+
+pub enum SubmissionAttemptStatus {
+    Applied,
+    Stale,
+}
+
+// `SubmissionFeeSource`: `Available` with its joined bundle, or with a join that failed. The joined bundle stands beside it.
+pub enum SubmissionFeeSource {
+    NotRequested,
+    Joined,
+    JoinFailed,
+    Failed,
+}
+
+pub enum FeeSourceDisposition {
+    Attached,
+    Unused,
+    NotRequested,
+}
+
+pub struct FinalizedSubmission {
+    pub bundle: SpendBundle,
+    pub applied_fee: u64,
+    pub warning: bool,
+    pub disposition: FeeSourceDisposition,
+    pub variant_fingerprint: [u8; 32],
+    pub should_broadcast: bool,
+}
+
+// A call without a value.
+pub struct DoneReply {
+    pub answer: CallAnswer,
+    pub book: BookData,
+}
+
+pub struct StatusReply {
+    pub answer: CallAnswer,
+    pub status: SubmissionAttemptStatus,
+    pub book: BookData,
+}
+
+pub struct IdsReply {
+    pub answer: CallAnswer,
+    pub ids: Ids64,
+    pub book: BookData,
+}
+
+pub struct FlagReply {
+    pub answer: CallAnswer,
+    pub flag: bool,
+    pub book: BookData,
+}
+
+pub struct HeightReply {
+    pub answer: CallAnswer,
+    pub height: OptionalHeight,
+    pub book: BookData,
+}
+
+pub struct AttemptReply {
+    pub answer: CallAnswer,
+    pub attempt: OptionalAttempt,
+    pub book: BookData,
+}
+
+pub struct FeeIntentReply {
+    pub answer: CallAnswer,
+    pub present: bool,
+    pub fee_intent: SubmissionFeeIntent,
+    pub book: BookData,
+}
+
+pub struct FinalizeReply {
+    pub answer: CallAnswer,
+    pub present: bool,
+    pub finalized: FinalizedSubmission,
+    pub book: BookData,
+}
+
+// A call that wrote its value into a lent buffer: the bytes written.
+pub struct WrittenReply {
+    pub answer: CallAnswer,
+    pub length: usize,
+    pub book: BookData,
+}

@@ -1,0 +1,105 @@
+-- Paper 01, "Specimens": those marked P that concern calls, in one table whose truth one theorem proves by computation.
+use Rattle.sha256.specs.Fips
+use mathlib.Core.Bool.{true, false}
+use mathlib.Core.List.{List, [], _∷_, map}
+use mathlib.Core.Option.{none, some}
+use mathlib.Core.Path.{_≡_, refl}
+use Rattle.lists.specs.Lists.{allb}
+use Rattle.book_data.specs.declared.OptionalHeight.the-variants.{NoHeight, At}
+use Rattle.book_data.specs.declared.OptionalId.the-variants.{NoId}
+use Rattle.book_data.specs.declared.SubmissionChainTerminality.the-variants.{Landed}
+use Rattle.book_data.specs.Sound.{soundLists}
+use Rattle.book_data.specs.Zero.{zeroBundle, zeroFeeIntent}
+use Rattle.rules.specs.Call.{Call, IdsExhausted, Applied, Stale, noValue, failures, statusIs, idsAre, flag, heightIs, attemptIs, written}
+use Rattle.rules.specs.Examples.{Specimen, play, played, claimed}
+use Rattle.rules.specs.Opened.{opened}
+use Rattle.rules.specs.Rule.{Exact, Initial, answer, refused}
+use Rattle.rules.specs.Examples.Pieces.{height, delivery, drained, failing, entryOf, spending, seventhId, noCoins, liveSlot, holding, fifteen}
+
+abbrev pub table : List Specimen
+table =
+    -- P empty queue drains to empty answers
+    record {
+      start = opened 5 1;
+      calls = Call.Drain ∷ [];
+      answers = answer [] (failures []) ∷ [];
+      leaves = (5 ∷ []) ∷ (1 ∷ []) ∷ [] ∷ [] ∷ [] ∷ [] ∷ [] ∷ [];
+    }
+    -- P next token 6, 5 not live: acknowledge 5 Stale; 6 refused 4
+    ∷ record {
+      start = opened 6 1;
+      calls = Call.AcknowledgeAttempt 5 ∷ Call.AcknowledgeAttempt 6 ∷ [];
+      answers = answer [] (statusIs Stale) ∷ refused 4 ∷ [];
+      leaves = (6 ∷ []) ∷ (1 ∷ []) ∷ [] ∷ [] ∷ [] ∷ [] ∷ [] ∷ [];
+    }
+    -- P begin 100 true, again false; finish 100 keeps, 101 clears
+    ∷ record {
+      start = opened 5 1;
+      calls = Call.BeginReplay (height 100) ∷ Call.BeginReplay (height 100) ∷ Call.FinishReplayIfAdvanced (height 100) ∷ Call.ReplayRollbackHeight
+          ∷ Call.FinishReplayIfAdvanced (height 101) ∷ Call.ReplayRollbackHeight ∷ [];
+      answers = answer [] (flag true) ∷ answer [] (flag false) ∷ answer [] noValue ∷ answer [] (heightIs (At (height 100)))
+          ∷ answer [] noValue ∷ answer [] (heightIs NoHeight) ∷ [];
+      leaves = (5 ∷ []) ∷ (1 ∷ []) ∷ [] ∷ [] ∷ [] ∷ [] ∷ [] ∷ [];
+    }
+    -- P Landed, only an input spent: reorg no Landed; halted
+    ∷ record {
+      start = holding (spending Landed) (liveSlot 5) [];
+      calls = Call.ReconcileChainTerminality noCoins seventhId false [] ∷ Call.ReconciliationInputCoins noCoins 9 ∷ Call.Attempt 5 ∷ Call.RelinquishCompletedAttempt 5 ∷ [];
+      answers = answer [] noValue ∷ answer [] (written noCoins) ∷ answer [] (attemptIs none) ∷ answer [] (statusIs Applied) ∷ [];
+      leaves = (6 ∷ []) ∷ (2 ∷ []) ∷ (1 ∷ []) ∷ (0 ∷ []) ∷ [] ∷ (1 ∷ []) ∷ [] ∷ [];
+    }
+    -- P the same, reorg yes InputSpent; halted
+    ∷ record {
+      start = holding (spending Landed) (liveSlot 5) (1 ∷ []);
+      calls = Call.ReconcileChainTerminality noCoins seventhId true [] ∷ Call.ReconciliationInputCoins noCoins 9 ∷ Call.Attempt 5 ∷ Call.RelinquishCompletedAttempt 5 ∷ [];
+      answers = answer [] noValue ∷ answer [] (written (0 ∷ 1 ∷ 1 ∷ 7 ∷ [])) ∷ answer [] (attemptIs none) ∷ answer [] (statusIs Applied) ∷ [];
+      leaves = (6 ∷ []) ∷ (2 ∷ []) ∷ (1 ∷ []) ∷ (0 ∷ []) ∷ [] ∷ (1 ∷ []) ∷ [] ∷ [];
+    }
+    -- P next token 2^64 − 2: issued; one more: 11, and what was retained stays
+    ∷ record {
+      start = opened 18446744073709551614 1;
+      calls = Call.Queue (delivery NoId 7) ∷ Call.Drain ∷ Call.RetainSubmitted (1 ∷ []) ∷ Call.Queue (delivery NoId 7) ∷ Call.Drain ∷ [];
+      answers = answer [] noValue ∷ answer (drained 1 18446744073709551614 none Initial 7 ∷ []) (failures []) ∷ answer [] (idsAre (1 ∷ []))
+          ∷ answer [] noValue ∷ refused 11 ∷ [];
+      leaves = (18446744073709551615 ∷ []) ∷ (3 ∷ []) ∷ (2 ∷ []) ∷ (7 ∷ []) ∷ [] ∷ (1 ∷ []) ∷ [] ∷ [];
+    }
+    -- P next id 2^64 − 1, new readable intent: SubmissionId
+    ∷ record {
+      start = opened 5 18446744073709551615;
+      calls = Call.Queue (delivery NoId 7) ∷ Call.Drain ∷ [];
+      answers = answer [] noValue ∷ answer [] (failures (failing 0 IdsExhausted 18446744073709551615 7 ∷ [])) ∷ [];
+      leaves = (5 ∷ []) ∷ (18446744073709551615 ∷ []) ∷ [] ∷ [] ∷ [] ∷ [] ∷ [] ∷ [];
+    }
+    -- P relinquish a live token: Stale
+    ∷ record {
+      start = opened 5 1;
+      calls = Call.Queue (delivery NoId 7) ∷ Call.Drain ∷ Call.RelinquishCompletedAttempt 5 ∷ [];
+      answers = answer [] noValue ∷ answer (drained 1 5 none Initial 7 ∷ []) (failures []) ∷ answer [] (statusIs Stale) ∷ [];
+      leaves = (6 ∷ []) ∷ (2 ∷ []) ∷ (1 ∷ []) ∷ (7 ∷ []) ∷ [] ∷ [] ∷ [] ∷ [];
+    }
+    -- P one intent queued twice: drained once. P drained, the same intent queued again for EnsureBroadcast, unacknowledged, drained:
+    -- predecessor first token, Exact
+    ∷ record {
+      start = opened 5 1;
+      calls = Call.Queue (delivery NoId 7) ∷ Call.Queue (delivery NoId 7) ∷ Call.Drain ∷ Call.Queue (delivery NoId 7) ∷ Call.Drain ∷ [];
+      answers = answer [] noValue ∷ answer [] noValue ∷ answer (drained 1 5 none Initial 7 ∷ []) (failures []) ∷ answer [] noValue
+          ∷ answer (drained 1 6 (some 5) Exact 7 ∷ []) (failures []) ∷ [];
+      leaves = (7 ∷ []) ∷ (2 ∷ []) ∷ (1 ∷ []) ∷ (7 ∷ []) ∷ [] ∷ [] ∷ [] ∷ [];
+    }
+    -- P 16th retained accepted, 17th refused 10. The two intents differ in their expiry alone
+    ∷ record {
+      start = fifteen;
+      calls = Call.Queue (delivery NoId 7) ∷ Call.Drain ∷ Call.Queue (delivery NoId 8) ∷ Call.Drain ∷ [];
+      answers = answer [] noValue ∷ answer (drained 16 5 none Initial 7 ∷ []) (failures []) ∷ answer [] noValue ∷ refused 10 ∷ [];
+      leaves = (6 ∷ []) ∷ (17 ∷ []) ∷ (1 ∷ 2 ∷ 3 ∷ 4 ∷ 5 ∷ 6 ∷ 7 ∷ 8 ∷ 9 ∷ 10 ∷ 11 ∷ 12 ∷ 13 ∷ 14 ∷ 15 ∷ 16 ∷ []) ∷ (0 ∷ 0 ∷ 0 ∷ 0 ∷ 0 ∷ 0 ∷ 0 ∷ 0 ∷ 0 ∷ 0 ∷ 0 ∷ 0 ∷ 0 ∷ 0 ∷ 0 ∷ 7 ∷ []) ∷ (0 ∷ []) ∷ [] ∷ [] ∷ [];
+    }
+    ∷ []
+
+pub specimens : map played table ≡ map claimed table
+unfolding play opened height holding zeroBundle spending entryOf liveSlot delivery drained failing fifteen seventhId noCoins zeroFeeIntent Fips.K Fips.H0 Fips.pad Fips.schedule Fips.round Fips.rounds Fips.plus Fips.hashed
+specimens = refl
+
+-- every one of them starts from a sound book
+pub specimens-sound : allb (λ s. soundLists (s .start)) table ≡ true
+unfolding soundLists opened holding zeroBundle spending entryOf liveSlot fifteen zeroFeeIntent
+specimens-sound = refl

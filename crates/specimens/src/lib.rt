@@ -1,0 +1,1 @@
+// The specimens of the papers, by computation; theorems only.

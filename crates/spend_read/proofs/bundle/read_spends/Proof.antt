@@ -1,0 +1,68 @@
+use Rattle.wire_bytes.specs.Filling.{Filling, filling-start, filling-more, filling-bad, filling-done}
+use Rattle.wire_bytes.specs.Reading.{gives, refuses, reads-got, reads-bad}
+use Rattle.book_data.specs.Zero.{zeroSpend}
+use Rattle.archive_form.specs.Parse.{parseSpend}
+use Rattle.spend_read.specs.Answers.{spends-is, cells-bad}
+use borrow.Author.Needs.{needs}
+use native.Mathlib.Omega.{arith}
+use mathlib.Core.Path.{_∙_}
+use Prim.Native.Nat.{zero, _-_}
+use Rattle.spend_read.proofs.bundle.read_spends.Statement.{statement}
+use Rattle.spend_read.proofs.bundle.read_spends.Tie as tie
+
+abbrev Inv-loop : tie.InvT-loop
+Inv-loop s at n base value₀ e₀ i₀ value e i = Filling 4 zeroSpend (λ before. parseSpend base) s at n value e i
+
+abbrev μ-loop : tie.MeasureT-loop
+μ-loop s at n base value₀ e₀ i₀ value e i = n - i
+
+zero-requires : tie.Need-zero-requires Inv-loop μ-loop
+zero-requires c κs = search needs
+
+loop-holds : tie.Need-loop-holds Inv-loop μ-loop
+loop-holds c = rw (c .zero .ensures) (filling-start 4 zeroSpend (λ before. parseSpend (c .before .before .args .base)) (c .before .before .args .s .now) (c .before .before .args .at) (c .before .before .args .n))
+
+read-spend-requires : tie.Need-read-spend-requires Inv-loop μ-loop
+read-spend-requires c κs = search needs
+
+no-spends-requires : tie.Need-no-spends-requires Inv-loop μ-loop
+no-spends-requires c κs = search needs
+
+returns : tie.Need-returns Inv-loop μ-loop
+returns c = rw (c .no-spends .ensures) (refuses _ (spends-is (c .before .before .before .before .before .before .before .args .base) (c .before .before .before .before .before .before .before .args .n) (c .before .before .before .before .before .before .before .args .s .now) (c .before .before .before .before .before .before .before .args .at) ∙ cells-bad zeroSpend (filling-bad (c .before .before .before .before .loop .inv) _ (c .before .before .before .loop-test .taken) (reads-bad (c .before .before .read-spend .ensures) (c .before .if1 .taken)))))
+
+mul-value : tie.Need-mul-value Inv-loop μ-loop
+mul-value c = search needs
+
+array-set-from-value : tie.Need-array-set-from-value Inv-loop μ-loop
+array-set-from-value c = search needs
+
+add-i : tie.Need-add-i Inv-loop μ-loop
+add-i c = search needs
+
+loop-less : tie.Need-loop-less Inv-loop μ-loop
+loop-less c = omega (arith, c .before .before .before .before .loop .inv .some)
+
+loop-again : tie.Need-loop-again Inv-loop μ-loop
+loop-again c = filling-more (c .before .before .before .before .loop .inv) _ _ (c .before .before .before .before .before .before .before .pre) (c .before .before .before .loop-test .taken) (reads-got (c .before .before .read-spend .ensures) (c .before .if1 .left))
+
+returns-2 : tie.Need-returns-2 Inv-loop μ-loop
+returns-2 c = gives _ (spends-is (c .before .before .before .before .args .base) (c .before .before .before .before .args .n) (c .before .before .before .before .args .s .now) (c .before .before .before .before .args .at) ∙ filling-done (c .before .loop .inv) (c .loop-test .left))
+
+pub read-spends-spec : {M : Type 1} → statement M
+read-spends-spec =
+    tie.close
+    (tie.spec
+    Inv-loop
+    μ-loop
+    zero-requires
+    loop-holds
+    read-spend-requires
+    no-spends-requires
+    returns
+    mul-value
+    array-set-from-value
+    add-i
+    loop-less
+    loop-again
+    returns-2)

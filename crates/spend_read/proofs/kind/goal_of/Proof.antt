@@ -1,0 +1,15 @@
+use Rattle.spend_read.specs.Parts.{after-one}
+use Rattle.archive_form.specs.Parse.{goalOf}
+use mathlib.Core.Path.{refl}
+use borrow.Author.Needs.{needs}
+use Rattle.spend_read.proofs.kind.goal_of.Statement.{statement}
+use Rattle.spend_read.proofs.kind.goal_of.Tie as tie
+
+returns : tie.Need-returns
+returns c = search needs
+
+returns-2 : tie.Need-returns-2
+returns-2 c = after-one goalOf (λ k. refl) (c .before .args .n) (c .if1 .left)
+
+pub goal-of-spec : {M : Type 1} → statement M
+goal-of-spec = tie.close (tie.spec returns returns-2)

@@ -1,0 +1,3 @@
+pub mod Drained
+pub mod Known
+pub mod Laws
