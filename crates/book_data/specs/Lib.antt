@@ -5,3 +5,4 @@ pub mod Typed
 pub mod ZeroLaws
 pub mod SoundLaws
 pub mod Counted
+pub mod Specimens

@@ -6,13 +6,14 @@ use Prim.Native.Nat.{ℕ}
 use mathlib.Core.Bool.{true}
 use mathlib.Core.List.{List, [], _∷_, map}
 use mathlib.Core.Option.{none}
-use mathlib.Core.Path.{_≡_, refl}
+use mathlib.Core.Path.{_≡_, refl, ap}
 use Rattle.lists.specs.Lists.{allb}
 use Rattle.book_data.specs.declared.OptionalId.the-variants.{NoId}
 use Rattle.book_data.specs.declared.SubmissionChainTerminality.the-variants.{Active, Landed}
 use Rattle.book_data.specs.Model.{Book}
 use Rattle.book_data.specs.Sound.{idOf, soundLists}
 use Rattle.book_data.specs.Zero.{zeroBundle, zeroFeeIntent}
+use Rattle.rules.specs.Books.{bookAfter, answersBook}
 use Rattle.rules.specs.Call.{Call, NoRetainedState, FeeIntentDiffers, Applied, Stale, Value, noValue, failures, statusIs, idsAre, written}
 use Rattle.rules.specs.Calls.{rules}
 use Rattle.rules.specs.Examples.Pieces.{noArchive, height, byId, heightNumber, queuedId, delivery, damaged, drained, failing, noFee, entryOf, spending, seventhId, noCoins, liveSlot, seventh, holding, fifteen, queueing, accepted}
@@ -44,6 +45,11 @@ unfoldable pub play : List Call → Book → Played
 unfolding rules run onBook full noArchive brief
 play [] b = record { says = []; end = brief b }
 play (c ∷ cs) b = let k = runBook (rules noArchive c) b in saying (answered k) (play cs (left b k))
+
+pub play-is : (cs : List Call) (b : Book) → play cs b ≡ record { says = answersBook noArchive cs b; end = brief (bookAfter noArchive cs b) }
+unfolding play answersBook bookAfter
+play-is [] b = refl
+play-is (c ∷ cs) b = ap (saying (answered (runBook (rules noArchive c) b))) (play-is cs (left b (runBook (rules noArchive c) b)))
 
 abbrev pub played : Specimen → Played
 played s = play (s .calls) (s .start)
