@@ -1,6 +1,7 @@
--- Paper 01, "Specimens": those marked P that concern calls, in one table whose truth one theorem proves by computation.
+-- Paper 01, "Specimens": those marked P, in one table whose truth one theorem proves by computation.
 use Rattle.sha256.specs.Fips
 use mathlib.Core.Bool.{true, false}
+use Prim.Native.Nat.{ℕ}
 use mathlib.Core.List.{List, [], _∷_, map}
 use mathlib.Core.Option.{none, some}
 use mathlib.Core.Path.{_≡_, refl}
@@ -11,13 +12,36 @@ use Rattle.book_data.specs.declared.SubmissionChainTerminality.the-variants.{La
 use Rattle.book_data.specs.Sound.{soundLists}
 use Rattle.book_data.specs.Zero.{zeroBundle, zeroFeeIntent}
 use Rattle.rules.specs.Call.{Call, IdsExhausted, Applied, Stale, noValue, failures, statusIs, idsAre, flag, heightIs, attemptIs, written}
-use Rattle.rules.specs.Examples.{Specimen, play, played, claimed}
+use Rattle.coin_string.specs.Amount.{atomOf}
+use Rattle.archive_form.specs.Encode.{encodeModel}
+use Rattle.rules.specs.Examples.{Specimen, Played, play, played, claimed}
 use Rattle.rules.specs.Opened.{opened}
 use Rattle.rules.specs.Rule.{Exact, Initial, answer, refused}
 use Rattle.rules.specs.Examples.Pieces.{height, delivery, drained, failing, entryOf, spending, seventhId, noCoins, liveSlot, holding, fifteen}
 
-abbrev pub table : List Specimen
-table =
+-- an amount and its atom; the numbers that a book is opened with and its archive; a list of calls
+pub data Row : Type 0 where
+  atom : ℕ → List ℕ → Row
+  archive : ℕ → ℕ → List ℕ → Row
+  listed : Specimen → Row
+
+pub data Shown : Type 0 where
+  bytes : List ℕ → Shown
+  plays : Played → Shown
+
+-- what the definitions give, and what the paper claims
+abbrev pub given : Row → Shown
+given (atom n s) = bytes (atomOf n)
+given (archive token id s) = bytes (encodeModel (opened token id))
+given (listed c) = plays (played c)
+
+abbrev pub wanted : Row → Shown
+wanted (atom n s) = bytes s
+wanted (archive token id s) = bytes s
+wanted (listed c) = plays (claimed c)
+
+abbrev pub lists : List Specimen
+lists =
     -- P empty queue drains to empty answers
     record {
       start = opened 5 1;
@@ -95,11 +119,22 @@ table =
     }
     ∷ []
 
-pub specimens : map played table ≡ map claimed table
-unfolding play opened height holding zeroBundle spending entryOf liveSlot delivery drained failing fifteen seventhId noCoins zeroFeeIntent Fips.K Fips.H0 Fips.pad Fips.schedule Fips.round Fips.rounds Fips.plus Fips.hashed
+abbrev pub table : List Row
+table =
+    -- P amounts 0, 127, 128, 2^64 − 1: atoms empty, 7f, 0080, 00 then eight ff
+    atom 0 []
+    ∷ atom 127 (0x7f ∷ [])
+    ∷ atom 128 (0 ∷ 0x80 ∷ [])
+    ∷ atom 18446744073709551615 (0 ∷ 0xff ∷ 0xff ∷ 0xff ∷ 0xff ∷ 0xff ∷ 0xff ∷ 0xff ∷ 0xff ∷ [])
+    -- P opened at token 5, id 1: archive 02 0000000000000005 0000000000000001 00 00 00 00 00
+    ∷ archive 5 1 (2 ∷ 0 ∷ 0 ∷ 0 ∷ 0 ∷ 0 ∷ 0 ∷ 0 ∷ 5 ∷ 0 ∷ 0 ∷ 0 ∷ 0 ∷ 0 ∷ 0 ∷ 0 ∷ 1 ∷ 0 ∷ 0 ∷ 0 ∷ 0 ∷ 0 ∷ [])
+    ∷ map listed lists
+
+pub specimens : map given table ≡ map wanted table
+unfolding encodeModel play opened height holding zeroBundle spending entryOf liveSlot delivery drained failing fifteen seventhId noCoins zeroFeeIntent Fips.K Fips.H0 Fips.pad Fips.schedule Fips.round Fips.rounds Fips.plus Fips.hashed
 specimens = refl
 
--- every one of them starts from a sound book
-pub specimens-sound : allb (λ s. soundLists (s .start)) table ≡ true
+-- every list starts from a sound book
+pub specimens-sound : allb (λ s. soundLists (s .start)) lists ≡ true
 unfolding soundLists opened holding zeroBundle spending entryOf liveSlot fifteen zeroFeeIntent
 specimens-sound = refl

@@ -1,4 +1,4 @@
--- What the loops over bytes do to a list: a copy, and the digits of a number.
+-- What the loops over bytes come to: a copy, and a number read digit by digit.
 use Prim.Native.Nat.{ℕ, zero, suc, _+_, _-_, _*_, _/_, _%_, _^_, _≤_, _<_}
 use mathlib.Core.Path.{_≡_, refl, sym, ap, _∙_, subst}
 use mathlib.Core.Bool.{Bool, true, false}
@@ -30,38 +30,6 @@ unfolding overlay
 store-done src d₀ d i e h k =
     let q : i ≡ length src = omega arith in
     record { count = q; bytes = e ∙ ap (λ (l : List ℕ). l ++ drop i d₀) (take-all i src k) ∙ ap (λ (n : ℕ). src ++ drop n d₀) q }
-
--- ---- a number, from its last byte to its first
-digit : (j v : ℕ) (d : List ℕ) → j < length d → be j (v / 256) ++ drop j (set d j (v % 256)) ≡ be (suc j) v ++ drop (suc j) d
-unfolding be
-digit j v d h =
-    let q : drop j (set d j (v % 256)) ≡ v % 256 ∷ drop (suc j) d =
-    ap (λ (l : List ℕ). drop j l) (set-split d j (v % 256) h) ∙ drop-at (take j d) (v % 256 ∷ drop (suc j) d) j (length-take-le j d (omega arith)) in
-    ap (λ (l : List ℕ). be j (v / 256) ++ l) q ∙ sym (append-assoc (be j (v / 256)) (v % 256 ∷ []) (drop (suc j) d))
-
-pub digit-step : (k v : ℕ) (d t : List ℕ) → 0 < k → k ≤ length d → be k v ++ drop k d ≡ t → be (k - 1) (v / 256) ++ drop (k - 1) (set d (k - 1) (v % 256)) ≡ t
-digit-step k v d t h m e =
-    let q : suc (k - 1) ≡ k = omega arith in
-    digit (k - 1) v d (omega arith) ∙ ap (λ (n : ℕ). be n v ++ drop n d) q ∙ e
-
-zero-digits : (v : ℕ) (d : List ℕ) → d ≡ be 0 v ++ drop 0 d
-unfolding be
-zero-digits v d = refl
-
-pub digits-done : (n k v : ℕ) (d₀ d : List ℕ) → k ≤ 0 → be k v ++ drop k d ≡ be 8 n ++ drop 8 d₀ → Wrote (be 8 n) d₀ d 8
-unfolding overlay
-digits-done n k v d₀ d h e =
-    let q : 0 ≡ k = omega arith in
-    record {
-      count = sym (be-length 8 n);
-      bytes = zero-digits v d ∙ ap (λ (i : ℕ). be i v ++ drop i d) q ∙ e ∙ ap (λ (i : ℕ). be 8 n ++ drop i d₀) (sym (be-length 8 n));
-    }
-
-pub byte-store : (n : ℕ) (d : List ℕ) → n < 256 → length (be 1 n) ≤ length d → Wrote (be 1 n) d (set d 0 n) 1
-unfolding be overlay
-byte-store n d h m =
-    let e : n % 256 ≡ n = omega arith in
-    record { count = refl; bytes = set-split d 0 n m ∙ ap (λ (x : ℕ). x ∷ drop 1 d) (sym e) }
 
 -- ---- reading a number
 pub digit-read : (s : List ℕ) (at i v t : ℕ) → i < 8 → at + 8 ≤ length s → beFrom v (take (8 - i) (drop (at + i) s)) ≡ t → beFrom (v * 256 + getD s (at + i) 0) (take (8 - (i + 1)) (drop (at + (i + 1)) s)) ≡ t

@@ -1,4 +1,4 @@
-// Bytes of archive forms: parts written at the start of a lent slice, and items read at a position.
+// Items of archive forms, read from a slice at a position.
 pub mod put;
 pub mod read;
 
