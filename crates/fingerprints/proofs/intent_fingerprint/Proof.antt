@@ -5,10 +5,10 @@ use lib.ListN.{replicate}
 use Rattle.wire.specs.Puts.{Room, room-first, puts-join, size-join}
 use Rattle.spend.specs.Forms.{encodeBundle, encodeHeight, encodeFeeIntent, intentFingerprint}
 use Rattle.sha256.specs.Fips.{sha256Of}
-use Rattle.fingerprint.specs.Laws.{room-at-start, front}
+use Rattle.fingerprints.specs.Laws.{room-at-start, front}
 use borrow.Author.Needs.{needs}
-use Rattle.fingerprint.proofs.intent_fingerprint.Statement.{statement}
-use Rattle.fingerprint.proofs.intent_fingerprint.Tie as tie
+use Rattle.fingerprints.proofs.intent_fingerprint.Statement.{statement}
+use Rattle.fingerprints.proofs.intent_fingerprint.Tie as tie
 
 size-bundle-requires : tie.Need-size-bundle-requires
 size-bundle-requires c κs = search needs

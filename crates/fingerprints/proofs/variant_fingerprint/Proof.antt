@@ -3,10 +3,10 @@ use mathlib.Core.Path.{ap, _∙_}
 use Prim.Native.Nat.{_-_}
 use Rattle.spend.specs.Forms.{variantFingerprint}
 use Rattle.sha256.specs.Fips.{sha256Of}
-use Rattle.fingerprint.specs.Laws.{room-at-start, front}
+use Rattle.fingerprints.specs.Laws.{room-at-start, front}
 use borrow.Author.Needs.{needs}
-use Rattle.fingerprint.proofs.variant_fingerprint.Statement.{statement}
-use Rattle.fingerprint.proofs.variant_fingerprint.Tie as tie
+use Rattle.fingerprints.proofs.variant_fingerprint.Statement.{statement}
+use Rattle.fingerprints.proofs.variant_fingerprint.Tie as tie
 
 size-bundle-requires : tie.Need-size-bundle-requires
 size-bundle-requires c κs = search needs

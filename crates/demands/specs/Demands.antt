@@ -1,0 +1,21 @@
+-- What is owed of the rules, with the archive form as archive writing has it. What is owed of the archive alone is archive_laws/Theorems.
+use Prim.Native.Nat.{ℕ}
+use mathlib.Core.Bool.{true}
+use mathlib.Core.List.{List}
+use mathlib.Core.Path.{_≡_}
+use Rattle.book_data.specs.declared.BookData.{BookData}
+use Rattle.book_data.specs.Model.{view, back}
+use Rattle.book_data.specs.Sound.{soundb}
+use Rattle.archive_form.specs.Encode.{encodeModel}
+use Rattle.rules.specs.Books.{callBook}
+use Rattle.rules.specs.Call.{Call}
+use Rattle.rule_laws.specs.Sound.Run.{sound-call-data}
+use Rattle.ledger.specs.Theorem.{Accounted, ledger-theorem}
+
+-- demand 3: one claim about every list of calls on a book opened with any two numbers
+pub ledger : (token id : ℕ) (calls : List Call) → Accounted encodeModel token id calls
+ledger = ledger-theorem encodeModel
+
+-- "Every call leaves a sound book."
+pub sound : (c : Call) (b : BookData) → soundb b ≡ true → soundb (back (callBook encodeModel c (view b))) ≡ true
+sound = sound-call-data encodeModel

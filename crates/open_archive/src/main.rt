@@ -1,0 +1,27 @@
+// Reads two 8-byte numbers, the next token and the next submission id, and writes the archive of the book opened with them: 22 bytes.
+use archive::Wrote;
+use book_data::SubmissionId;
+use book_data::Token;
+use wire_bytes::read::read_number;
+
+fn refuse(text: &[u8]) {
+    io::write_all(2, text);
+}
+
+fn main() {
+    let mut numbers = [0u8; 16];
+    let got = io::read_full(0, &mut numbers);
+    if got < 16 {
+        refuse(b"open_archive: two numbers of 8 bytes are wanted\n");
+        return;
+    }
+    let token = read_number(&numbers, 0);
+    let id = read_number(&numbers, 8);
+    let book = open_book::open(Token(token.value), SubmissionId(id.value));
+    let mut out = [0u8; 22];
+    let Wrote::Bytes(_n) = archive::write_archive(book, &mut out) else {
+        refuse(b"open_archive: the archive does not fit\n");
+        return;
+    };
+    io::write_all(1, &out);
+}
