@@ -39,8 +39,7 @@ unsound s d l e = (sym (ap (λ (b : Bool). wroteOf b d l) e), sym (ap (λ (b : B
 pub short : (s : Bool) (d l : List ℕ) → s ≡ true → length d < length l → (Short ≡ wroteOf s d l) × (d ≡ leftIn s d l)
 unfolding wroteOf leftIn
 short s d l e h =
-    let q = lt-leb (length l) (length d) h in
-    (
+    let q = lt-leb (length l) (length d) h in (
       sym (ap (λ (b : Bool). wroteOf b d l) e ∙ ap (λ (b : Bool). pick b (Bytes (length l)) Short) q),
       sym (ap (λ (b : Bool). leftIn b d l) e ∙ ap (λ (b : Bool). pick b (overlay l d) d) q),
     )
@@ -49,8 +48,7 @@ pub whole : (s : Bool) (d d′ l : List ℕ) (n : ℕ) → s ≡ true → length
 unfolding wroteOf leftIn
 whole s d d′ l n e h p =
     let q = le-leb (length l) (length d) h in
-    let o = puts-overlay p in
-    (
+    let o = puts-overlay p in (
       ap Bytes (o .0) ∙ sym (ap (λ (b : Bool). wroteOf b d l) e ∙ ap (λ (b : Bool). pick b (Bytes (length l)) Short) q),
       o .1 ∙ sym (ap (λ (b : Bool). leftIn b d l) e ∙ ap (λ (b : Bool). pick b (overlay l d) d) q),
     )

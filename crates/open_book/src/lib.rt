@@ -25,10 +25,16 @@ pub fn open(token: Token, id: SubmissionId) -> BookData
         submitted: [s; 16],
         pending_count: 0,
         pending_deliveries: [d; 16],
-        retired_submission_ids: Ids64 { count: 0, items: [0; 64] },
+        retired_submission_ids: Ids64 {
+            count: 0,
+            items: [0; 64],
+        },
         replay_epoch: ReplayEpoch {
             rollback_height: OptionalHeight::NoHeight,
-            replayed_submission_ids: Ids16 { count: 0, items: [0; 16] },
+            replayed_submission_ids: Ids16 {
+                count: 0,
+                items: [0; 16],
+            },
         },
     }
 }
