@@ -1,11 +1,12 @@
 # `make run` and `make test` are all that a fresh machine with the Rattle kit needs.
-.PHONY: help run test bench lib fmt
+.PHONY: help run test bench lib fmt archives
 
 help:
 	@echo "make run    open a book at token 5, id 1 and show its archive"
 	@echo "make test   the gate: every proof, must-fail edit and program (.ci/run)"
-	@echo "make bench  SHA-256 against a plain Rust build, in one run"
-	@echo "make lib    the static library of the leaves that are exported so far"
+	@echo "make bench  SHA-256 and archives against plain Rust builds, in one run"
+	@echo "make lib    static libraries of what is exported so far"
+	@echo "make archives  damaged archives, read here and by the Rust side's decoder"
 	@echo "make fmt    the layout of every source, specification and proof"
 
 # The two opening numbers, 8 bytes each, in; the 22 bytes of the new book's archive out.
@@ -18,10 +19,16 @@ test:
 
 bench:
 	@bench/sha256/run.sh
+	@bench/archive/run.sh
+
+archives:
+	@rt check archive_driver >/dev/null
+	@cd tests/oracle && cargo build --release --offline
+	@tests/oracle/target/release/oracle archives --driver target/bin/archive_driver --seed 1 --archives 5
 
 lib:
 	rt staticlib sha256_c
-	@echo target/staticlib/libsha256_c.a
+	rt staticlib archive_c
 
 fmt:
 	rt fmt

@@ -2,7 +2,7 @@
 //! tokens, ids and coins mostly mean something.
 
 pub mod books;
-mod calls;
+pub mod calls;
 pub mod damage;
 pub mod pool;
 

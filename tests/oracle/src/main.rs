@@ -14,6 +14,7 @@ mod rng;
 mod selftest;
 mod show;
 mod shrink;
+mod theorems;
 
 use std::io::{Read, Write};
 use std::path::PathBuf;
@@ -34,6 +35,7 @@ oracle replay  --driver PATH [--driver-arg A]... --from FOLDER
 oracle record  --out FOLDER [--seed S] [--scripts N] [--pool N] [--bytes N]
 oracle mutants [--only N] [--driver PATH] [--seed S] [--scripts N] [--show]
 oracle restorable [--seed S] [--scripts N]
+oracle theorems --out CRATES [--seed S] [--lists N] [--blocks N] [--pool N] [--per-crate N]
 oracle selftest";
 
 struct Options {
@@ -148,6 +150,22 @@ fn main() -> ExitCode {
         ),
         "restorable" => {
             restorable::run(seed, options.number("--scripts", 2000));
+            true
+        }
+        "theorems" => {
+            let bounds = theorems::Bounds {
+                lists: options.number("--lists", 36) as usize,
+                per_crate: options.number("--per-crate", 9) as usize,
+                blocks: options.number("--blocks", 13) as usize,
+                pool: options.number("--pool", 20_000),
+            };
+            let words = options.words.join(" ");
+            theorems::write(
+                seed,
+                &bounds,
+                &options.path("--out"),
+                &format!("oracle theorems {words}"),
+            );
             true
         }
         "selftest" => {

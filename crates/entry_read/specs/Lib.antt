@@ -1,0 +1,2 @@
+pub mod Attempts
+pub mod Entries

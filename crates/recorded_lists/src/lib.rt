@@ -1,0 +1,1 @@
+// Lists of calls that the Rust answered, under the rules; theorems only, in specs/.

@@ -1,0 +1,1 @@
+// Lists of calls that the Rust answered, as theorems about the rules; in specs/.
