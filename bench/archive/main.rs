@@ -1,28 +1,14 @@
 //! Times the proved reader and writer of archives and plain ones on the same bytes, turn about, and prints a table.
+#[path = "../clock.rs"]
+mod clock;
 mod plain;
 
+use clock::now;
 use std::hint::black_box;
-
-#[repr(C)]
-struct Timespec {
-    seconds: i64,
-    nanoseconds: i64,
-}
-
-const CLOCK_PROCESS_CPUTIME_ID: i32 = 2;
 
 extern "C" {
     fn wotzenka_archive_read(bytes: *const u8, length: usize) -> u64;
     fn wotzenka_archive_rewrite(bytes: *const u8, length: usize, out: *mut u8, room: usize, times: u64) -> u64;
-    fn clock_gettime(clock: i32, time: *mut Timespec) -> i32;
-}
-
-/// The processor time that this program has used, in seconds.
-fn now() -> f64 {
-    let mut time = Timespec { seconds: 0, nanoseconds: 0 };
-    // The clock is Linux's, and the struct is C's.
-    assert_eq!(unsafe { clock_gettime(CLOCK_PROCESS_CPUTIME_ID, &mut time) }, 0);
-    time.seconds as f64 + time.nanoseconds as f64 / 1e9
 }
 
 fn seconds(mut work: impl FnMut()) -> f64 {

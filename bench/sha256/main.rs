@@ -1,27 +1,13 @@
 //! Times the proved SHA-256 and the plain one on the same messages, turn about, and prints a table.
+#[path = "../clock.rs"]
+mod clock;
 mod plain;
 
+use clock::now;
 use std::hint::black_box;
-
-#[repr(C)]
-struct Timespec {
-    seconds: i64,
-    nanoseconds: i64,
-}
-
-const CLOCK_PROCESS_CPUTIME_ID: i32 = 2;
 
 extern "C" {
     fn wotzenka_sha256(message: *const u8, length: usize, digest: *mut [u8; 32]);
-    fn clock_gettime(clock: i32, time: *mut Timespec) -> i32;
-}
-
-/// The processor time that this program has used, in seconds: what other programs use does not count.
-fn now() -> f64 {
-    let mut time = Timespec { seconds: 0, nanoseconds: 0 };
-    // The clock is Linux's, and the struct is C's.
-    assert_eq!(unsafe { clock_gettime(CLOCK_PROCESS_CPUTIME_ID, &mut time) }, 0);
-    time.seconds as f64 + time.nanoseconds as f64 / 1e9
 }
 
 fn proved(message: &[u8]) -> [u8; 32] {
