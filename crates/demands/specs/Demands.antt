@@ -6,10 +6,12 @@ use mathlib.Core.Path.{_≡_}
 use Rattle.book_data.specs.declared.BookData.{BookData}
 use Rattle.book_data.specs.Model.{view, back}
 use Rattle.book_data.specs.Sound.{soundb}
+use Rattle.book_data.specs.SoundLaws.{sound-back}
 use Rattle.archive_form.specs.Encode.{encodeModel}
-use Rattle.rules.specs.Books.{callBook}
+use Rattle.rules.specs.Books.{callBook, bookAfter}
 use Rattle.rules.specs.Call.{Call}
-use Rattle.rule_laws.specs.Sound.Run.{sound-call-data}
+use Rattle.rules.specs.Opened.{opened}
+use Rattle.rule_laws.specs.Sound.Run.{sound-call-data, sound-opened, sound-after}
 use Rattle.ledger.specs.Theorem.{Accounted, ledger-theorem}
 
 -- demand 3: one claim about every list of calls on a book opened with any two numbers
@@ -19,3 +21,9 @@ ledger = ledger-theorem encodeModel
 -- "Every call leaves a sound book."
 pub sound : (c : Call) (b : BookData) → soundb b ≡ true → soundb (back (callBook encodeModel c (view b))) ≡ true
 sound = sound-call-data encodeModel
+
+-- no call of a list is refused 1: this rules out the sham book "every book refused 1"
+pub never-refused-1 : (token id : ℕ) (calls : List Call) → soundb (back (bookAfter encodeModel calls (opened token id))) ≡ true
+never-refused-1 token id calls =
+    let k = sound-after encodeModel calls (opened token id) (sound-opened token id) in
+    sound-back (bookAfter encodeModel calls (opened token id)) (k .fits) (k .lists)
