@@ -1,0 +1,4 @@
+pub mod Holds
+pub mod Acts
+pub mod Room
+pub mod Door
