@@ -11,7 +11,7 @@ use book_data::SubmissionId;
 use book_data::SubmittedTx;
 use book_data::Token;
 ghost use mathlib.Core.Path.{_≡_};
-ghost use mathlib.Core.Bool.{false};
+ghost use mathlib.Core.Bool.{true, false};
 ghost use Rattle.archive_form.specs.Parse.{readArchive};
 ghost use Rattle.archive_read.specs.Archive.{zeroBook, archiveAnswer};
 
@@ -106,6 +106,16 @@ fn refused(place: usize) -> ReadArchive
     }
 }
 
+fn accepted(book: BookData) -> ReadArchive
+    ensures { λ r. ⌜ r ≡ record { ok = true; place = 0; book = book } ⌝ }
+{
+    ReadArchive {
+        ok: true,
+        place: 0,
+        book,
+    }
+}
+
 pub fn read_archive(s: &[u8]) -> ReadArchive
     ensures { λ r. ⌜ r ≡ archiveAnswer (readArchive (now (s .entry))) ⌝ }
 {
@@ -147,9 +157,5 @@ pub fn read_archive(s: &[u8]) -> ReadArchive
         retired_submission_ids,
         replay_epoch,
     };
-    ReadArchive {
-        ok: true,
-        place: 0,
-        book,
-    }
+    accepted(book)
 }

@@ -10,7 +10,7 @@ use spend_read::bundle;
 use wire_bytes::ReadNumber;
 use wire_bytes::read;
 ghost use mathlib.Core.Path.{_≡_};
-ghost use mathlib.Core.Bool.{false};
+ghost use mathlib.Core.Bool.{true, false};
 ghost use mathlib.Core.List.{map};
 ghost use Prim.Native.Nat.{_≤_};
 ghost use lib.ListN.{take};
@@ -78,6 +78,16 @@ fn no_entry(at: usize) -> ReadEntry
 }
 
 // What follows the slots: intent fingerprint, base bundle, variant, facts.
+fn got_entry(value: SubmittedEntry, at: usize) -> ReadEntry
+    ensures { λ r. ⌜ r ≡ record { ok = true; value = value; at = at } ⌝ }
+{
+    ReadEntry {
+        ok: true,
+        value,
+        at,
+    }
+}
+
 fn read_entry(s: &[u8], at: usize, id: u64) -> ReadEntry
     ensures { λ r. ⌜ Reads zeroEntry (parseEntry id (now (s .entry)) at) (r .ok) (r .value) (r .at) ⌝ }
 {
@@ -117,11 +127,7 @@ fn read_entry(s: &[u8], at: usize, id: u64) -> ReadEntry
         wallet_acknowledged_variant,
         status,
     };
-    ReadEntry {
-        ok: true,
-        value,
-        at: f.at,
-    }
+    got_entry(value, f.at)
 }
 
 fn no_submitted(at: usize) -> ReadSubmitted

@@ -11,7 +11,7 @@ use spend_read::kind;
 use spend_read::part;
 use wire_bytes::read;
 ghost use mathlib.Core.Path.{_≡_};
-ghost use mathlib.Core.Bool.{false};
+ghost use mathlib.Core.Bool.{true, false};
 ghost use Rattle.wire_bytes.specs.Reading.{Reads};
 ghost use Rattle.book_data.specs.Zero.{baseVariant};
 ghost use Rattle.archive_form.specs.Parse.{parseVariant};
@@ -76,6 +76,26 @@ fn no_facts(at: usize) -> ReadFacts
     }
 }
 
+fn got_facts(
+    fee_intent: SubmissionFeeIntent,
+    acknowledged: OptionalHash,
+    status: SubmissionStatus,
+    at: usize,
+) -> ReadFacts
+    ensures { λ r. ⌜ r ≡ record { ok = true; value = record { «fee_intent» = «fee_intent»; acknowledged = acknowledged; status = status }; at = at } ⌝ }
+{
+    let value = EntryFacts {
+        fee_intent,
+        acknowledged,
+        status,
+    };
+    ReadFacts {
+        ok: true,
+        value,
+        at,
+    }
+}
+
 pub fn read_facts(s: &[u8], at: usize) -> ReadFacts
     ensures { λ r. ⌜ Reads zeroFacts (parseEntryFacts (now (s .entry)) at) (r .ok) (r .value) (r .at) ⌝ }
 {
@@ -114,14 +134,5 @@ pub fn read_facts(s: &[u8], at: usize) -> ReadFacts
         chain_terminality,
         expiry,
     };
-    let value = EntryFacts {
-        fee_intent,
-        acknowledged,
-        status,
-    };
-    ReadFacts {
-        ok: true,
-        value,
-        at: e.at,
-    }
+    got_facts(fee_intent, acknowledged, status, e.at)
 }

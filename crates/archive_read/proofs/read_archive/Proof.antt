@@ -53,8 +53,11 @@ returns-5 : tie.Need-returns-5
 unfolding wholeInParts
 returns-5 c = c .refused5 .ensures ∙ answer-bad (c .before .before .before .before .before .before .before .before .before .before .before .before .before .args .s .now) (whole-is (c .before .before .before .before .before .before .before .before .before .before .before .before .before .args .s .now) 0 ∙ rw (reads-got (c .before .before .before .before .before .before .before .before .before .before .before .read-numbers .ensures) (c .before .before .before .before .before .before .before .before .before .before .if1 .left), cells-got (c .before .before .before .before .before .before .before .before .before .read-retained .ensures) (c .before .before .before .before .before .before .before .before .if2 .left), cells-got (c .before .before .before .before .before .before .before .read-queue .ensures) (c .before .before .before .before .before .before .if3 .left), tail-got (c .before .before .before .before .read-tail .ensures) (c .before .before .before .if4 .left)) (end-over _ (c .before .before .before .before .before .before .before .before .before .before .before .before .before .args .s .now) _ (c .before .if5 .taken)))
 
+accepted-requires : tie.Need-accepted-requires
+accepted-requires c κs = search needs
+
 returns-6 : tie.Need-returns-6
-returns-6 c = answer-got (c .before .before .before .before .before .before .before .before .before .before .before .before .before .before .before .args .s .now) (whole-got (c .before .before .before .before .before .before .before .before .before .before .before .before .before .before .before .args .s .now) (reads-got (c .before .before .before .before .before .before .before .before .before .before .before .before .before .read-numbers .ensures) (c .before .before .before .before .before .before .before .before .before .before .before .before .if1 .left)) (cells-got (c .before .before .before .before .before .before .before .before .before .before .before .read-retained .ensures) (c .before .before .before .before .before .before .before .before .before .before .if2 .left)) (cells-got (c .before .before .before .before .before .before .before .before .before .read-queue .ensures) (c .before .before .before .before .before .before .before .before .if3 .left)) (tail-got (c .before .before .before .before .before .before .read-tail .ensures) (c .before .before .before .before .before .if4 .left)) (c .before .before .before .if5 .left)) (book-back _ _ (c .before .before .before .before .before .before .before .before .before .before .before .read-retained .ensures) (c .before .before .before .before .before .before .before .before .before .read-queue .ensures) (c .before .before .before .before .before .before .read-tail .ensures))
+returns-6 c = c .accepted .ensures ∙ answer-got (c .before .before .before .before .before .before .before .before .before .before .before .before .before .before .before .before .args .s .now) (whole-got (c .before .before .before .before .before .before .before .before .before .before .before .before .before .before .before .before .args .s .now) (reads-got (c .before .before .before .before .before .before .before .before .before .before .before .before .before .before .read-numbers .ensures) (c .before .before .before .before .before .before .before .before .before .before .before .before .before .if1 .left)) (cells-got (c .before .before .before .before .before .before .before .before .before .before .before .before .read-retained .ensures) (c .before .before .before .before .before .before .before .before .before .before .before .if2 .left)) (cells-got (c .before .before .before .before .before .before .before .before .before .before .read-queue .ensures) (c .before .before .before .before .before .before .before .before .before .if3 .left)) (tail-got (c .before .before .before .before .before .before .before .read-tail .ensures) (c .before .before .before .before .before .before .if4 .left)) (c .before .before .before .before .if5 .left)) (book-back _ _ (c .before .before .before .before .before .before .before .before .before .before .before .before .read-retained .ensures) (c .before .before .before .before .before .before .before .before .before .before .read-queue .ensures) (c .before .before .before .before .before .before .before .read-tail .ensures))
 
 pub read-archive-spec : {M : Type 1} → statement M
 read-archive-spec =
@@ -74,4 +77,5 @@ read-archive-spec =
     returns-4
     refused-requires-5
     returns-5
+    accepted-requires
     returns-6)

@@ -45,9 +45,12 @@ returns-4 : tie.Need-returns-4
 unfolding parseEntry
 returns-4 c = rw (c .no-entry4 .ensures) (refuses zeroEntry (rw (reads-got (c .before .before .before .before .before .before .before .before .read-hash .ensures) (c .before .before .before .before .before .before .before .if1 .left), reads-got (c .before .before .before .before .before .before .read-bundle .ensures) (c .before .before .before .before .before .if2 .left), reads-got (c .before .before .before .before .read-variant .ensures) (c .before .before .before .if3 .left), reads-bad (c .before .before .read-facts .ensures) (c .before .if4 .taken))))
 
+got-entry-requires : tie.Need-got-entry-requires
+got-entry-requires c κs = search needs
+
 returns-5 : tie.Need-returns-5
 unfolding parseEntry
-returns-5 c = gives zeroEntry (rw (reads-got (c .before .before .before .before .before .before .before .before .before .before .before .before .before .before .read-hash .ensures) (c .before .before .before .before .before .before .before .before .before .before .before .before .before .if1 .left), reads-got (c .before .before .before .before .before .before .before .before .before .before .before .before .read-bundle .ensures) (c .before .before .before .before .before .before .before .before .before .before .before .if2 .left), reads-got (c .before .before .before .before .before .before .before .before .before .before .read-variant .ensures) (c .before .before .before .before .before .before .before .before .before .if3 .left), reads-got (c .before .before .before .before .before .before .before .before .read-facts .ensures) (c .before .before .before .before .before .before .before .if4 .left)))
+returns-5 c = rw (c .got-entry .ensures) (gives zeroEntry (rw (reads-got (c .before .before .before .before .before .before .before .before .before .before .before .before .before .before .before .read-hash .ensures) (c .before .before .before .before .before .before .before .before .before .before .before .before .before .before .if1 .left), reads-got (c .before .before .before .before .before .before .before .before .before .before .before .before .before .read-bundle .ensures) (c .before .before .before .before .before .before .before .before .before .before .before .before .if2 .left), reads-got (c .before .before .before .before .before .before .before .before .before .before .before .read-variant .ensures) (c .before .before .before .before .before .before .before .before .before .before .if3 .left), reads-got (c .before .before .before .before .before .before .before .before .before .read-facts .ensures) (c .before .before .before .before .before .before .before .before .if4 .left))))
 
 pub read-entry-spec : {M : Type 1} → statement M
 read-entry-spec =
@@ -65,4 +68,5 @@ read-entry-spec =
     read-facts-requires
     no-entry-requires-4
     returns-4
+    got-entry-requires
     returns-5)

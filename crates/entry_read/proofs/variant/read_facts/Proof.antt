@@ -55,9 +55,12 @@ returns-5 : tie.Need-returns-5
 unfolding parseEntryFacts
 returns-5 c = rw (c .no-facts5 .ensures) (refuses zeroFacts (rw (reads-got (c .before .before .before .before .before .before .before .before .before .before .read-resolution .ensures) (c .before .before .before .before .before .before .before .before .before .if1 .left), reads-got (c .before .before .before .before .before .before .before .before .read-fee-intent .ensures) (c .before .before .before .before .before .before .before .if2 .left), reads-got (c .before .before .before .before .before .before .read-optional-hash .ensures) (c .before .before .before .before .before .if3 .left), reads-got (c .before .before .before .before .read-chain .ensures) (c .before .before .before .if4 .left), reads-bad (c .before .before .read-height .ensures) (c .before .if5 .taken))))
 
+got-facts-requires : tie.Need-got-facts-requires
+got-facts-requires c κs = search needs
+
 returns-6 : tie.Need-returns-6
 unfolding parseEntryFacts
-returns-6 c = gives zeroFacts (rw (reads-got (c .before .before .before .before .before .before .before .before .before .before .before .read-resolution .ensures) (c .before .before .before .before .before .before .before .before .before .before .if1 .left), reads-got (c .before .before .before .before .before .before .before .before .before .read-fee-intent .ensures) (c .before .before .before .before .before .before .before .before .if2 .left), reads-got (c .before .before .before .before .before .before .before .read-optional-hash .ensures) (c .before .before .before .before .before .before .if3 .left), reads-got (c .before .before .before .before .before .read-chain .ensures) (c .before .before .before .before .if4 .left), reads-got (c .before .before .before .read-height .ensures) (c .before .before .if5 .left)))
+returns-6 c = rw (c .got-facts .ensures) (gives zeroFacts (rw (reads-got (c .before .before .before .before .before .before .before .before .before .before .before .before .read-resolution .ensures) (c .before .before .before .before .before .before .before .before .before .before .before .if1 .left), reads-got (c .before .before .before .before .before .before .before .before .before .before .read-fee-intent .ensures) (c .before .before .before .before .before .before .before .before .before .if2 .left), reads-got (c .before .before .before .before .before .before .before .before .read-optional-hash .ensures) (c .before .before .before .before .before .before .before .if3 .left), reads-got (c .before .before .before .before .before .before .read-chain .ensures) (c .before .before .before .before .before .if4 .left), reads-got (c .before .before .before .before .read-height .ensures) (c .before .before .before .if5 .left))))
 
 pub read-facts-spec : {M : Type 1} → statement M
 read-facts-spec =
@@ -78,4 +81,5 @@ read-facts-spec =
     read-height-requires
     no-facts-requires-5
     returns-5
+    got-facts-requires
     returns-6)
