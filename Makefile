@@ -1,9 +1,10 @@
 # `make run` and `make test` are all that a fresh machine with the Rattle kit needs.
-.PHONY: help run test bench lib fmt archives
+.PHONY: help run test compare bench lib fmt archives
 
 help:
 	@echo "make run    open a book at token 5, id 1 and show its archive"
 	@echo "make test   the gate: every proof, must-fail edit and program (.ci/run)"
+	@echo "make compare N=6000 SEED=1  so many scripts, played by the driver and by the Rust"
 	@echo "make bench  SHA-256 and archives against plain Rust builds, in one run"
 	@echo "make lib    static libraries of what is exported so far"
 	@echo "make archives  damaged archives, read here and by the Rust side's decoder"
@@ -16,6 +17,13 @@ run:
 
 test:
 	@.ci/run
+
+# The driver against the Rust on N seeded scripts of about 20 calls each.
+N ?= 6000
+SEED ?= 1
+compare:
+	@rt check book_driver >/dev/null
+	@tests/oracle/check "$(CURDIR)/target/bin/book_driver" $(SEED) $(N)
 
 bench:
 	@bench/sha256/run.sh
