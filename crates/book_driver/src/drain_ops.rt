@@ -29,13 +29,12 @@ fn append_one(out: &mut [u8], at: usize, f: SubmissionDrainFailure) -> usize {
     let cause = f.cause;
     let id = f.candidate_id;
     let fingerprint = f.intent_fingerprint;
-    let retained = retained_id(f);
     let stage = stage_number(stage_of(cause));
-    let index = f.candidate_index as u64;
+    let retained = retained_id(f);
     append_failure(
         out,
         at,
-        index,
+        f.candidate_index as u64,
         retained,
         OptionalId::Of(id),
         fingerprint,
@@ -56,23 +55,23 @@ fn append_failures(out: &mut [u8], at: usize, a: [SubmissionDrainFailure; 16], n
     e
 }
 
-fn finish_drain(r: DrainAnswer, at: usize) -> Step {
+fn finish_drained(r: DrainAnswer, at: usize) -> Step {
     let answer = r.answer;
-    let submissions = r.submissions;
-    let failures = r.failures;
     let book = r.book;
     let n = refusal_number(answer);
     if n != 0 {
         return finish_with(n, book, at);
     }
+    let submissions = r.submissions;
+    let failures = r.failures;
     let mut out = io::large_buffer();
     let head = append_byte(&mut out, 0, 0);
-    let d = append_submissions(&mut out, head, submissions, r.submission_count);
-    let e = append_failures(&mut out, d, failures, r.failure_count);
+    let middle = append_submissions(&mut out, head, submissions, r.submission_count);
+    let e = append_failures(&mut out, middle, failures, r.failure_count);
     say(&out, e);
     finish(book, at)
 }
 
 pub fn play(at: usize, b: SubmissionBook) -> Step {
-    finish_drain(b.drain(), at)
+    finish_drained(b.drain(), at)
 }

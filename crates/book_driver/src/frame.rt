@@ -35,8 +35,8 @@ pub fn say(out: &[u8], n: usize) {
 
 // The SHA-256 of the book's archive.
 fn say_digest(b: SubmissionBook) {
-    let mut out = io::large_buffer();
     let parts = b.parts;
+    let mut out = io::large_buffer();
     let Wrote::Bytes(n) = archive::write_archive(parts, &mut out) else {
         return;
     };

@@ -29,31 +29,31 @@ fn finish_ids(r: IdsAnswer, at: usize) -> Step {
 
 // 0c
 fn retain_submitted(s: &[u8], at: usize, b: SubmissionBook) -> Step {
-    let a = read_ids(s, at);
-    let ok = a.ok;
+    let i = read_ids(s, at);
+    let ok = i.ok;
     if !ok {
         return broken(b);
     }
-    let items = a.items;
-    let n = a.count;
-    let r = b.retain_submitted(&items[0..n]);
-    finish_ids(r, a.at)
+    let ids = i.items;
+    let n = i.count;
+    let r = b.retain_submitted(&ids[0..n]);
+    finish_ids(r, i.at)
 }
 
 // 15
 fn causally_rolled_back_ids(s: &[u8], at: usize, b: SubmissionBook) -> Step {
     let a = read_bytes(s, at);
-    let i = read_bytes(s, a.at);
-    let ok = a.ok & i.ok;
+    let l = read_bytes(s, a.at);
+    let ok = a.ok & l.ok;
     if !ok {
         return broken(b);
     }
-    let from = a.from;
-    let to = a.at;
-    let start = i.from;
-    let end = i.at;
-    let r = b.causally_rolled_back_ids(&s[from..to], &s[start..end]);
-    finish_ids(r, end)
+    let absent = a.from;
+    let absent_end = a.at;
+    let live = l.from;
+    let live_end = l.at;
+    let r = b.causally_rolled_back_ids(&s[absent..absent_end], &s[live..live_end]);
+    finish_ids(r, live_end)
 }
 
 pub fn play(op: u8, s: &[u8], at: usize, b: SubmissionBook) -> Step {
@@ -61,6 +61,7 @@ pub fn play(op: u8, s: &[u8], at: usize, b: SubmissionBook) -> Step {
         0x0c => retain_submitted(s, at, b),
         0x0e => finish_ids(b.drain_retirements(), at),
         0x10 => finish_ids(b.active_ids(), at),
-        _ => causally_rolled_back_ids(s, at, b),
+        0x15 => causally_rolled_back_ids(s, at, b),
+        _ => broken(b),
     }
 }

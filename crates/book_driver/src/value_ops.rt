@@ -106,10 +106,10 @@ fn finalize_attempt(s: &[u8], at: usize, b: SubmissionBook) -> Step {
     let f = read_source(s, t.at);
     let j = read_bundle(s, f.at);
     let ok = t.ok & f.ok & j.ok;
+    let fit = f.fit & j.fit;
     if !ok {
         return broken(b);
     }
-    let fit = f.fit & j.fit;
     if !fit {
         return finish_with(3, b, j.at);
     }
@@ -119,18 +119,17 @@ fn finalize_attempt(s: &[u8], at: usize, b: SubmissionBook) -> Step {
     finish_finalized(r, j.at)
 }
 
-// 07, 11, 1a: a number, which is a token or a height.
-fn with_number(op: u8, s: &[u8], at: usize, b: SubmissionBook) -> Step {
+// 07, 11 and 1a: a number.
+fn play_number(op: u8, s: &[u8], at: usize, b: SubmissionBook) -> Step {
     let n = read_number(s, at);
     let ok = n.ok;
     if !ok {
         return broken(b);
     }
-    let end = n.at;
     match op {
-        0x07 => finish_fee_intent(b.fee_intent_for_attempt(Token(n.value)), end),
-        0x11 => finish_flag(b.begin_replay(Height(n.value)), end),
-        _ => finish_attempt(b.attempt(Token(n.value)), end),
+        0x07 => finish_fee_intent(b.fee_intent_for_attempt(Token(n.value)), n.at),
+        0x11 => finish_flag(b.begin_replay(Height(n.value)), n.at),
+        _ => finish_attempt(b.attempt(Token(n.value)), n.at),
     }
 }
 
@@ -138,6 +137,7 @@ pub fn play(op: u8, s: &[u8], at: usize, b: SubmissionBook) -> Step {
     match op {
         0x06 => finalize_attempt(s, at, b),
         0x13 => finish_height(b.replay_rollback_height(), at),
-        _ => with_number(op, s, at, b),
+        0x07 | 0x11 | 0x1a => play_number(op, s, at, b),
+        _ => broken(b),
     }
 }

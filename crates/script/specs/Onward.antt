@@ -21,10 +21,10 @@ pub record Argument {A : Type 0} (z : A) (p : Parser A) (s : List ℕ) (at : ℕ
   pub place : ℕ
   pub is : Reads z (p s at) fit value place
 
--- ids: at most 65 are kept
-pub record IdsRead (s : List ℕ) (at : ℕ) (ok : Bool) (count e : ℕ) : Type 0 where
+-- ids: the count is within the cells
+pub record IdsRead (s : List ℕ) (at : ℕ) (ok : Bool) (count : ℕ) (items : List ℕ) (e : ℕ) : Type 0 where
   pub on : Onward s at ok e
-  pub few : count ≤ 65
+  pub few : count ≤ length items
 
 pub record LengthRead (s : List ℕ) (at : ℕ) (ok : Bool) (n e : ℕ) : Type 0 where
   pub on : Onward s at ok e

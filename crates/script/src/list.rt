@@ -7,7 +7,8 @@ use wire_bytes::read::has;
 use wire_bytes::read::read_count;
 use wire_bytes::read::read_number;
 ghost use mathlib.Core.Path.{_≡_};
-ghost use Prim.Native.Nat.{_≤_, _<_};
+ghost use Prim.Native.Nat.{_<_};
+ghost use lib.ListN.{length};
 ghost use Rattle.script.specs.Onward.{Onward, IdsRead, LengthRead, BytesRead};
 
 fn wide(x: u8) -> usize
@@ -17,7 +18,9 @@ fn wide(x: u8) -> usize
 }
 
 // The first n numbers from `at` on, at most 65.
-fn read_items(s: &[u8], at: usize, n: usize) -> [u64; 65] {
+fn read_items(s: &[u8], at: usize, n: usize) -> [u64; 65]
+    ensures { λ r. ⌜ 65 ≡ length r ⌝ }
+{
     let k = at_most(n, 65);
     let mut items = [0u64; 65];
     let mut e = at;
@@ -32,7 +35,7 @@ fn read_items(s: &[u8], at: usize, n: usize) -> [u64; 65] {
 }
 
 pub fn read_ids(s: &[u8], at: usize) -> IdsArgument
-    ensures { λ r. ⌜ IdsRead (now (s .entry)) at (r .ok) (r .count) (r .at) ⌝ }
+    ensures { λ r. ⌜ IdsRead (now (s .entry)) at (r .ok) (r .count) (r .items) (r .at) ⌝ }
 {
     let high = read_count(s, at, 255);
     let low = read_count(s, high.at, 255);
