@@ -1,3 +1,4 @@
 pub mod Coins
 pub mod Found
 pub mod Laws
+pub mod Outputs

@@ -1,13 +1,15 @@
 // The coins that a bundle spends and makes.
 ghost use mathlib.Core.Path.{_≡_};
-ghost use Prim.Native.Nat.{_<_, min};
+ghost use Prim.Native.Nat.{_≤_, _<_, min};
+ghost use mathlib.Core.List.{[]};
 ghost use Rattle.lists.specs.Lists.{cells};
 ghost use Rattle.coin_string.specs.Coin.{FromParts};
 ghost use Rattle.coin_string.specs.CoinList.{coinsIn};
 ghost use Rattle.book_data.specs.Zero.{zeros};
-ghost use Rattle.bundle_coins.specs.Coins.{inputCoinIds};
+ghost use Rattle.bundle_coins.specs.Coins.{inputCoinIds, expectedOutputCoins};
 ghost use Rattle.bundle_coins.specs.Found.{foundOf};
 ghost use Rattle.bundle_coins.specs.Laws.{spentId, outputAt, Outputs};
+ghost use Rattle.bundle_coins.specs.Outputs.{outputCells, pushedCoin, Pushed};
 use book_data::CoinSpend;
 use book_data::SpendBundle;
 use coin_string::CoinString;
@@ -16,6 +18,12 @@ use coin_string::CoinString;
 pub enum Found {
     At(usize, usize),
     Nothing,
+}
+
+// Up to 16 output coins: the first count cells are the coins, and the cells behind them are empty.
+pub struct OutputCoins {
+    pub count: usize,
+    pub coins: [CoinString; 16],
 }
 
 // A count within four cells.
@@ -106,4 +114,64 @@ pub fn first_output_among(b: SpendBundle, observed: &[u8]) -> Found
         i += 1;
     }
     found
+}
+
+fn no_outputs() -> OutputCoins
+    ensures { λ r. ⌜ r ≡ outputCells [] ⌝ }
+{
+    let none = CoinString {
+        bytes: [0; 73],
+        len: 0,
+    };
+    OutputCoins {
+        count: 0,
+        coins: [none; 16],
+    }
+}
+
+// One coin more.
+fn push_output(o: OutputCoins, c: CoinString) -> OutputCoins
+    requires { ⌜ o .count < 16 ⌝ }
+    ensures { λ r. ⌜ r ≡ pushedCoin o c ⌝ }
+{
+    let n = o.count;
+    let mut coins = o.coins;
+    coins[n] = c;
+    OutputCoins {
+        count: n + 1,
+        coins,
+    }
+}
+
+// The output coins of a spend behind those laid out.
+fn push_outputs(o: OutputCoins, s: CoinSpend) -> OutputCoins
+    requires { ⌜ o .count ≤ 12 ⌝ }
+    ensures { λ r. ⌜ Pushed s o r ⌝ }
+{
+    let parent = input_coin_id(s);
+    let outs = output_count(s);
+    let mut acc = o;
+    let mut j = 0;
+    while j < outs {
+        let coin = output_coin(s, parent, j);
+        acc = push_output(acc, coin);
+        j += 1;
+    }
+    acc
+}
+
+// The coins that a bundle makes, in its order.
+pub fn expected_output_coins(b: SpendBundle) -> OutputCoins
+    ensures { λ r. ⌜ (r ≡ outputCells (expectedOutputCoins b)) × (r .count ≤ 16) ⌝ }
+{
+    let spends = b.spends;
+    let n = at_most_four(b.count);
+    let mut acc = no_outputs();
+    let mut i = 0;
+    while i < n {
+        let s = spends[i];
+        acc = push_outputs(acc, s);
+        i += 1;
+    }
+    acc
 }

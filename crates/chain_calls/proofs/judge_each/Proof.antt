@@ -1,0 +1,54 @@
+use mathlib.Core.Bool.{true}
+use Rattle.coin_string.specs.CoinIds.{idsIn}
+use Rattle.coin_string.specs.CoinList.{coinsIn}
+use Rattle.book_data.specs.Model.{view}
+use Rattle.book_data.specs.Sound.{soundb}
+use Rattle.rules.specs.Steps.{runBook}
+use Rattle.rules.specs.Calls.ReconcileChainTerminality.{judgeEach}
+use Rattle.replies.specs.Reply.{doneReply}
+use Rattle.book_cells.specs.Normal.{sound-normal, submitted-are}
+use Rattle.chain_calls.specs.Judge.{Left, left-over, left-turn, left-done, done-reply}
+use borrow.Author.Needs.{needs}
+use native.Mathlib.Omega.{arith}
+use mathlib.Core.Path.{_≡_, refl, sym, ap, _∙_}
+use Prim.Native.Nat.{_-_, _≤_}
+use lib.ListN.{length}
+use Rattle.chain_calls.proofs.judge_each.Statement.{statement}
+use Rattle.chain_calls.proofs.judge_each.Tie as tie
+
+abbrev Inv-loop : tie.InvT-loop
+Inv-loop b observed spent reorg rolled-back out₀ k₀ out k = (k ≤ b .«submitted_count») × (b .«submitted_count» ≡ length (view out .submitted)) × (soundb out ≡ true) × Left (coinsIn observed) (idsIn spent) reorg rolled-back (runBook (judgeEach (coinsIn observed) (idsIn spent) reorg rolled-back (view b .submitted)) (view b)) k out
+
+abbrev μ-loop : tie.MeasureT-loop
+μ-loop b observed spent reorg rolled-back out₀ k₀ out k = b .«submitted_count» - k
+
+loop-holds : tie.Need-loop-holds Inv-loop μ-loop
+loop-holds c = (search needs, submitted-are (c .before .before .before .args .b) (sound-normal (c .before .before .before .args .b) (c .before .before .before .pre)) .count, c .before .before .before .pre, record { is = refl })
+
+judge-requires : tie.Need-judge-requires Inv-loop μ-loop
+judge-requires c κs = (c .before .before .loop .inv .2, omega (arith, c .before .before .loop .inv .1, c .if1 .taken))
+
+returns : tie.Need-returns Inv-loop μ-loop
+returns c = let a = c .before .before .before .before .before .before .before .before .before .args in c .refused .ensures ∙ ap (doneReply (a .b)) (sym (left-over (coinsIn (a .observed .now)) (idsIn (a .spent .now)) (a .reorg) (a .rolled-back .now) (c .before .before .before .before .before .loop .inv .3) (c .before .before .judge .result) (omega (arith, c .before .before .before .before .before .loop .inv .1, c .before .before .before .if1 .taken)) (c .before .before .judge .ensures) (c .before .if2 .taken)))
+
+loop-again : tie.Need-loop-again Inv-loop μ-loop
+loop-again c = let a = c .before .before .before .before .before .before .before .before .before .args in let y = c .before .before .judge .ensures .kept (c .before .if2 .left) in
+    (search needs, c .before .before .before .before .before .loop .inv .1 ∙ sym (y .count), y .sound, left-turn (coinsIn (a .observed .now)) (idsIn (a .spent .now)) (a .reorg) (a .rolled-back .now) (c .before .before .before .before .before .loop .inv .3) (c .before .before .judge .result) (omega (arith, c .before .before .before .before .before .loop .inv .1, c .before .before .before .if1 .taken)) (c .before .before .judge .ensures) (c .before .if2 .left))
+
+returns-2 : tie.Need-returns-2 Inv-loop μ-loop
+returns-2 c = let a = c .before .before .before .before .before .before .args in done-reply (a .b) (c .before .before .loop .out) (c .before .before .loop .inv .2) (left-done (coinsIn (a .observed .now)) (idsIn (a .spent .now)) (a .reorg) (a .rolled-back .now) (c .before .before .loop .inv .3) (omega (arith, c .before .before .loop .inv .1, c .if1 .left)))
+
+pub judge-each-spec : {M : Type 1} → statement M
+judge-each-spec =
+    tie.close
+    (tie.spec
+    Inv-loop
+    μ-loop
+    loop-holds
+    judge-requires
+    (λ c κs. search needs)
+    returns
+    (λ c. search needs)
+    (λ c. search needs)
+    loop-again
+    returns-2)

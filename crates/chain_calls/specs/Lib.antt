@@ -1,0 +1,3 @@
+pub mod Halt
+pub mod Judge
+pub mod RolledBack

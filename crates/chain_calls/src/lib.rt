@@ -1,0 +1,308 @@
+// The calls that read the chain: which submissions it has ended, and which it has rolled back.
+ghost use mathlib.Core.Path.{_≡_};
+ghost use mathlib.Core.Bool.{true};
+ghost use Prim.Native.Nat.{_<_, _≤_};
+ghost use lib.ListN.{length, getD};
+ghost use Rattle.coin_string.specs.CoinIds.{idsIn};
+ghost use Rattle.coin_string.specs.CoinList.{coinsIn};
+ghost use Rattle.book_data.specs.Zero.{zeroSubmitted};
+ghost use Rattle.book_data.specs.Model.{view, back, list16, ids16, ids64};
+ghost use Rattle.book_data.specs.Sound.{idOf, soundb};
+ghost use Rattle.rules.specs.Rule.{unreplay, undone};
+ghost use Rattle.rules.specs.Steps.{noteBook, runBook};
+ghost use Rattle.rules.specs.Parts.{isLanded};
+ghost use Rattle.rules.specs.Calls.ReconcileChainTerminality.{spentAs, halt as haltRule, judge as judgeRule, judgeEach, reconcileChainTerminality};
+ghost use Rattle.rules.specs.Calls.CausallyRolledBackIds.{causallyRolledBackIds};
+ghost use Rattle.replies.specs.Reply.{outcomeOf, doneReply, idsReply};
+ghost use Rattle.book_cells.specs.Normal.{Normal};
+ghost use Rattle.chain_calls.specs.Halt.{haltedTx, reactivateRule, Judged};
+ghost use Rattle.chain_calls.specs.RolledBack.{rolledBackIds};
+use book_cells::submitted_at;
+use book_change::Retired;
+use book_change::retire;
+use book_change::set_epoch;
+use book_change::store_submitted;
+use book_change::unqueue;
+use book_data::BookData;
+use book_data::Ids16;
+use book_data::Ids64;
+use book_data::SubmissionChainTerminality;
+use book_data::SubmissionId;
+use book_data::SubmittedTx;
+use book_sound::is_sound;
+use chain_tests::input_spent;
+use chain_tests::output_observed;
+use chain_tests::rolled_back;
+use coin_string::is_coin_list;
+use coin_string::is_id_list;
+use ids::empty16;
+use ids::empty64;
+use ids::push16;
+use ids::rising16;
+use lists::contains;
+use replies::CallAnswer;
+use replies::DoneReply;
+use replies::IdsReply;
+use slots::stopped;
+use submitted::revise::with_terminality;
+
+// ---- refusals
+fn refused(b: BookData, n: u8) -> DoneReply
+    ensures { λ r. ⌜ r ≡ doneReply b (undone n) ⌝ }
+{
+    DoneReply {
+        answer: CallAnswer::Refused(n),
+        book: b,
+    }
+}
+
+fn refused_ids(b: BookData, n: u8) -> IdsReply
+    ensures { λ r. ⌜ r ≡ idsReply b (undone n) ⌝ }
+{
+    let none = empty64();
+    IdsReply {
+        answer: CallAnswer::Refused(n),
+        ids: none,
+        book: b,
+    }
+}
+
+// ---- reconcile_chain_terminality
+// The terminality anew, and the live attempt, if any, set aside.
+fn halted(t: SubmittedTx, c: SubmissionChainTerminality) -> SubmittedTx
+    ensures { λ r. ⌜ r ≡ haltedTx c t ⌝ }
+{
+    let e = t.entry;
+    let s = t.slots;
+    let entry = with_terminality(e, c);
+    let slots = stopped(s);
+    SubmittedTx { slots, entry }
+}
+
+// The replay mark of the id goes.
+fn unmark(b: BookData, id: SubmissionId) -> BookData
+    requires { ⌜ Normal b ⌝ }
+    ensures { λ r. ⌜ r ≡ back (noteBook (unreplay (id .0)) (view b)) ⌝ }
+{
+    let epoch = b.replay_epoch;
+    set_epoch(b, replay::remove(epoch, id))
+}
+
+// The submission at k is out of replay and queue, its live attempt set aside, and it is retired once.
+fn halt(b: BookData, k: usize, c: SubmissionChainTerminality) -> Retired
+    requires { ⌜ (soundb b ≡ true) × (k < length (view b .submitted)) ⌝ }
+    ensures { λ r. ⌜ Judged (haltRule (idOf (getD (view b .submitted) k zeroSubmitted)) c) k b r ⌝ }
+{
+    let t = submitted_at(b, k);
+    let e = t.entry;
+    let id = e.id;
+    let stored = store_submitted(b, k, halted(t, c));
+    let out = unqueue(unmark(stored, id), id);
+    let next = retire(out, id);
+    let book = next.book;
+    Retired {
+        full: next.full,
+        book: book,
+    }
+}
+
+// The submission at k is Active again.
+fn reactivate(b: BookData, k: usize) -> Retired
+    requires { ⌜ (soundb b ≡ true) × (k < length (view b .submitted)) ⌝ }
+    ensures { λ r. ⌜ Judged (reactivateRule (idOf (getD (view b .submitted) k zeroSubmitted))) k b r ⌝ }
+{
+    let t = submitted_at(b, k);
+    let e = t.entry;
+    let entry = with_terminality(e, SubmissionChainTerminality::Active);
+    let slots = t.slots;
+    let next = store_submitted(b, k, SubmittedTx { slots, entry });
+    Retired {
+        full: false,
+        book: next,
+    }
+}
+
+fn is_landed(c: SubmissionChainTerminality) -> bool
+    ensures { λ r. ⌜ r ≡ isLanded c ⌝ }
+{
+    match c {
+        SubmissionChainTerminality::Active => false,
+        SubmissionChainTerminality::InputSpent => false,
+        SubmissionChainTerminality::Landed => true,
+    }
+}
+
+// InputSpent, except that Landed stays if not a reorg.
+fn spent_as(c: SubmissionChainTerminality, reorg: bool) -> SubmissionChainTerminality
+    ensures { λ r. ⌜ r ≡ spentAs reorg c ⌝ }
+{
+    let landed = is_landed(c);
+    if !reorg & landed {
+        return SubmissionChainTerminality::Landed;
+    }
+    SubmissionChainTerminality::InputSpent
+}
+
+// The submission at k: Landed, else an input spent, else Active if rolled back.
+fn judge(
+    b: BookData,
+    k: usize,
+    observed: &[u8],
+    spent: &[u8],
+    reorg: bool,
+    rolled_back: &[u64],
+) -> Retired
+    requires { ⌜ (soundb b ≡ true) × (k < length (view b .submitted)) ⌝ }
+    ensures { λ r. ⌜ Judged (judgeRule (coinsIn (now (observed .entry))) (idsIn (now (spent .entry))) reorg (now («rolled_back» .entry)) (getD (view b .submitted) k zeroSubmitted)) k b r ⌝ }
+{
+    let t = submitted_at(b, k);
+    let e = t.entry;
+    if output_observed(e, observed) {
+        return halt(b, k, SubmissionChainTerminality::Landed);
+    }
+    if input_spent(e, spent) {
+        let status = e.status;
+        let c = status.chain_terminality;
+        return halt(b, k, spent_as(c, reorg));
+    }
+    if contains(rolled_back, e.id.0) {
+        return reactivate(b, k);
+    }
+    Retired {
+        full: false,
+        book: b,
+    }
+}
+
+// Each submission in turn; refused 10, and the book as it came, where a retirement is a 65th.
+fn judge_each(
+    b: BookData,
+    observed: &[u8],
+    spent: &[u8],
+    reorg: bool,
+    rolled_back: &[u64],
+) -> DoneReply
+    requires { ⌜ soundb b ≡ true ⌝ }
+    ensures { λ r. ⌜ r ≡ doneReply b (runBook (judgeEach (coinsIn (now (observed .entry))) (idsIn (now (spent .entry))) reorg (now («rolled_back» .entry)) (view b .submitted)) (view b)) ⌝ }
+{
+    let mut out = b;
+    let mut k = 0;
+    while k < b.submitted_count {
+        let next = judge(out, k, observed, spent, reorg, rolled_back);
+        if next.full {
+            return refused(b, 10);
+        }
+        let judged = next.book;
+        out = judged;
+        k += 1;
+    }
+    DoneReply {
+        answer: CallAnswer::Done,
+        book: out,
+    }
+}
+
+pub fn reconcile_chain_terminality_sound(
+    b: BookData,
+    observed: &[u8],
+    spent: &[u8],
+    reorg: bool,
+    rolled_back: &[u64],
+) -> DoneReply
+    requires { ⌜ soundb b ≡ true ⌝ }
+    ensures { λ r. ⌜ r ≡ doneReply b (runBook (reconcileChainTerminality (now (observed .entry)) (now (spent .entry)) reorg (now («rolled_back» .entry))) (view b)) ⌝ }
+{
+    let coins = is_coin_list(observed);
+    let ids = is_id_list(spent);
+    let ok = coins & ids & (rolled_back.len() <= 64);
+    if !ok {
+        return refused(b, 2);
+    }
+    judge_each(b, observed, spent, reorg, rolled_back)
+}
+
+pub fn reconcile_chain_terminality(
+    b: BookData,
+    observed: &[u8],
+    spent: &[u8],
+    reorg: bool,
+    rolled_back: &[u64],
+) -> DoneReply
+    ensures { λ r. ⌜ r ≡ doneReply b (outcomeOf b (reconcileChainTerminality (now (observed .entry)) (now (spent .entry)) reorg (now («rolled_back» .entry)))) ⌝ }
+{
+    let sound = is_sound(b);
+    if !sound {
+        return refused(b, 1);
+    }
+    reconcile_chain_terminality_sound(b, observed, spent, reorg, rolled_back)
+}
+
+// ---- causally_rolled_back_ids
+// In the book's order.
+fn rolled_back_ids(b: BookData, absent: &[u8], inputs: &[u8]) -> Ids16
+    requires { ⌜ soundb b ≡ true ⌝ }
+    ensures { λ r. ⌜ r ≡ ids16 (rolledBackIds (coinsIn (now (absent .entry))) (idsIn (now (inputs .entry))) (view b)) ⌝ }
+{
+    let n = b.submitted_count;
+    let mut out = empty16();
+    let mut i = 0;
+    while i < n {
+        let t = submitted_at(b, i);
+        let e = t.entry;
+        if rolled_back(e, absent, inputs) {
+            let id = e.id;
+            out = push16(out, id);
+            i += 1;
+        } else {
+            i += 1;
+        }
+    }
+    out
+}
+
+// The same ids in the cells of an answer.
+fn in_64_cells(a: Ids16) -> Ids64
+    requires { ⌜ a .count ≤ 16 ⌝ }
+    ensures { λ r. ⌜ r ≡ ids64 (list16 a) ⌝ }
+{
+    let n = a.count;
+    let items = a.items;
+    let mut out = [0u64; 64];
+    let mut i = 0;
+    while i < n {
+        out[i] = items[i];
+        i += 1;
+    }
+    Ids64 {
+        count: n,
+        items: out,
+    }
+}
+
+pub fn causally_rolled_back_ids_sound(b: BookData, absent: &[u8], inputs: &[u8]) -> IdsReply
+    requires { ⌜ soundb b ≡ true ⌝ }
+    ensures { λ r. ⌜ r ≡ idsReply b (runBook (causallyRolledBackIds (now (absent .entry)) (now (inputs .entry))) (view b)) ⌝ }
+{
+    let coins = is_coin_list(absent);
+    let live = is_id_list(inputs);
+    let ok = coins & live;
+    if !ok {
+        return refused_ids(b, 2);
+    }
+    let ids = in_64_cells(rising16(rolled_back_ids(b, absent, inputs)));
+    IdsReply {
+        answer: CallAnswer::Done,
+        ids: ids,
+        book: b,
+    }
+}
+
+pub fn causally_rolled_back_ids(b: BookData, absent: &[u8], inputs: &[u8]) -> IdsReply
+    ensures { λ r. ⌜ r ≡ idsReply b (outcomeOf b (causallyRolledBackIds (now (absent .entry)) (now (inputs .entry)))) ⌝ }
+{
+    let sound = is_sound(b);
+    if !sound {
+        return refused_ids(b, 1);
+    }
+    causally_rolled_back_ids_sound(b, absent, inputs)
+}

@@ -1,0 +1,38 @@
+use borrow.Author.Tests.{not-true, not-false}
+use Rattle.archive_form.specs.Encode.{encodeModel}
+use Rattle.rules.specs.Calls.WriteArchive.{writeArchive}
+use Rattle.coin_calls.specs.Answers.{shut, passed}
+use mathlib.Core.Path.{sym, _∙_}
+use lib.ListN.{length}
+use borrow.Author.Needs.{needs}
+use Rattle.coin_calls.proofs.write_archive.Statement.{statement}
+use Rattle.coin_calls.proofs.write_archive.Tie as tie
+
+is-sound-requires : tie.Need-is-sound-requires
+is-sound-requires c κs = search needs
+
+refused-requires : tie.Need-refused-requires
+refused-requires c κs = search needs
+
+returns : tie.Need-returns
+returns c = let d = c .before .before .before .before .args .out .now in shut (c .before .before .before .before .args .b) (writeArchive encodeModel (length d)) d (sym (c .before .before .is-sound .ensures) ∙ not-true (c .before .before .is-sound .result) (c .before .if1 .taken)) (c .refused .ensures)
+
+write-archive-sound-requires : tie.Need-write-archive-sound-requires
+write-archive-sound-requires c κs = sym (c .before .before .is-sound .ensures) ∙ not-false (c .before .before .is-sound .result) (c .before .if1 .left)
+
+same-length : tie.Need-same-length
+same-length c = search needs
+
+returns-2 : tie.Need-returns-2
+returns-2 c = let d = c .before .before .before .before .before .before .before .args .out .now in passed (c .before .before .before .before .before .before .before .args .b) (writeArchive encodeModel (length d)) d (sym (c .before .before .before .before .before .is-sound .ensures) ∙ not-false (c .before .before .before .before .before .is-sound .result) (c .before .before .before .before .if1 .left)) (c .before .before .write-archive-sound .ensures)
+
+pub write-archive-spec : {M : Type 1} → statement M
+write-archive-spec =
+    tie.close
+    (tie.spec
+    is-sound-requires
+    refused-requires
+    returns
+    write-archive-sound-requires
+    same-length
+    returns-2)

@@ -1,0 +1,4 @@
+pub mod Answers
+pub mod Archive
+pub mod Inputs
+pub mod Outputs

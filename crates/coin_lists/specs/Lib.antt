@@ -1,0 +1,5 @@
+pub mod ListLaws
+pub mod Place
+pub mod Shift
+pub mod Coins
+pub mod Writing

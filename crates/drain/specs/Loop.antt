@@ -1,0 +1,262 @@
+-- The loop of a drain: what is done and what is left make the whole.
+use Prim.Native.Nat.{ℕ, suc, _+_, _≤_, _<_}
+use mathlib.Core.Bool.{Bool, true, false, true≢false, false≢true}
+use mathlib.Core.List.{List, [], _∷_, _++_, append-nil, append-assoc}
+use mathlib.Core.Path.{_≡_, refl, sym, ap, _∙_, subst}
+use native.Mathlib.Numerals.{add-one}
+use native.Mathlib.Omega.{arith}
+use lib.Dec.{eqb}
+use borrow.Author.Tests.{eqb-true, eqb-false}
+use lib.ListN.{length, drop, getD, set}
+use Rattle.lists.specs.Lists.{allb, cells}
+use Rattle.lists.specs.Laws.{and-split, take-cells, counted-step, counted-end}
+use Rattle.ids.specs.Counted.{counted-set, counted-push}
+use Rattle.book_data.specs.Zero.{zeroSubmitted}
+use Rattle.book_data.specs.Model.{Book, view, back, list16}
+use Rattle.book_data.specs.Sound.{soundDelivery, soundb}
+use Rattle.book_data.specs.SoundLaws.{sound-lists, Counted}
+use Rattle.book_data.specs.declared.BookData.{BookData}
+use Rattle.book_data.specs.declared.PendingDelivery.{PendingDelivery}
+use Rattle.rules.specs.Call.{Value, failures}
+use Rattle.rules.specs.Rule.{DrainedSubmission, Rule, turn, note, unqueueAll, Outcome, ended, undone, stopped, logged, run, left, followed, run-bind}
+use Rattle.rules.specs.Steps.{onBook, noteBook, runBook}
+use Rattle.rules.specs.Calls.Plan.{Memory, blank}
+use Rattle.rules.specs.Calls.Drain.{oneCandidate, candidates, drain}
+use Rattle.rule_laws.specs.Sound.Run.{SoundBook, sound-left}
+use Rattle.book_cells.specs.Normal.{Normal, sizes, submitted-are}
+use Rattle.book_change.specs.Parts.{submitted-back}
+use Rattle.sound_steps.specs.Holds.{Holds, holds-sound, holds-view, holds-normal, holds-quiet}
+use Rattle.drain_answers.specs.DrainReply.{drainReply}
+use Rattle.drain_answers.specs.declared.DrainReply.{DrainReply}
+use Rattle.plan.specs.declared.PlanAction.{PlanAction}
+use Rattle.plan.specs.declared.PlanAction.the-variants.{Passed, Failed, Removed, Full, Stored, Issued, Exhausted}
+use Rattle.plan.specs.declared.SubmissionPlanDelta.{SubmissionPlanDelta}
+use Rattle.plan.specs.Plan.{isFull, isExhausted}
+use Rattle.drain.specs.declared.DrainAnswers.{DrainAnswers}
+use Rattle.drain.specs.ListLaws.{putAt, put-set, put-end}
+use Rattle.drain.specs.Planned.{candidatePlan}
+use Rattle.drain.specs.Carried.{placed, bookBy, memoryBy, drainedIn, outcomeBy, InPlace, FitsBy, storedIn, carriedBy, isStoring, stored-fits}
+use Rattle.drain.specs.Answers.{answersOf, answersBy, finishedWith, Room, room, Few, few-more, after-is}
+use Rattle.drain.specs.Rules.{Carries, one-carries}
+
+-- ---- the cells that a plan leaves
+module _ (b : BookData) (h : Normal b) where
+  put-counted : (p : SubmissionPlanDelta) → InPlace (p .place) (view b)
+      → Counted 16 zeroSubmitted (p .place .count) (set (b .submitted) (p .place .index) (p .tx)) (putAt (p .place .index) (p .tx) (view b .submitted))
+  put-counted p f = record { count = f .counts (p .tx); held = by-end (eqb (p .place .index) (length (view b .submitted))) refl }
+    where
+      by-end : (u : Bool) → eqb (p .place .index) (length (view b .submitted)) ≡ u
+          → set (b .submitted) (p .place .index) (p .tx) ≡ cells 16 zeroSubmitted (putAt (p .place .index) (p .tx) (view b .submitted))
+      by-end true e =
+          let q : p .place .index ≡ length (view b .submitted) = eqb-true (p .place .index) (length (view b .submitted)) e in
+          let n : b .«submitted_count» ≡ length (view b .submitted) = submitted-are b h .count in
+          let l = f .below in
+          ap (λ (k : ℕ). set (b .submitted) k (p .tx)) (q ∙ sym n)
+          ∙ counted-push (submitted-are b h) (p .tx) (omega arith) .held
+          ∙ ap (cells 16 zeroSubmitted) (sym (put-end (p .tx) (view b .submitted)) ∙ ap (λ (k : ℕ). putAt k (p .tx) (view b .submitted)) (sym q))
+      by-end false e =
+          let q = eqb-false (p .place .index) (length (view b .submitted)) e in
+          let w = f .within in
+          let l : p .place .index < length (view b .submitted) = omega (arith, q) in
+          counted-set (submitted-are b h) (p .place .index) (p .tx) l .held
+          ∙ ap (cells 16 zeroSubmitted) (sym (put-set (p .place .index) (p .tx) (view b .submitted) l))
+
+  stored-is : (p : SubmissionPlanDelta) → InPlace (p .place) (view b) → storedIn p b ≡ back (placed (p .place) (p .tx) (view b))
+  stored-is p f =
+      submitted-back b h (p .place .«next_token») (p .place .«next_id») (p .place .count) (set (b .submitted) (p .place .index) (p .tx))
+      (putAt (p .place .index) (p .tx) (view b .submitted)) (put-counted p f)
+
+  carried-view : (k : PlanAction) (p : SubmissionPlanDelta) → FitsBy k p (view b) → carriedBy k p b ≡ back (bookBy k p (view b))
+  carried-view Passed p f = h .held
+  carried-view Failed p f = h .held
+  carried-view Removed p f = refl
+  carried-view Full p f = h .held
+  carried-view Stored p f = stored-is p f
+  carried-view Issued p f = stored-is p f
+  carried-view Exhausted p f = stored-is p f
+
+carried-is : {b : BookData} {m : Book} → Holds b m → (k : PlanAction) (p : SubmissionPlanDelta) → FitsBy k p m → carriedBy k p b ≡ back (bookBy k p m)
+carried-is {b} {m} h k p f =
+    carried-view b (holds-normal h) k p (subst (FitsBy k p) (sym (holds-view h)) f) ∙ ap (λ (x : Book). back (bookBy k p x)) (holds-view h)
+
+-- ---- the whole
+abbrev pub whole : BookData → DrainReply
+whole b = drainReply b (runBook drain (view b))
+
+-- the drain of b stands at i: the book and the answers so far, and what is left
+pub record Running (b book : BookData) (answers : DrainAnswers) (i : ℕ) : Type 0 where
+  pub m : Book
+  pub xs : List DrainedSubmission
+  pub a : Memory
+  pub holds : Holds book m
+  pub held : answers ≡ answersOf xs a
+  pub few : Few i xs a
+  pub queue : allb soundDelivery (drop i (view b .pending)) ≡ true
+  pub rest : whole b ≡ drainReply b (logged xs (runBook (candidates i (drop i (view b .pending)) a) m))
+
+logged-logged : {A : Type 0} (xs ys : List DrainedSubmission) (k : Outcome Book A) → logged xs (logged ys k) ≡ logged (xs ++ ys) k
+logged-logged xs ys (ended s zs v) = ap (λ (l : List DrainedSubmission). ended s l v) (sym (append-assoc xs ys zs))
+logged-logged xs ys (undone n) = refl
+logged-logged xs ys (stopped s zs n) = ap (λ (l : List DrainedSubmission). stopped s l n) (sym (append-assoc xs ys zs))
+
+-- the queue is emptied
+module _ (b : BookData) (s : soundb b ≡ true) where
+  emptied : runBook drain (view b) ≡ logged [] (runBook (candidates 0 (view b .pending) blank) (noteBook unqueueAll (view b)))
+  unfolding drain run onBook
+  emptied = refl
+
+  pub starts : {book : BookData} → book ≡ back (noteBook unqueueAll (view b)) → {answers : DrainAnswers} → answers ≡ answersOf [] blank → Running b book answers 0
+  unfolding onBook
+  starts {book} e {answers} h = record {
+    m = noteBook unqueueAll (view b);
+    xs = [];
+    a = blank;
+    holds = holds-quiet (holds-sound b s) (note unqueueAll) refl e;
+    held = h;
+    few = record { emitted = omega arith; removed = omega arith; failed = omega arith; issued = omega arith };
+    queue = sound-lists (view b) (holds-sound b s .sound .lists) .pending;
+    rest = ap (drainReply b) emptied;
+  }
+
+-- the candidate can be planned, and its answers have room
+pub running-room : {b book : BookData} {answers : DrainAnswers} {i : ℕ} → Running b book answers i → i < 16 → Room answers
+running-room v l = room (v .xs) (v .a) (v .held) (v .few) l
+
+pub ready : {b book : BookData} {answers : DrainAnswers} {i : ℕ} → Running b book answers i → i < 16
+    → Normal book × (answers .emitted .count ≤ 16) × (answers .removed .count ≤ 16)
+ready v l =
+    let r = running-room v l in
+    let e = r .emitted .0 in
+    let g = r .removed .0 in
+    (holds-normal (v .holds), omega arith, omega arith)
+
+-- ---- one candidate
+module _ {b book : BookData} {answers : DrainAnswers} {i : ℕ} (v : Running b book answers i) (c : PendingDelivery)
+    (step : drop i (view b .pending) ≡ c ∷ drop (i + 1) (view b .pending)) (p : SubmissionPlanDelta)
+    (plan : p ≡ candidatePlan (view book) (list16 (answers .emitted)) (list16 (answers .removed)) i c) where
+  plan-is : p ≡ candidatePlan (v .m) (v .a .emitted) (v .a .removed) i c
+  plan-is =
+      let e : list16 (answers .emitted) ≡ v .a .emitted = ap (λ (d : DrainAnswers). list16 (d .emitted)) (v .held) ∙ take-cells 16 0 (v .a .emitted) in
+      let r : list16 (answers .removed) ≡ v .a .removed = ap (λ (d : DrainAnswers). list16 (d .removed)) (v .held) ∙ take-cells 16 0 (v .a .removed) in
+      plan ∙ (λ j. candidatePlan (holds-view (v .holds) j) (e j) (r j) i c)
+
+  sounds : (soundDelivery c ≡ true) × (allb soundDelivery (drop (i + 1) (view b .pending)) ≡ true)
+  sounds = and-split (soundDelivery c) (allb soundDelivery (drop (i + 1) (view b .pending))) (sym (ap (allb soundDelivery) step) ∙ v .queue)
+
+  carries : Carries (runBook (oneCandidate i c (v .a)) (v .m)) p (v .a) (v .m)
+  unfolding soundDelivery
+  carries = subst (λ (q : SubmissionPlanDelta). Carries (runBook (oneCandidate i c (v .a)) (v .m)) q (v .a) (v .m)) (sym plan-is)
+      (one-carries (v .m) (v .holds .sound) c (sounds .0) (v .a) i)
+
+  pub plan-fits : FitsBy (p .action) p (view book)
+  plan-fits = subst (FitsBy (p .action) p) (sym (holds-view (v .holds))) (carries .fits)
+
+  -- a planned submission goes into a cell of the book
+  pub store-below : isStoring (p .action) ≡ true → (p .place .index < 16) × (length (book .submitted) ≡ 16)
+  store-below e = (stored-fits p (view book) (p .action) e plan-fits .below, sizes book (holds-normal (v .holds)) .submitted-long)
+
+  abbrev more : Memory → Rule Value
+  more a = turn (candidates (suc i) (drop (i + 1) (view b .pending)) a)
+
+  cut : whole b ≡ drainReply b (logged (v .xs) (followed (λ x. x) onBook more (outcomeBy (p .action) p (v .a) (v .m))))
+  unfolding candidates
+  cut =
+      v .rest
+      ∙ ap (λ (l : List PendingDelivery). drainReply b (logged (v .xs) (runBook (candidates i l (v .a)) (v .m)))) step
+      ∙ ap (λ (o : Outcome Book Value). drainReply b (logged (v .xs) o)) (run-bind (λ x. x) onBook (oneCandidate i c (v .a)) more (v .m))
+      ∙ ap (λ (o : Outcome Book Memory). drainReply b (logged (v .xs) (followed (λ x. x) onBook more o))) (carries .outcome)
+
+  -- the book left is sound
+  left-sound : SoundBook (left (v .m) (outcomeBy (p .action) p (v .a) (v .m)))
+  left-sound = subst (λ (o : Outcome Book Memory). SoundBook (left (v .m) o)) (carries .outcome) (sound-left (oneCandidate i c (v .a)) (v .m) (v .holds .sound))
+
+  full-by : (k : PlanAction) → isFull k ≡ true → drainReply b (logged (v .xs) (followed (λ x. x) onBook more (outcomeBy k p (v .a) (v .m)))) ≡ drainReply b (undone 10)
+  full-by Passed e = absurd (false≢true e)
+  full-by Failed e = absurd (false≢true e)
+  full-by Removed e = absurd (false≢true e)
+  full-by Full e = refl
+  full-by Stored e = absurd (false≢true e)
+  full-by Issued e = absurd (false≢true e)
+  full-by Exhausted e = absurd (false≢true e)
+
+  pub turned-full : isFull (p .action) ≡ true → drainReply b (undone 10) ≡ whole b
+  turned-full e = sym (cut ∙ full-by (p .action) e)
+
+  next-book : carriedBy (p .action) p book ≡ back (bookBy (p .action) p (v .m))
+  next-book = carried-is (v .holds) (p .action) p (carries .fits)
+
+  stop-by : (k : PlanAction) → isExhausted k ≡ true
+      → drainReply b (logged (v .xs) (followed (λ x. x) onBook more (outcomeBy k p (v .a) (v .m)))) ≡ drainReply (back (bookBy k p (v .m))) (undone 11)
+  stop-by Passed e = absurd (false≢true e)
+  stop-by Failed e = absurd (false≢true e)
+  stop-by Removed e = absurd (false≢true e)
+  stop-by Full e = absurd (false≢true e)
+  stop-by Stored e = absurd (false≢true e)
+  stop-by Issued e = absurd (false≢true e)
+  stop-by Exhausted e = refl
+
+  pub turned-stop : isExhausted (p .action) ≡ true → {next : BookData} → next ≡ carriedBy (p .action) p book → drainReply next (undone 11) ≡ whole b
+  turned-stop e {next} h = sym (cut ∙ stop-by (p .action) e ∙ ap (λ (x : BookData). drainReply x (undone 11)) (sym (h ∙ next-book)))
+
+  -- neither full nor exhausted
+  on-by : (k : PlanAction) → isFull k ≡ false → isExhausted k ≡ false → outcomeBy k p (v .a) (v .m) ≡ ended (bookBy k p (v .m)) (drainedIn k p) (memoryBy k p (v .a))
+  on-by Passed f e = refl
+  on-by Failed f e = refl
+  on-by Removed f e = refl
+  on-by Full f e = absurd (true≢false f)
+  on-by Stored f e = refl
+  on-by Issued f e = refl
+  on-by Exhausted f e = absurd (true≢false e)
+
+  pub turned : i < 16 → isFull (p .action) ≡ false → isExhausted (p .action) ≡ false → {next : BookData} → next ≡ carriedBy (p .action) p book
+      → {after : DrainAnswers} → after ≡ answersBy (p .action) p answers → Running b next after (i + 1)
+  unfolding run
+  turned l f e {next} h {after} q =
+      let o = on-by (p .action) f e in
+      record {
+        m = bookBy (p .action) p (v .m);
+        xs = v .xs ++ drainedIn (p .action) p;
+        a = memoryBy (p .action) p (v .a);
+        holds = record { cells = h ∙ next-book; sound = subst (λ (x : Outcome Book Memory). SoundBook (left (v .m) x)) o left-sound };
+        held = q ∙ after-is p (v .xs) (v .a) (p .action) (v .held) (let k = v .few .issued in omega arith) (let k = v .few .failed in omega arith);
+        few = few-more p (v .xs) (v .a) (p .action) (v .few);
+        queue = sounds .1;
+        rest =
+            cut
+            ∙ ap (λ (x : Outcome Book Memory). drainReply b (logged (v .xs) (followed (λ x. x) onBook more x))) o
+            ∙ ap (drainReply b) (logged-logged (v .xs) (drainedIn (p .action) p) (runBook (more (memoryBy (p .action) p (v .a))) (bookBy (p .action) p (v .m))))
+            ∙ ap (λ (n : ℕ). drainReply b (logged (v .xs ++ drainedIn (p .action) p) (runBook (candidates n (drop (i + 1) (view b .pending)) (memoryBy (p .action) p (v .a))) (bookBy (p .action) p (v .m))))) (sym (add-one i));
+      }
+
+-- no candidate is left
+pub ends : {b book : BookData} {answers : DrainAnswers} {i : ℕ} → Running b book answers i → drop i (view b .pending) ≡ [] → finishedWith book answers ≡ whole b
+unfolding candidates run
+ends {b} {book} {answers} {i} v e =
+    ap (λ (d : DrainAnswers). finishedWith book d) (v .held)
+    ∙ ap (λ (x : BookData). finishedWith x (answersOf (v .xs) (v .a))) (v .holds .cells)
+    ∙ ap (λ (ys : List DrainedSubmission). drainReply b (ended (v .m) ys (failures (v .a .failed)))) (sym (append-nil (v .xs)))
+    ∙ sym (v .rest ∙ ap (λ (l : List PendingDelivery). drainReply b (logged (v .xs) (runBook (candidates i l (v .a)) (v .m)))) e)
+
+-- ---- the queue that the loop goes through
+module _ (b : BookData) (s : soundb b ≡ true) where
+  normal : Normal b
+  normal = holds-normal (holds-sound b s)
+
+  pub queue-step : (i : ℕ) (d : PendingDelivery) → i < b .«pending_count» → drop i (view b .pending) ≡ getD (b .«pending_deliveries») i d ∷ drop (i + 1) (view b .pending)
+  unfolding view
+  queue-step i d l =
+      let z = sizes b normal in
+      let k = z .pending in
+      let e = z .pending-long in
+      counted-step (b .«pending_deliveries») (b .«pending_count») i d l (omega arith)
+
+  pub queue-end : (i : ℕ) → b .«pending_count» ≤ i → drop i (view b .pending) ≡ []
+  unfolding view
+  queue-end i l =
+      let z = sizes b normal in
+      let k = z .pending in
+      let e = z .pending-long in
+      counted-end (b .«pending_deliveries») (b .«pending_count») i l (omega arith)
+
+  pub queue-count : b .«pending_count» ≤ 16
+  queue-count = sizes b normal .pending

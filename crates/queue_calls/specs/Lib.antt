@@ -1,0 +1,4 @@
+pub mod Ends
+pub mod OfferLaws
+pub mod Each
+pub mod CallLaws

@@ -1,0 +1,88 @@
+-- What each method answers: the rules of its call behind the door, in the method's answer struct, beside the next book.
+use Rattle.rules.specs.Call.{Call}
+use Rattle.replies.specs.Reply.{doneReply, statusReply, idsReply, flagReply, heightReply, attemptReply, feeIntentReply, finalizeReply, writtenReply}
+use Rattle.replies.specs.declared.DoneReply.{DoneReply}
+use Rattle.submission.specs.declared.DoneAnswer.{DoneAnswer}
+use Rattle.replies.specs.declared.StatusReply.{StatusReply}
+use Rattle.submission.specs.declared.StatusAnswer.{StatusAnswer}
+use Rattle.replies.specs.declared.IdsReply.{IdsReply}
+use Rattle.submission.specs.declared.IdsAnswer.{IdsAnswer}
+use Rattle.replies.specs.declared.FlagReply.{FlagReply}
+use Rattle.submission.specs.declared.FlagAnswer.{FlagAnswer}
+use Rattle.replies.specs.declared.HeightReply.{HeightReply}
+use Rattle.submission.specs.declared.HeightAnswer.{HeightAnswer}
+use Rattle.replies.specs.declared.AttemptReply.{AttemptReply}
+use Rattle.submission.specs.declared.AttemptAnswer.{AttemptAnswer}
+use Rattle.replies.specs.declared.FeeIntentReply.{FeeIntentReply}
+use Rattle.submission.specs.declared.FeeIntentAnswer.{FeeIntentAnswer}
+use Rattle.replies.specs.declared.FinalizeReply.{FinalizeReply}
+use Rattle.submission.specs.declared.FinalizeAnswer.{FinalizeAnswer}
+use Rattle.replies.specs.declared.WrittenReply.{WrittenReply}
+use Rattle.submission.specs.declared.WrittenAnswer.{WrittenAnswer}
+use Rattle.drain_answers.specs.declared.DrainReply.{DrainReply}
+use Rattle.submission.specs.declared.DrainAnswer.{DrainAnswer}
+use Rattle.submission.specs.declared.SubmissionBook.{SubmissionBook}
+use Rattle.submission.specs.Book.{bookOf, outcome}
+use Rattle.drain_answers.specs.DrainReply.{drainReply}
+
+-- ---- a lower reply, with the book as one of ours
+abbrev pub doneFrom : DoneReply → DoneAnswer
+doneFrom r = record { answer = r .answer; book = bookOf (r .book) }
+
+abbrev pub statusFrom : StatusReply → StatusAnswer
+statusFrom r = record { answer = r .answer; status = r .status; book = bookOf (r .book) }
+
+abbrev pub idsFrom : IdsReply → IdsAnswer
+idsFrom r = record { answer = r .answer; ids = r .ids; book = bookOf (r .book) }
+
+abbrev pub flagFrom : FlagReply → FlagAnswer
+flagFrom r = record { answer = r .answer; flag = r .flag; book = bookOf (r .book) }
+
+abbrev pub heightFrom : HeightReply → HeightAnswer
+heightFrom r = record { answer = r .answer; height = r .height; book = bookOf (r .book) }
+
+abbrev pub attemptFrom : AttemptReply → AttemptAnswer
+attemptFrom r = record { answer = r .answer; attempt = r .attempt; book = bookOf (r .book) }
+
+abbrev pub feeIntentFrom : FeeIntentReply → FeeIntentAnswer
+feeIntentFrom r = record { answer = r .answer; present = r .present; «fee_intent» = r .«fee_intent»; book = bookOf (r .book) }
+
+abbrev pub finalizeFrom : FinalizeReply → FinalizeAnswer
+finalizeFrom r = record { answer = r .answer; present = r .present; finalized = r .finalized; book = bookOf (r .book) }
+
+abbrev pub writtenFrom : WrittenReply → WrittenAnswer
+writtenFrom r = record { answer = r .answer; length = r .length; book = bookOf (r .book) }
+
+abbrev pub drainFrom : DrainReply → DrainAnswer
+drainFrom r = record { answer = r .answer; «submission_count» = r .«submission_count»; submissions = r .submissions; «failure_count» = r .«failure_count»; failures = r .failures; book = bookOf (r .book) }
+
+-- ---- the answer to a call
+abbrev pub doneAnswer : SubmissionBook → Call → DoneAnswer
+doneAnswer s c = doneFrom (doneReply (s .parts) (outcome s c))
+
+abbrev pub statusAnswer : SubmissionBook → Call → StatusAnswer
+statusAnswer s c = statusFrom (statusReply (s .parts) (outcome s c))
+
+abbrev pub idsAnswer : SubmissionBook → Call → IdsAnswer
+idsAnswer s c = idsFrom (idsReply (s .parts) (outcome s c))
+
+abbrev pub flagAnswer : SubmissionBook → Call → FlagAnswer
+flagAnswer s c = flagFrom (flagReply (s .parts) (outcome s c))
+
+abbrev pub heightAnswer : SubmissionBook → Call → HeightAnswer
+heightAnswer s c = heightFrom (heightReply (s .parts) (outcome s c))
+
+abbrev pub attemptAnswer : SubmissionBook → Call → AttemptAnswer
+attemptAnswer s c = attemptFrom (attemptReply (s .parts) (outcome s c))
+
+abbrev pub feeIntentAnswer : SubmissionBook → Call → FeeIntentAnswer
+feeIntentAnswer s c = feeIntentFrom (feeIntentReply (s .parts) (outcome s c))
+
+abbrev pub finalizeAnswer : SubmissionBook → Call → FinalizeAnswer
+finalizeAnswer s c = finalizeFrom (finalizeReply (s .parts) (outcome s c))
+
+abbrev pub writtenAnswer : SubmissionBook → Call → WrittenAnswer
+writtenAnswer s c = writtenFrom (writtenReply (s .parts) (outcome s c))
+
+abbrev pub drainAnswer : SubmissionBook → Call → DrainAnswer
+drainAnswer s c = drainFrom (drainReply (s .parts) (outcome s c))

@@ -1,0 +1,488 @@
+// `SubmissionBook` by value, one method a call: self in, the next book back beside the answer. No method asks anything of its input.
+ghost use mathlib.Core.Path.{_≡_};
+ghost use lib.ListN.{length};
+ghost use Rattle.book_data.specs.Model.{back};
+ghost use Rattle.rules.specs.Call.{AbandonAttempt, AbsentOutputsForIds, AcknowledgeAttempt, ActiveIds, Attempt, BeginReplay, CausallyRolledBackIds, ClearLocalArtifacts, CollectRollbackReplayIds, Drain, DrainRetirements, EmitRetirement, FeeIntentForAttempt, FinalizeAttempt, FinishReplayIfAdvanced, Queue, QueueFeeReadiness, QueueRebroadcastEpoch, QueueRetainedDelivery, ReconcileChainTerminality, ReconciliationInputCoins, RelinquishCompletedAttempt, ReplayRollbackHeight, RestoreRuntime, RetainSubmitted, StopAttempt, WriteArchive};
+ghost use Rattle.rules.specs.Opened.{opened};
+ghost use Rattle.replies.specs.Values.{sourceOf};
+ghost use Rattle.submission.specs.Book.{bookOf, bufferAfter};
+ghost use Rattle.submission.specs.Answers.{doneAnswer, statusAnswer, idsAnswer, flagAnswer, heightAnswer, attemptAnswer, feeIntentAnswer, finalizeAnswer, writtenAnswer, drainAnswer, doneFrom, statusFrom, idsFrom, flagFrom, heightFrom, attemptFrom, feeIntentFrom, finalizeFrom, writtenFrom, drainFrom};
+use book_data::BookData;
+use book_data::DeliveryTrigger;
+use book_data::Height;
+use book_data::Ids64;
+use book_data::OptionalAttempt;
+use book_data::OptionalHeight;
+use book_data::PendingDelivery;
+use book_data::SpendBundle;
+use book_data::SubmissionDeliveryGoal;
+use book_data::SubmissionFeeIntent;
+use book_data::SubmissionId;
+use book_data::Token;
+use drain_answers::DrainReply;
+use drain_answers::SubmissionDrainFailure;
+use replies::AttemptReply;
+use replies::CallAnswer;
+use replies::DoneReply;
+use replies::FeeIntentReply;
+use replies::FinalizeReply;
+use replies::FinalizedSubmission;
+use replies::FlagReply;
+use replies::HeightReply;
+use replies::IdsReply;
+use replies::StatusReply;
+use replies::SubmissionAttemptStatus;
+use replies::SubmissionFeeSource;
+use replies::WrittenReply;
+use submitted::DrainedSubmission;
+
+pub struct SubmissionBook {
+    pub parts: BookData,
+}
+
+pub struct DoneAnswer {
+    pub answer: CallAnswer,
+    pub book: SubmissionBook,
+}
+
+pub struct StatusAnswer {
+    pub answer: CallAnswer,
+    pub status: SubmissionAttemptStatus,
+    pub book: SubmissionBook,
+}
+
+pub struct IdsAnswer {
+    pub answer: CallAnswer,
+    pub ids: Ids64,
+    pub book: SubmissionBook,
+}
+
+pub struct FlagAnswer {
+    pub answer: CallAnswer,
+    pub flag: bool,
+    pub book: SubmissionBook,
+}
+
+pub struct HeightAnswer {
+    pub answer: CallAnswer,
+    pub height: OptionalHeight,
+    pub book: SubmissionBook,
+}
+
+pub struct AttemptAnswer {
+    pub answer: CallAnswer,
+    pub attempt: OptionalAttempt,
+    pub book: SubmissionBook,
+}
+
+pub struct FeeIntentAnswer {
+    pub answer: CallAnswer,
+    pub present: bool,
+    pub fee_intent: SubmissionFeeIntent,
+    pub book: SubmissionBook,
+}
+
+pub struct FinalizeAnswer {
+    pub answer: CallAnswer,
+    pub present: bool,
+    pub finalized: FinalizedSubmission,
+    pub book: SubmissionBook,
+}
+
+pub struct WrittenAnswer {
+    pub answer: CallAnswer,
+    pub length: usize,
+    pub book: SubmissionBook,
+}
+
+pub struct DrainAnswer {
+    pub answer: CallAnswer,
+    pub submission_count: usize,
+    pub submissions: [DrainedSubmission; 16],
+    pub failure_count: usize,
+    pub failures: [SubmissionDrainFailure; 16],
+    pub book: SubmissionBook,
+}
+
+fn done_answer(r: DoneReply) -> DoneAnswer
+    ensures { λ r₁. ⌜ r₁ ≡ doneFrom r ⌝ }
+{
+    let answer = r.answer;
+    let parts = r.book;
+    let book = SubmissionBook { parts };
+    DoneAnswer { answer, book }
+}
+
+fn status_answer(r: StatusReply) -> StatusAnswer
+    ensures { λ r₁. ⌜ r₁ ≡ statusFrom r ⌝ }
+{
+    let answer = r.answer;
+    let status = r.status;
+    let parts = r.book;
+    let book = SubmissionBook { parts };
+    StatusAnswer {
+        answer,
+        status,
+        book,
+    }
+}
+
+fn ids_answer(r: IdsReply) -> IdsAnswer
+    ensures { λ r₁. ⌜ r₁ ≡ idsFrom r ⌝ }
+{
+    let answer = r.answer;
+    let ids = r.ids;
+    let parts = r.book;
+    let book = SubmissionBook { parts };
+    IdsAnswer { answer, ids, book }
+}
+
+fn flag_answer(r: FlagReply) -> FlagAnswer
+    ensures { λ r₁. ⌜ r₁ ≡ flagFrom r ⌝ }
+{
+    let answer = r.answer;
+    let parts = r.book;
+    let book = SubmissionBook { parts };
+    FlagAnswer {
+        answer,
+        flag: r.flag,
+        book,
+    }
+}
+
+fn height_answer(r: HeightReply) -> HeightAnswer
+    ensures { λ r₁. ⌜ r₁ ≡ heightFrom r ⌝ }
+{
+    let answer = r.answer;
+    let height = r.height;
+    let parts = r.book;
+    let book = SubmissionBook { parts };
+    HeightAnswer {
+        answer,
+        height,
+        book,
+    }
+}
+
+fn attempt_answer(r: AttemptReply) -> AttemptAnswer
+    ensures { λ r₁. ⌜ r₁ ≡ attemptFrom r ⌝ }
+{
+    let answer = r.answer;
+    let attempt = r.attempt;
+    let parts = r.book;
+    let book = SubmissionBook { parts };
+    AttemptAnswer {
+        answer,
+        attempt,
+        book,
+    }
+}
+
+fn fee_intent_answer(r: FeeIntentReply) -> FeeIntentAnswer
+    ensures { λ r₁. ⌜ r₁ ≡ feeIntentFrom r ⌝ }
+{
+    let answer = r.answer;
+    let fee_intent = r.fee_intent;
+    let parts = r.book;
+    let book = SubmissionBook { parts };
+    FeeIntentAnswer {
+        answer,
+        present: r.present,
+        fee_intent,
+        book,
+    }
+}
+
+fn finalize_answer(r: FinalizeReply) -> FinalizeAnswer
+    ensures { λ r₁. ⌜ r₁ ≡ finalizeFrom r ⌝ }
+{
+    let answer = r.answer;
+    let finalized = r.finalized;
+    let parts = r.book;
+    let book = SubmissionBook { parts };
+    FinalizeAnswer {
+        answer,
+        present: r.present,
+        finalized,
+        book,
+    }
+}
+
+fn written_answer(r: WrittenReply) -> WrittenAnswer
+    ensures { λ r₁. ⌜ r₁ ≡ writtenFrom r ⌝ }
+{
+    let answer = r.answer;
+    let parts = r.book;
+    let book = SubmissionBook { parts };
+    WrittenAnswer {
+        answer,
+        length: r.length,
+        book,
+    }
+}
+
+fn drain_answer(r: DrainReply) -> DrainAnswer
+    ensures { λ r₁. ⌜ r₁ ≡ drainFrom r ⌝ }
+{
+    let answer = r.answer;
+    let submissions = r.submissions;
+    let failures = r.failures;
+    let parts = r.book;
+    let book = SubmissionBook { parts };
+    DrainAnswer {
+        answer,
+        submission_count: r.submission_count,
+        submissions,
+        failure_count: r.failure_count,
+        failures,
+        book,
+    }
+}
+
+impl SubmissionBook {
+    // Any next token and any next submission id; never refused.
+    pub fn open(token: Token, id: SubmissionId) -> SubmissionBook
+        ensures { λ r. ⌜ r ≡ bookOf (back (opened (token .0) (id .0))) ⌝ }
+    {
+        let parts = open_book::open(token, id);
+        SubmissionBook { parts }
+    }
+
+    pub fn queue(self, d: PendingDelivery) -> DoneAnswer
+        ensures { λ r. ⌜ r ≡ doneAnswer self (Queue d) ⌝ }
+    {
+        let parts = self.parts;
+        let r = queue_calls::queue(parts, d);
+        done_answer(r)
+    }
+
+    pub fn queue_rebroadcast_epoch(self, ids: &[u64], trigger: DeliveryTrigger) -> DoneAnswer
+        ensures { λ r. ⌜ r ≡ doneAnswer self (QueueRebroadcastEpoch (now (ids .entry)) trigger) ⌝ }
+    {
+        let parts = self.parts;
+        let r = queue_calls::queue_rebroadcast_epoch(parts, ids, trigger);
+        done_answer(r)
+    }
+
+    pub fn queue_fee_readiness(self) -> DoneAnswer
+        ensures { λ r. ⌜ r ≡ doneAnswer self QueueFeeReadiness ⌝ }
+    {
+        let parts = self.parts;
+        let r = queue_calls::queue_fee_readiness(parts);
+        done_answer(r)
+    }
+
+    pub fn queue_retained_delivery(
+        self,
+        id: SubmissionId,
+        trigger: DeliveryTrigger,
+        goal: SubmissionDeliveryGoal,
+    ) -> DoneAnswer
+        ensures { λ r. ⌜ r ≡ doneAnswer self (QueueRetainedDelivery (id .0) trigger goal) ⌝ }
+    {
+        let parts = self.parts;
+        let r = queue_calls::queue_retained_delivery(parts, id, trigger, goal);
+        done_answer(r)
+    }
+
+    pub fn drain(self) -> DrainAnswer
+        ensures { λ r. ⌜ r ≡ drainAnswer self Drain ⌝ }
+    {
+        let parts = self.parts;
+        let r = drain::drain(parts);
+        drain_answer(r)
+    }
+
+    pub fn finalize_attempt(
+        self,
+        token: Token,
+        source: SubmissionFeeSource,
+        joined: SpendBundle,
+    ) -> FinalizeAnswer
+        ensures { λ r. ⌜ r ≡ finalizeAnswer self (FinalizeAttempt (token .0) (sourceOf source) joined) ⌝ }
+    {
+        let parts = self.parts;
+        let r = finalize_call::finalize_attempt(parts, token, source, joined);
+        finalize_answer(r)
+    }
+
+    pub fn fee_intent_for_attempt(self, token: Token) -> FeeIntentAnswer
+        ensures { λ r. ⌜ r ≡ feeIntentAnswer self (FeeIntentForAttempt (token .0)) ⌝ }
+    {
+        let parts = self.parts;
+        let r = attempt_calls::fee_intent_for_attempt(parts, token);
+        fee_intent_answer(r)
+    }
+
+    pub fn acknowledge_attempt(self, token: Token) -> StatusAnswer
+        ensures { λ r. ⌜ r ≡ statusAnswer self (AcknowledgeAttempt (token .0)) ⌝ }
+    {
+        let parts = self.parts;
+        let r = attempt_calls::acknowledge_attempt(parts, token);
+        status_answer(r)
+    }
+
+    pub fn stop_attempt(self, token: Token) -> StatusAnswer
+        ensures { λ r. ⌜ r ≡ statusAnswer self (StopAttempt (token .0)) ⌝ }
+    {
+        let parts = self.parts;
+        let r = attempt_calls::stop_attempt(parts, token);
+        status_answer(r)
+    }
+
+    pub fn abandon_attempt(self, token: Token) -> StatusAnswer
+        ensures { λ r. ⌜ r ≡ statusAnswer self (AbandonAttempt (token .0)) ⌝ }
+    {
+        let parts = self.parts;
+        let r = attempt_calls::abandon_attempt(parts, token);
+        status_answer(r)
+    }
+
+    pub fn relinquish_completed_attempt(self, token: Token) -> StatusAnswer
+        ensures { λ r. ⌜ r ≡ statusAnswer self (RelinquishCompletedAttempt (token .0)) ⌝ }
+    {
+        let parts = self.parts;
+        let r = attempt_calls::relinquish_completed_attempt(parts, token);
+        status_answer(r)
+    }
+
+    pub fn attempt(self, token: Token) -> AttemptAnswer
+        ensures { λ r. ⌜ r ≡ attemptAnswer self (Attempt (token .0)) ⌝ }
+    {
+        let parts = self.parts;
+        let r = attempt_calls::attempt(parts, token);
+        attempt_answer(r)
+    }
+
+    pub fn retain_submitted(self, ids: &[u64]) -> IdsAnswer
+        ensures { λ r. ⌜ r ≡ idsAnswer self (RetainSubmitted (now (ids .entry))) ⌝ }
+    {
+        let parts = self.parts;
+        let r = retained_calls::retain_submitted(parts, ids);
+        ids_answer(r)
+    }
+
+    pub fn emit_retirement(self, id: SubmissionId) -> DoneAnswer
+        ensures { λ r. ⌜ r ≡ doneAnswer self (EmitRetirement (id .0)) ⌝ }
+    {
+        let parts = self.parts;
+        let r = replay_calls::emit_retirement(parts, id);
+        done_answer(r)
+    }
+
+    pub fn drain_retirements(self) -> IdsAnswer
+        ensures { λ r. ⌜ r ≡ idsAnswer self DrainRetirements ⌝ }
+    {
+        let parts = self.parts;
+        let r = replay_calls::drain_retirements(parts);
+        ids_answer(r)
+    }
+
+    pub fn active_ids(self) -> IdsAnswer
+        ensures { λ r. ⌜ r ≡ idsAnswer self ActiveIds ⌝ }
+    {
+        let parts = self.parts;
+        let r = retained_calls::active_ids(parts);
+        ids_answer(r)
+    }
+
+    pub fn begin_replay(self, height: Height) -> FlagAnswer
+        ensures { λ r. ⌜ r ≡ flagAnswer self (BeginReplay height) ⌝ }
+    {
+        let parts = self.parts;
+        let r = replay_calls::begin_replay(parts, height);
+        flag_answer(r)
+    }
+
+    pub fn finish_replay_if_advanced(self, height: Height) -> DoneAnswer
+        ensures { λ r. ⌜ r ≡ doneAnswer self (FinishReplayIfAdvanced height) ⌝ }
+    {
+        let parts = self.parts;
+        let r = replay_calls::finish_replay_if_advanced(parts, height);
+        done_answer(r)
+    }
+
+    pub fn replay_rollback_height(self) -> HeightAnswer
+        ensures { λ r. ⌜ r ≡ heightAnswer self ReplayRollbackHeight ⌝ }
+    {
+        let parts = self.parts;
+        let r = replay_calls::replay_rollback_height(parts);
+        height_answer(r)
+    }
+
+    pub fn reconcile_chain_terminality(
+        self,
+        observed: &[u8],
+        spent: &[u8],
+        reorg: bool,
+        rolled_back: &[u64],
+    ) -> DoneAnswer
+        ensures { λ r. ⌜ r ≡ doneAnswer self (ReconcileChainTerminality (now (observed .entry)) (now (spent .entry)) reorg (now («rolled_back» .entry))) ⌝ }
+    {
+        let parts = self.parts;
+        let r = chain_calls::reconcile_chain_terminality(
+            parts,
+            observed,
+            spent,
+            reorg,
+            rolled_back,
+        );
+        done_answer(r)
+    }
+
+    pub fn causally_rolled_back_ids(self, absent: &[u8], inputs: &[u8]) -> IdsAnswer
+        ensures { λ r. ⌜ r ≡ idsAnswer self (CausallyRolledBackIds (now (absent .entry)) (now (inputs .entry))) ⌝ }
+    {
+        let parts = self.parts;
+        let r = chain_calls::causally_rolled_back_ids(parts, absent, inputs);
+        ids_answer(r)
+    }
+
+    pub fn collect_rollback_replay_ids(self, ids: &[u64]) -> DoneAnswer
+        ensures { λ r. ⌜ r ≡ doneAnswer self (CollectRollbackReplayIds (now (ids .entry))) ⌝ }
+    {
+        let parts = self.parts;
+        let r = replay_queue::collect_rollback_replay_ids(parts, ids);
+        done_answer(r)
+    }
+
+    pub fn clear_local_artifacts(self) -> DoneAnswer
+        ensures { λ r. ⌜ r ≡ doneAnswer self ClearLocalArtifacts ⌝ }
+    {
+        let parts = self.parts;
+        let r = retained_calls::clear_local_artifacts(parts);
+        done_answer(r)
+    }
+
+    pub fn restore_runtime(self) -> DoneAnswer
+        ensures { λ r. ⌜ r ≡ doneAnswer self RestoreRuntime ⌝ }
+    {
+        let parts = self.parts;
+        let r = retained_calls::restore_runtime(parts);
+        done_answer(r)
+    }
+
+    pub fn reconciliation_input_coins(self, outputs: &[u8], out: &mut [u8]) -> WrittenAnswer
+        ensures { λ r. ⌜ (r ≡ writtenAnswer self (ReconciliationInputCoins (now (outputs .entry)) (length (now (out .entry))))) × (now (out .exit) ≡ bufferAfter self (ReconciliationInputCoins (now (outputs .entry)) (length (now (out .entry)))) (now (out .entry))) ⌝ }
+    {
+        let parts = self.parts;
+        let r = coin_calls::reconciliation_input_coins(parts, outputs, out);
+        written_answer(r)
+    }
+
+    pub fn absent_outputs_for_ids(self, ids: &[u64], absent: &[u8], out: &mut [u8]) -> WrittenAnswer
+        ensures { λ r. ⌜ (r ≡ writtenAnswer self (AbsentOutputsForIds (now (ids .entry)) (now (absent .entry)) (length (now (out .entry))))) × (now (out .exit) ≡ bufferAfter self (AbsentOutputsForIds (now (ids .entry)) (now (absent .entry)) (length (now (out .entry)))) (now (out .entry))) ⌝ }
+    {
+        let parts = self.parts;
+        let r = coin_calls::absent_outputs_for_ids(parts, ids, absent, out);
+        written_answer(r)
+    }
+
+    pub fn write_archive(self, out: &mut [u8]) -> WrittenAnswer
+        ensures { λ r. ⌜ (r ≡ writtenAnswer self (WriteArchive (length (now (out .entry))))) × (now (out .exit) ≡ bufferAfter self (WriteArchive (length (now (out .entry)))) (now (out .entry))) ⌝ }
+    {
+        let parts = self.parts;
+        let r = coin_calls::write_archive(parts, out);
+        written_answer(r)
+    }
+}
