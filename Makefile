@@ -30,9 +30,9 @@ bench:
 	@bench/archive/run.sh
 
 archives:
-	@rt check archive_driver >/dev/null
+	@rt check book_driver >/dev/null
 	@cd tests/oracle && cargo build --release --offline
-	@tests/oracle/target/release/oracle archives --driver target/bin/archive_driver --seed 1 --archives 5
+	@tests/oracle/target/release/oracle archives --driver target/bin/book_driver --seed 1 --archives 5
 
 lib:
 	rt staticlib sha256_c
