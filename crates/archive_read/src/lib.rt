@@ -106,9 +106,24 @@ fn refused(place: usize) -> ReadArchive
     }
 }
 
-fn accepted(book: BookData) -> ReadArchive
-    ensures { λ r. ⌜ r ≡ record { ok = true; place = 0; book = book } ⌝ }
+// The sections as a book.
+fn accepted(n: ReadNumbers, t: ReadRetained, q: ReadQueue, e: ReadTail) -> ReadArchive
+    ensures { λ r. ⌜ r ≡ record { ok = true; place = 0; book = record { «next_delivery_attempt_token» = record { 0 = n .token }; «next_submission_id» = record { 0 = n .id }; «submitted_count» = t .count; submitted = t .items; «pending_count» = q .count; «pending_deliveries» = q .items; «retired_submission_ids» = e .retired; «replay_epoch» = e .epoch } } ⌝ }
 {
+    let submitted = t.items;
+    let pending_deliveries = q.items;
+    let retired_submission_ids = e.retired;
+    let replay_epoch = e.epoch;
+    let book = BookData {
+        next_delivery_attempt_token: Token(n.token),
+        next_submission_id: SubmissionId(n.id),
+        submitted_count: t.count,
+        submitted,
+        pending_count: q.count,
+        pending_deliveries,
+        retired_submission_ids,
+        replay_epoch,
+    };
     ReadArchive {
         ok: true,
         place: 0,
@@ -144,18 +159,5 @@ pub fn read_archive(s: &[u8]) -> ReadArchive
     if e.at < s.len() {
         return refused(e.at);
     }
-    let pending_deliveries = q.items;
-    let retired_submission_ids = e.retired;
-    let replay_epoch = e.epoch;
-    let book = BookData {
-        next_delivery_attempt_token: Token(n.token),
-        next_submission_id: SubmissionId(n.id),
-        submitted_count,
-        submitted,
-        pending_count: q.count,
-        pending_deliveries,
-        retired_submission_ids,
-        replay_epoch,
-    };
-    accepted(book)
+    accepted(n, t, q, e)
 }

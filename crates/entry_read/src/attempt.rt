@@ -6,12 +6,15 @@ use book_data::DeliveryAttempt;
 use book_data::OptionalAttempt;
 use book_data::SubmittedTx;
 use book_data::Token;
+use spend_read::ReadGoal;
+use spend_read::ReadOptionalHash;
 use spend_read::kind;
 use spend_read::part;
+use wire_bytes::ReadHash;
 use wire_bytes::ReadNumber;
 use wire_bytes::read;
 ghost use mathlib.Core.Path.{_≡_};
-ghost use mathlib.Core.Bool.{false};
+ghost use mathlib.Core.Bool.{true, false};
 ghost use mathlib.Core.List.{_++_};
 ghost use Prim.Native.Nat.{_≤_};
 ghost use lib.ListN.{take};
@@ -117,6 +120,29 @@ fn no_slot(ok: bool, at: usize) -> ReadSlot
     ReadSlot { ok, value, at }
 }
 
+fn got_slot(t: ReadNumber, g: ReadGoal, d: ReadHash, f: ReadOptionalHash) -> ReadSlot
+    ensures { λ r. ⌜ r ≡ record { ok = true; value = record { present = true; attempt = record { token = record { 0 = t .value }; goal = g .value; «drained_variant_fingerprint» = d .value; «finalized_variant_fingerprint» = f .value } }; at = f .at } ⌝ }
+{
+    let goal = g.value;
+    let drained_variant_fingerprint = d.value;
+    let finalized_variant_fingerprint = f.value;
+    let attempt = DeliveryAttempt {
+        token: Token(t.value),
+        goal,
+        drained_variant_fingerprint,
+        finalized_variant_fingerprint,
+    };
+    let value = OptionalAttempt {
+        present: true,
+        attempt,
+    };
+    ReadSlot {
+        ok: true,
+        value,
+        at: f.at,
+    }
+}
+
 // An attempt: token, goal, drained fingerprint, finalised fingerprint.
 fn read_attempt(
     s: &[u8],
@@ -149,24 +175,7 @@ fn read_attempt(
     if !finalized_ok {
         return no_slot(false, f.at);
     }
-    let goal = g.value;
-    let drained_variant_fingerprint = d.value;
-    let finalized_variant_fingerprint = f.value;
-    let attempt = DeliveryAttempt {
-        token: Token(t.value),
-        goal,
-        drained_variant_fingerprint,
-        finalized_variant_fingerprint,
-    };
-    let value = OptionalAttempt {
-        present: true,
-        attempt,
-    };
-    ReadSlot {
-        ok: true,
-        value,
-        at: f.at,
-    }
+    got_slot(t, g, d, f)
 }
 
 fn read_slot(

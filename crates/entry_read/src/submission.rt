@@ -1,12 +1,16 @@
 // A retained submission. `earlier` has the submissions read so far, of which there are n.
 use crate::ReadEntry;
+use crate::ReadFacts;
 use crate::ReadSubmitted;
+use crate::ReadVariant;
 use crate::attempt;
 use crate::variant;
 use book_data::SubmissionId;
 use book_data::SubmittedEntry;
 use book_data::SubmittedTx;
+use spend_read::ReadBundle;
 use spend_read::bundle;
+use wire_bytes::ReadHash;
 use wire_bytes::ReadNumber;
 use wire_bytes::read;
 ghost use mathlib.Core.Path.{_≡_};
@@ -78,13 +82,29 @@ fn no_entry(at: usize) -> ReadEntry
 }
 
 // What follows the slots: intent fingerprint, base bundle, variant, facts.
-fn got_entry(value: SubmittedEntry, at: usize) -> ReadEntry
-    ensures { λ r. ⌜ r ≡ record { ok = true; value = value; at = at } ⌝ }
+fn got_entry(id: u64, p: ReadHash, b: ReadBundle, v: ReadVariant, f: ReadFacts) -> ReadEntry
+    ensures { λ r. ⌜ r ≡ record { ok = true; value = record { id = record { 0 = id }; «intent_fingerprint» = p .value; «base_bundle» = b .value; «current_variant» = v .value; «fee_intent» = f .value .«fee_intent»; «wallet_acknowledged_variant» = f .value .acknowledged; status = f .value .status }; at = f .at } ⌝ }
 {
+    let intent_fingerprint = p.value;
+    let base_bundle = b.value;
+    let current_variant = v.value;
+    let facts = f.value;
+    let fee_intent = facts.fee_intent;
+    let wallet_acknowledged_variant = facts.acknowledged;
+    let status = facts.status;
+    let value = SubmittedEntry {
+        id: SubmissionId(id),
+        intent_fingerprint,
+        base_bundle,
+        current_variant,
+        fee_intent,
+        wallet_acknowledged_variant,
+        status,
+    };
     ReadEntry {
         ok: true,
         value,
-        at,
+        at: f.at,
     }
 }
 
@@ -111,23 +131,7 @@ fn read_entry(s: &[u8], at: usize, id: u64) -> ReadEntry
     if !facts_ok {
         return no_entry(f.at);
     }
-    let intent_fingerprint = p.value;
-    let base_bundle = b.value;
-    let current_variant = v.value;
-    let facts = f.value;
-    let fee_intent = facts.fee_intent;
-    let wallet_acknowledged_variant = facts.acknowledged;
-    let status = facts.status;
-    let value = SubmittedEntry {
-        id: SubmissionId(id),
-        intent_fingerprint,
-        base_bundle,
-        current_variant,
-        fee_intent,
-        wallet_acknowledged_variant,
-        status,
-    };
-    got_entry(value, f.at)
+    got_entry(id, p, b, v, f)
 }
 
 fn no_submitted(at: usize) -> ReadSubmitted

@@ -6,6 +6,11 @@ use book_data::OptionalHash;
 use book_data::SubmissionBroadcastVariant;
 use book_data::SubmissionFeeIntent;
 use book_data::SubmissionStatus;
+use spend_read::ReadChain;
+use spend_read::ReadFeeIntent;
+use spend_read::ReadHeight;
+use spend_read::ReadOptionalHash;
+use spend_read::ReadResolution;
 use spend_read::bundle;
 use spend_read::kind;
 use spend_read::part;
@@ -77,13 +82,24 @@ fn no_facts(at: usize) -> ReadFacts
 }
 
 fn got_facts(
-    fee_intent: SubmissionFeeIntent,
-    acknowledged: OptionalHash,
-    status: SubmissionStatus,
-    at: usize,
+    r: ReadResolution,
+    f: ReadFeeIntent,
+    a: ReadOptionalHash,
+    c: ReadChain,
+    e: ReadHeight,
 ) -> ReadFacts
-    ensures { λ r. ⌜ r ≡ record { ok = true; value = record { «fee_intent» = «fee_intent»; acknowledged = acknowledged; status = status }; at = at } ⌝ }
+    ensures { λ x. ⌜ x ≡ record { ok = true; value = record { «fee_intent» = f .value; acknowledged = a .value; status = record { «fee_resolution» = r .value; «chain_terminality» = c .value; expiry = e .value } }; at = e .at } ⌝ }
 {
+    let fee_resolution = r.value;
+    let fee_intent = f.value;
+    let acknowledged = a.value;
+    let chain_terminality = c.value;
+    let expiry = e.value;
+    let status = SubmissionStatus {
+        fee_resolution,
+        chain_terminality,
+        expiry,
+    };
     let value = EntryFacts {
         fee_intent,
         acknowledged,
@@ -92,7 +108,7 @@ fn got_facts(
     ReadFacts {
         ok: true,
         value,
-        at,
+        at: e.at,
     }
 }
 
@@ -124,15 +140,5 @@ pub fn read_facts(s: &[u8], at: usize) -> ReadFacts
     if !expiry_ok {
         return no_facts(e.at);
     }
-    let fee_resolution = r.value;
-    let fee_intent = f.value;
-    let acknowledged = a.value;
-    let chain_terminality = c.value;
-    let expiry = e.value;
-    let status = SubmissionStatus {
-        fee_resolution,
-        chain_terminality,
-        expiry,
-    };
-    got_facts(fee_intent, acknowledged, status, e.at)
+    got_facts(r, f, a, c, e)
 }

@@ -57,7 +57,7 @@ accepted-requires : tie.Need-accepted-requires
 accepted-requires c κs = search needs
 
 returns-6 : tie.Need-returns-6
-returns-6 c = c .accepted .ensures ∙ answer-got (c .before .before .before .before .before .before .before .before .before .before .before .before .before .before .before .before .args .s .now) (whole-got (c .before .before .before .before .before .before .before .before .before .before .before .before .before .before .before .before .args .s .now) (reads-got (c .before .before .before .before .before .before .before .before .before .before .before .before .before .before .read-numbers .ensures) (c .before .before .before .before .before .before .before .before .before .before .before .before .before .if1 .left)) (cells-got (c .before .before .before .before .before .before .before .before .before .before .before .before .read-retained .ensures) (c .before .before .before .before .before .before .before .before .before .before .before .if2 .left)) (cells-got (c .before .before .before .before .before .before .before .before .before .before .read-queue .ensures) (c .before .before .before .before .before .before .before .before .before .if3 .left)) (tail-got (c .before .before .before .before .before .before .before .read-tail .ensures) (c .before .before .before .before .before .before .if4 .left)) (c .before .before .before .before .if5 .left)) (book-back _ _ (c .before .before .before .before .before .before .before .before .before .before .before .before .read-retained .ensures) (c .before .before .before .before .before .before .before .before .before .before .read-queue .ensures) (c .before .before .before .before .before .before .before .read-tail .ensures))
+returns-6 c = c .accepted .ensures ∙ answer-got (c .before .before .before .before .before .before .before .before .before .before .before .before .before .args .s .now) (whole-got (c .before .before .before .before .before .before .before .before .before .before .before .before .before .args .s .now) (reads-got (c .before .before .before .before .before .before .before .before .before .before .before .read-numbers .ensures) (c .before .before .before .before .before .before .before .before .before .before .if1 .left)) (cells-got (c .before .before .before .before .before .before .before .before .before .read-retained .ensures) (c .before .before .before .before .before .before .before .before .if2 .left)) (cells-got (c .before .before .before .before .before .before .before .read-queue .ensures) (c .before .before .before .before .before .before .if3 .left)) (tail-got (c .before .before .before .before .read-tail .ensures) (c .before .before .before .if4 .left)) (c .before .if5 .left)) (book-back _ _ (c .before .before .before .before .before .before .before .before .before .read-retained .ensures) (c .before .before .before .before .before .before .before .read-queue .ensures) (c .before .before .before .before .read-tail .ensures))
 
 pub read-archive-spec : {M : Type 1} → statement M
 read-archive-spec =

@@ -45,9 +45,12 @@ returns-4 : tie.Need-returns-4
 unfolding parseAttempt
 returns-4 c = rw (c .no-slot4 .ensures) (refuses noAttempt (rw (reads-got (c .before .before .before .before .before .before .before .before .read-token .ensures) (c .before .before .before .before .before .before .before .if1 .left), reads-got (c .before .before .before .before .before .before .read-goal .ensures) (c .before .before .before .before .before .if2 .left), reads-got (c .before .before .before .before .read-hash .ensures) (c .before .before .before .if3 .left), reads-bad (c .before .before .read-optional-hash .ensures) (c .before .if4 .taken))))
 
+got-slot-requires : tie.Need-got-slot-requires
+got-slot-requires c κs = search needs
+
 returns-5 : tie.Need-returns-5
 unfolding parseAttempt
-returns-5 c = gives noAttempt (rw (reads-got (c .before .before .before .before .before .before .before .before .before .read-token .ensures) (c .before .before .before .before .before .before .before .before .if1 .left), reads-got (c .before .before .before .before .before .before .before .read-goal .ensures) (c .before .before .before .before .before .before .if2 .left), reads-got (c .before .before .before .before .before .read-hash .ensures) (c .before .before .before .before .if3 .left), reads-got (c .before .before .before .read-optional-hash .ensures) (c .before .before .if4 .left)))
+returns-5 c = rw (c .got-slot .ensures) (gives noAttempt (rw (reads-got (c .before .before .before .before .before .before .before .before .read-token .ensures) (c .before .before .before .before .before .before .before .if1 .left), reads-got (c .before .before .before .before .before .before .read-goal .ensures) (c .before .before .before .before .before .if2 .left), reads-got (c .before .before .before .before .read-hash .ensures) (c .before .before .before .if3 .left), reads-got (c .before .before .read-optional-hash .ensures) (c .before .if4 .left))))
 
 pub read-attempt-spec : {M : Type 1} → statement M
 read-attempt-spec =
@@ -65,4 +68,5 @@ read-attempt-spec =
     read-optional-hash-requires
     no-slot-requires-4
     returns-4
+    got-slot-requires
     returns-5)

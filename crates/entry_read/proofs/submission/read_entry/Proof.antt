@@ -50,7 +50,7 @@ got-entry-requires c κs = search needs
 
 returns-5 : tie.Need-returns-5
 unfolding parseEntry
-returns-5 c = rw (c .got-entry .ensures) (gives zeroEntry (rw (reads-got (c .before .before .before .before .before .before .before .before .before .before .before .before .before .before .before .read-hash .ensures) (c .before .before .before .before .before .before .before .before .before .before .before .before .before .before .if1 .left), reads-got (c .before .before .before .before .before .before .before .before .before .before .before .before .before .read-bundle .ensures) (c .before .before .before .before .before .before .before .before .before .before .before .before .if2 .left), reads-got (c .before .before .before .before .before .before .before .before .before .before .before .read-variant .ensures) (c .before .before .before .before .before .before .before .before .before .before .if3 .left), reads-got (c .before .before .before .before .before .before .before .before .before .read-facts .ensures) (c .before .before .before .before .before .before .before .before .if4 .left))))
+returns-5 c = rw (c .got-entry .ensures) (gives zeroEntry (rw (reads-got (c .before .before .before .before .before .before .before .before .read-hash .ensures) (c .before .before .before .before .before .before .before .if1 .left), reads-got (c .before .before .before .before .before .before .read-bundle .ensures) (c .before .before .before .before .before .if2 .left), reads-got (c .before .before .before .before .read-variant .ensures) (c .before .before .before .if3 .left), reads-got (c .before .before .read-facts .ensures) (c .before .if4 .left))))
 
 pub read-entry-spec : {M : Type 1} → statement M
 read-entry-spec =

@@ -60,7 +60,7 @@ got-facts-requires c κs = search needs
 
 returns-6 : tie.Need-returns-6
 unfolding parseEntryFacts
-returns-6 c = rw (c .got-facts .ensures) (gives zeroFacts (rw (reads-got (c .before .before .before .before .before .before .before .before .before .before .before .before .read-resolution .ensures) (c .before .before .before .before .before .before .before .before .before .before .before .if1 .left), reads-got (c .before .before .before .before .before .before .before .before .before .before .read-fee-intent .ensures) (c .before .before .before .before .before .before .before .before .before .if2 .left), reads-got (c .before .before .before .before .before .before .before .before .read-optional-hash .ensures) (c .before .before .before .before .before .before .before .if3 .left), reads-got (c .before .before .before .before .before .before .read-chain .ensures) (c .before .before .before .before .before .if4 .left), reads-got (c .before .before .before .before .read-height .ensures) (c .before .before .before .if5 .left))))
+returns-6 c = rw (c .got-facts .ensures) (gives zeroFacts (rw (reads-got (c .before .before .before .before .before .before .before .before .before .before .read-resolution .ensures) (c .before .before .before .before .before .before .before .before .before .if1 .left), reads-got (c .before .before .before .before .before .before .before .before .read-fee-intent .ensures) (c .before .before .before .before .before .before .before .if2 .left), reads-got (c .before .before .before .before .before .before .read-optional-hash .ensures) (c .before .before .before .before .before .if3 .left), reads-got (c .before .before .before .before .read-chain .ensures) (c .before .before .before .if4 .left), reads-got (c .before .before .read-height .ensures) (c .before .if5 .left))))
 
 pub read-facts-spec : {M : Type 1} → statement M
 read-facts-spec =
