@@ -19,8 +19,51 @@ use Rattle.sound_steps.specs.Holds.{Holds, holds-view, holds-soundb}
 use Rattle.sound_steps.specs.Door.{door-open}
 use Rattle.submission.specs.declared.SubmissionBook.{SubmissionBook}
 use Rattle.submission.specs.Book.{bookOf, outcome, next}
+use Rattle.submission.specs.Answers.{doneAnswer, statusAnswer, idsAnswer, flagAnswer, heightAnswer, attemptAnswer, feeIntentAnswer, finalizeAnswer, writtenAnswer, drainAnswer}
 
--- the book of the program after a list of calls; `next s c` is the book in the answer of the method that makes the call c on s
+-- the book in the answer of every method is `next` of its call
+module _ (s : SubmissionBook) (c : Call) where
+  pub done-book : doneAnswer s c .book ≡ next s c
+  unfolding next
+  done-book = refl
+
+  pub status-book : statusAnswer s c .book ≡ next s c
+  unfolding next
+  status-book = refl
+
+  pub ids-book : idsAnswer s c .book ≡ next s c
+  unfolding next
+  ids-book = refl
+
+  pub flag-book : flagAnswer s c .book ≡ next s c
+  unfolding next
+  flag-book = refl
+
+  pub height-book : heightAnswer s c .book ≡ next s c
+  unfolding next
+  height-book = refl
+
+  pub attempt-book : attemptAnswer s c .book ≡ next s c
+  unfolding next
+  attempt-book = refl
+
+  pub fee-intent-book : feeIntentAnswer s c .book ≡ next s c
+  unfolding next
+  fee-intent-book = refl
+
+  pub finalize-book : finalizeAnswer s c .book ≡ next s c
+  unfolding next
+  finalize-book = refl
+
+  pub written-book : writtenAnswer s c .book ≡ next s c
+  unfolding next
+  written-book = refl
+
+  pub drain-book : drainAnswer s c .book ≡ next s c
+  unfolding next
+  drain-book = refl
+
+-- the book of the program after a list of calls, each made by its method on the book that the last one left
 unfoldable pub after : List Call → SubmissionBook → SubmissionBook
 unfolding next
 after [] s = s
