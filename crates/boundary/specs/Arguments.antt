@@ -1,0 +1,74 @@
+-- Arguments in bytes. One that stands for no value of its type is refused 3, behind the door of the book.
+use Prim.Native.Nat.{ℕ, zero, suc, _≤_, _<_}
+use mathlib.Core.Path.{_≡_, refl, sym, ap, _∙_}
+use mathlib.Core.Bool.{Bool, true, false, not, cond}
+use mathlib.Core.List.{List, [], _∷_}
+use mathlib.Core.Option.{Option, none, some}
+use lib.ListN.{length}
+use lib.Dec.{leb}
+use borrow.Author.Tests.{le-leb, lt-leb}
+use Rattle.wire.specs.Wire.{Ans, got, bad, Parser}
+use Rattle.wire_bytes.specs.Reading.{Reads, reads-got, reads-bad}
+use Rattle.book_data.specs.declared.BookData.{BookData}
+use Rattle.rules.specs.Call.{Value}
+use Rattle.rules.specs.Rule.{Rule, undo, run}
+use Rattle.boundary.specs.Held.{Holding}
+use Rattle.boundary.specs.Settle.{Form, boundary, settled, Gives, GivesBook, gives-as, gives-book-as, boundary-held}
+
+-- a call whose argument must stand for a value
+abbrev pub given : {A : Type 0} → Option A → (A → Rule Value) → Rule Value
+given none f = undo 3
+given (some x) f = f x
+
+abbrev pub taken : {A : Type 0} → Ans A → Option A
+taken (got a e) = some a
+taken (bad e) = none
+
+abbrev pub takenWhole : {A : Type 0} → ℕ → Ans A → Option A
+takenWhole n (got a e) = cond (leb n e) (some a) none
+takenWhole n (bad e) = none
+
+-- the value that a byte stands for
+abbrev pub byteAs : {A : Type 0} → Parser A → ℕ → Option A
+byteAs p n = taken (p (n ∷ []) 0)
+
+-- the value that all the bytes stand for, with none left over
+abbrev pub bytesAs : {A : Type 0} → Parser A → List ℕ → Option A
+bytesAs p s = takenWhole (length s) (p s 0)
+
+-- a flag: 0 or 1
+abbrev pub flagIn : ℕ → Option Bool
+flagIn zero = some false
+flagIn (suc zero) = some true
+flagIn (suc (suc k)) = none
+
+module _ {A : Type 0} {z : A} {ok : Bool} {v : A} {e : ℕ} where
+  pub byte-bad : (p : Parser A) (n : ℕ) → Reads z (p (n ∷ []) 0) ok v e → not ok ≡ true → byteAs p n ≡ none
+  byte-bad p n r q = ap taken (reads-bad r q)
+
+  pub byte-got : (p : Parser A) (n : ℕ) → Reads z (p (n ∷ []) 0) ok v e → not ok ≡ false → byteAs p n ≡ some v
+  byte-got p n r q = ap taken (reads-got r q)
+
+  pub bytes-bad : (p : Parser A) (s : List ℕ) → Reads z (p s 0) ok v e → not ok ≡ true → bytesAs p s ≡ none
+  bytes-bad p s r q = ap (takenWhole (length s)) (reads-bad r q)
+
+  pub bytes-over : (p : Parser A) (s : List ℕ) → Reads z (p s 0) ok v e → not ok ≡ false → e < length s → bytesAs p s ≡ none
+  bytes-over p s r q h = ap (takenWhole (length s)) (reads-got r q) ∙ ap (λ (t : Bool). cond t (some v) none) (lt-leb (length s) e h)
+
+  pub bytes-got : (p : Parser A) (s : List ℕ) → Reads z (p s 0) ok v e → not ok ≡ false → length s ≤ e → bytesAs p s ≡ some v
+  bytes-got p s r q h = ap (takenWhole (length s)) (reads-got r q) ∙ ap (λ (t : Bool). cond t (some v) none) (le-leb (length s) e h)
+
+-- ---- an argument that stands for nothing
+module _ (form : Form) (d a : List ℕ) (b : BookData) (h : Holding d b) where
+  pub gives-three : (r : Rule Value) → r ≡ undo 3 → Gives (boundary form r d a) 3 d a
+  unfolding settled run
+  gives-three r e = gives-as (sym (ap (λ (x : Rule Value). boundary form x d a) e ∙ boundary-held form d a b h (undo 3))) (record { number = refl; book = refl; answer = refl })
+
+pub gives-book-three : (form : Form) (d : List ℕ) (b : BookData) (h : Holding d b) (r : Rule Value) → r ≡ undo 3 → GivesBook (boundary form r d []) 3 d
+gives-book-three form d b h r e = let g = gives-three form d [] b h r e in record { number = g .number; book = g .book }
+
+pub given-none : {A : Type 0} (f : A → Rule Value) {x : Option A} → x ≡ none → given x f ≡ undo 3
+given-none {A} f e = ap (λ (y : Option A). given y f) e
+
+pub given-some : {A : Type 0} (f : A → Rule Value) {x : Option A} {v : A} → x ≡ some v → given x f ≡ f v
+given-some {A} f e = ap (λ (y : Option A). given y f) e

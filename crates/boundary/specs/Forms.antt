@@ -1,0 +1,228 @@
+-- The form of each kind of answer in bytes, and the replies of the calls told in it.
+use Prim.Native.Nat.{ℕ, zero, suc, _+_, _-_, _*_, _≤_, _<_, zero-le, min}
+use mathlib.Core.Path.{_≡_, refl, sym, ap, _∙_, subst}
+use mathlib.Core.Bool.{Bool, true, false}
+use mathlib.Core.List.{List, [], _∷_, _++_}
+use mathlib.Core.Option.{none}
+use native.Mathlib.Omega.{arith}
+use native.Mathlib.Nat.{sub-zero}
+use lib.ListN.{length, take, drop, length-append, length-take}
+use lib.Seq.{take-at}
+use Rattle.wire.specs.Wire.{be, encMany, encOpt, overlay}
+use Rattle.wire.specs.Number.{be-length}
+use Rattle.wire.specs.Puts.{Puts, Size, puts-overlay}
+use Rattle.spend.specs.Forms.{encodeBundle, encodeHeight, encodeFeeIntent}
+use Rattle.archive_form.specs.Encode.{encodeHash, encodeAttempt, encodeSlot, goalNumber}
+use Rattle.answers.specs.Fits.{Fits}
+use Rattle.answers.specs.Forms.{flagNumber, statusNumber, dispositionNumber, encodeIds, encodeFinal}
+use Rattle.book_data.specs.Model.{Book, view, ids64}
+use Rattle.book_data.specs.Zero.{zeroFeeIntent, noAttempt}
+use Rattle.book_data.specs.declared.BookData.{BookData}
+use Rattle.book_data.specs.declared.Ids64.{Ids64}
+use Rattle.book_data.specs.declared.OptionalHash.{OptionalHash}
+use Rattle.book_data.specs.declared.DeliveryAttempt.{DeliveryAttempt}
+use Rattle.book_data.specs.declared.OptionalAttempt.{OptionalAttempt}
+use Rattle.book_data.specs.declared.OptionalHeight.the-variants.{NoHeight}
+use Rattle.rules.specs.Call.{Value}
+use Rattle.rules.specs.Rule.{Rule, DrainedSubmission, Outcome, ended, undone, stopped}
+use Rattle.rules.specs.Steps.{runBook}
+use Rattle.replies.specs.Values.{statusBy, idsBy, flagBy, heightBy, attemptBy, hasFeeIntent, feeIntentBy, hasFinal, finalBy, zeroFinal}
+use Rattle.replies.specs.Reply.{valueOf, doneReply, statusReply, idsReply, flagReply, heightReply, attemptReply, feeIntentReply, finalizeReply}
+use Rattle.replies.specs.declared.SubmissionAttemptStatus.the-variants.{Stale}
+use Rattle.replies.specs.declared.FinalizedSubmission.{FinalizedSubmission}
+use Rattle.replies.specs.declared.DoneReply.{DoneReply}
+use Rattle.replies.specs.declared.StatusReply.{StatusReply}
+use Rattle.replies.specs.declared.IdsReply.{IdsReply}
+use Rattle.replies.specs.declared.FlagReply.{FlagReply}
+use Rattle.replies.specs.declared.HeightReply.{HeightReply}
+use Rattle.replies.specs.declared.AttemptReply.{AttemptReply}
+use Rattle.replies.specs.declared.FeeIntentReply.{FeeIntentReply}
+use Rattle.replies.specs.declared.FinalizeReply.{FinalizeReply}
+use Rattle.boundary.specs.Held.{heldIn, Holding}
+use Rattle.boundary.specs.Settle.{Left, Form, refusal, boundary, Gives, GivesBook, gives-as, gives-book-as, finish, Tells, boundary-reply, boundary-absent}
+
+-- ---- forms
+abbrev pub noForm : Form
+noForm xs v = []
+
+abbrev pub statusForm : Form
+statusForm xs v = be 1 (statusNumber (statusBy v))
+
+unfoldable pub idsForm : Form
+unfolding encodeIds
+idsForm xs v = encodeIds (idsBy v)
+
+abbrev pub flagForm : Form
+flagForm xs v = be 1 (flagNumber (flagBy v))
+
+unfoldable pub heightForm : Form
+unfolding encodeHeight
+heightForm xs v = encodeHeight (heightBy v)
+
+unfoldable pub attemptForm : Form
+unfolding encodeSlot
+attemptForm xs v = encodeSlot (attemptBy v)
+
+unfoldable pub feeIntentForm : Form
+unfolding encOpt encodeFeeIntent
+feeIntentForm xs v = encOpt (hasFeeIntent v) (encodeFeeIntent (feeIntentBy v))
+
+unfoldable pub finalForm : Form
+unfolding encOpt encodeFinal
+finalForm xs v = encOpt (hasFinal v) (encodeFinal (finalBy v))
+
+-- ---- a call on bytes that hold no book
+pub gives-absent : (form : Form) (r : Rule Value) (d a : List ℕ) → heldIn d ≡ none → Gives (boundary form r d a) 1 d a
+gives-absent form r d a e = gives-as (sym (boundary-absent form r d a e)) (record { number = refl; book = refl; answer = refl })
+
+pub gives-book-absent : (form : Form) (r : Rule Value) (d : List ℕ) → heldIn d ≡ none → GivesBook (boundary form r d []) 1 d
+gives-book-absent form r d e = gives-book-as (sym (boundary-absent form r d [] e)) (record { number = refl; book = refl })
+
+-- ---- a call's reply, told in its form
+module _ (d a : List ℕ) (b : BookData) (h : Holding d b) (rule : Rule Value) {n : ℕ} {d′ a′ : List ℕ} where
+  pub flag-given : (r : FlagReply) → r ≡ flagReply b (runBook rule (view b)) → Gives (finish (r .answer) (r .book) (be 1 (flagNumber (r .flag))) d a) n d′ a′ → Gives (boundary flagForm rule d a) n d′ a′
+  flag-given r e g =
+      gives-as (ap (λ (x : FlagReply). finish (x .answer) (x .book) (be 1 (flagNumber (x .flag))) d a) e ∙ boundary-reply flagForm d a b h rule _ (go (runBook rule (view b)))) g
+    where
+      go : (o : Outcome Book Value) → Tells flagForm o (be 1 (flagNumber (valueOf false flagBy o)))
+      go (ended m xs v) = refl
+      go (undone k) = tt
+      go (stopped m xs k) = tt
+
+  pub status-given : (r : StatusReply) → r ≡ statusReply b (runBook rule (view b)) → Gives (finish (r .answer) (r .book) (be 1 (statusNumber (r .status))) d a) n d′ a′ → Gives (boundary statusForm rule d a) n d′ a′
+  status-given r e g =
+      gives-as (ap (λ (x : StatusReply). finish (x .answer) (x .book) (be 1 (statusNumber (x .status))) d a) e ∙ boundary-reply statusForm d a b h rule _ (go (runBook rule (view b)))) g
+    where
+      go : (o : Outcome Book Value) → Tells statusForm o (be 1 (statusNumber (valueOf Stale statusBy o)))
+      go (ended m xs v) = refl
+      go (undone k) = tt
+      go (stopped m xs k) = tt
+
+tells-ids : (o : Outcome Book Value) → Tells idsForm o (encodeIds (valueOf (ids64 []) idsBy o))
+unfolding idsForm
+tells-ids (ended m xs v) = refl
+tells-ids (undone k) = tt
+tells-ids (stopped m xs k) = tt
+
+tells-height : (o : Outcome Book Value) → Tells heightForm o (encodeHeight (valueOf NoHeight heightBy o))
+unfolding heightForm
+tells-height (ended m xs v) = refl
+tells-height (undone k) = tt
+tells-height (stopped m xs k) = tt
+
+tells-attempt : (o : Outcome Book Value) → Tells attemptForm o (encodeSlot (valueOf noAttempt attemptBy o))
+unfolding attemptForm
+tells-attempt (ended m xs v) = refl
+tells-attempt (undone k) = tt
+tells-attempt (stopped m xs k) = tt
+
+tells-fee-intent : (o : Outcome Book Value) → Tells feeIntentForm o (encOpt (valueOf false hasFeeIntent o) (encodeFeeIntent (valueOf zeroFeeIntent feeIntentBy o)))
+unfolding feeIntentForm
+tells-fee-intent (ended m xs v) = refl
+tells-fee-intent (undone k) = tt
+tells-fee-intent (stopped m xs k) = tt
+
+tells-final : (o : Outcome Book Value) → Tells finalForm o (encOpt (valueOf false hasFinal o) (encodeFinal (valueOf zeroFinal finalBy o)))
+unfolding finalForm
+tells-final (ended m xs v) = refl
+tells-final (undone k) = tt
+tells-final (stopped m xs k) = tt
+
+tells-none : (o : Outcome Book Value) → Tells noForm o []
+tells-none (ended m xs v) = refl
+tells-none (undone k) = tt
+tells-none (stopped m xs k) = tt
+
+module _ (d a : List ℕ) (b : BookData) (h : Holding d b) (rule : Rule Value) {n : ℕ} {d′ a′ : List ℕ} where
+  pub ids-given : (r : IdsReply) → r ≡ idsReply b (runBook rule (view b)) → Gives (finish (r .answer) (r .book) (encodeIds (r .ids)) d a) n d′ a′ → Gives (boundary idsForm rule d a) n d′ a′
+  ids-given r e g =
+      gives-as (ap (λ (x : IdsReply). finish (x .answer) (x .book) (encodeIds (x .ids)) d a) e ∙ boundary-reply idsForm d a b h rule _ (tells-ids (runBook rule (view b)))) g
+
+  pub height-given : (r : HeightReply) → r ≡ heightReply b (runBook rule (view b)) → Gives (finish (r .answer) (r .book) (encodeHeight (r .height)) d a) n d′ a′ → Gives (boundary heightForm rule d a) n d′ a′
+  height-given r e g =
+      gives-as (ap (λ (x : HeightReply). finish (x .answer) (x .book) (encodeHeight (x .height)) d a) e ∙ boundary-reply heightForm d a b h rule _ (tells-height (runBook rule (view b)))) g
+
+  pub attempt-given : (r : AttemptReply) → r ≡ attemptReply b (runBook rule (view b)) → Gives (finish (r .answer) (r .book) (encodeSlot (r .attempt)) d a) n d′ a′ → Gives (boundary attemptForm rule d a) n d′ a′
+  attempt-given r e g =
+      gives-as (ap (λ (x : AttemptReply). finish (x .answer) (x .book) (encodeSlot (x .attempt)) d a) e ∙ boundary-reply attemptForm d a b h rule _ (tells-attempt (runBook rule (view b)))) g
+
+  pub fee-intent-given : (r : FeeIntentReply) → r ≡ feeIntentReply b (runBook rule (view b)) → Gives (finish (r .answer) (r .book) (encOpt (r .present) (encodeFeeIntent (r .«fee_intent»))) d a) n d′ a′ → Gives (boundary feeIntentForm rule d a) n d′ a′
+  fee-intent-given r e g =
+      gives-as (ap (λ (x : FeeIntentReply). finish (x .answer) (x .book) (encOpt (x .present) (encodeFeeIntent (x .«fee_intent»))) d a) e ∙ boundary-reply feeIntentForm d a b h rule _ (tells-fee-intent (runBook rule (view b)))) g
+
+  pub final-given : (r : FinalizeReply) → r ≡ finalizeReply b (runBook rule (view b)) → Gives (finish (r .answer) (r .book) (encOpt (r .present) (encodeFinal (r .finalized))) d a) n d′ a′ → Gives (boundary finalForm rule d a) n d′ a′
+  final-given r e g =
+      gives-as (ap (λ (x : FinalizeReply). finish (x .answer) (x .book) (encOpt (x .present) (encodeFinal (x .finalized))) d a) e ∙ boundary-reply finalForm d a b h rule _ (tells-final (runBook rule (view b)))) g
+
+pub done-given : (d : List ℕ) (b : BookData) (h : Holding d b) (rule : Rule Value) {n : ℕ} {d′ : List ℕ} (r : DoneReply) → r ≡ doneReply b (runBook rule (view b)) → GivesBook (finish (r .answer) (r .book) [] d []) n d′ → GivesBook (boundary noForm rule d []) n d′
+done-given d b h rule r e g =
+    gives-book-as (ap (λ (x : DoneReply). finish (x .answer) (x .book) [] d []) e ∙ boundary-reply noForm d [] b h rule [] (tells-none (runBook rule (view b)))) g
+
+-- ---- an answer made in an array of its own
+pub told : (x l l′ : List ℕ) (n : ℕ) → Fits x 0 l l′ n → length x ≤ length l → take (n - 0) (drop 0 l′) ≡ x
+unfolding overlay
+told x l l′ n f h =
+    let o = puts-overlay (f .puts (record { fits = omega arith })) in
+    ap (λ (k : ℕ). take k l′) (sub-zero n) ∙ ap (take n) (o .1) ∙ take-at x (drop (length x) l) n (sym (o .0))
+
+-- the same, for the part's end
+pub told-end : (x l l′ : List ℕ) (n : ℕ) → Fits x 0 l l′ n → length x ≤ length l → (n ≤ length l′) × (n ≡ length x)
+told-end x l l′ n f h =
+    let o = puts-overlay (f .puts (record { fits = omega arith })) in
+    let q = ap length (told x l l′ n f h) in
+    (omega (arith, o .0, q, length-take (n - 0) l′), o .0)
+
+-- ---- sizes
+numbers-length : (l : List ℕ) → length (encMany (be 8) l) ≡ length l * 8
+unfolding encMany
+numbers-length [] = refl
+numbers-length (x ∷ l) = omega (arith, length-append (be 8 x) (encMany (be 8) l), be-length 8 x, numbers-length l)
+
+pub ids-most : (i : Ids64) → length (i .items) ≡ 64 → length (encodeIds i) ≤ 513
+unfolding encodeIds
+ids-most i h =
+    omega (arith, length-append (be 1 (min (i .count) 64)) (encMany (be 8) (take (i .count) (i .items))), be-length 1 (min (i .count) 64), numbers-length (take (i .count) (i .items)), length-take (i .count) (i .items))
+
+opt-most : (p : Bool) (k : ℕ) (l : List ℕ) → length l ≤ k → length (encOpt p l) ≤ 1 + k
+unfolding encOpt
+opt-most false k l h = omega (arith, be-length 1 0)
+opt-most true k l h = omega (arith, length-append (be 1 1) l, be-length 1 1)
+
+pub slot-most : (s : OptionalAttempt) → length (s .attempt .«drained_variant_fingerprint») ≡ 32 → length (s .attempt .«finalized_variant_fingerprint» .hash) ≡ 32 → length (encodeSlot s) ≤ 75
+unfolding encodeSlot encodeAttempt encodeHash
+slot-most s d f =
+    let a = s .attempt in
+    let x = be 8 (a .token .0) in
+    let y = be 1 (goalNumber (a .goal)) in
+    let z = a .«drained_variant_fingerprint» in
+    let g = a .«finalized_variant_fingerprint» in
+    opt-most (s .present) 74 (x ++ y ++ z ++ encodeHash g)
+    (omega (arith, length-append (x ++ y ++ z) (encodeHash g), length-append (x ++ y) z, length-append x y, be-length 8 (a .token .0), be-length 1 (goalNumber (a .goal)), opt-most (g .present) 32 (g .hash) (omega arith)))
+
+pub fee-intent-most : (p : Bool) (l : List ℕ) {k : ℕ} → Size l 41 k → length (encOpt p l) ≤ 42
+fee-intent-most p l s = opt-most p 41 l (omega (arith, s .is, s .few))
+
+pub final-most : (p : Bool) (f : FinalizedSubmission) {k : ℕ} → Size (encodeBundle (f .bundle)) 1073 k → length (f .«variant_fingerprint») ≡ 32 → length (encOpt p (encodeFinal f)) ≤ 1117
+unfolding encodeFinal
+final-most p f s h =
+    let b = encodeBundle (f .bundle) in
+    let x = be 8 (f .«applied_fee») in
+    let y = be 1 (flagNumber (f .warning)) in
+    let z = be 1 (dispositionNumber (f .disposition)) in
+    let v = f .«variant_fingerprint» in
+    let w = be 1 (flagNumber (f .«should_broadcast»)) in
+    opt-most p 1116 (b ++ x ++ y ++ z ++ v ++ w)
+    (omega (
+      arith,
+      s .is,
+      s .few,
+      length-append (b ++ x ++ y ++ z ++ v) w,
+      length-append (b ++ x ++ y ++ z) v,
+      length-append (b ++ x ++ y) z,
+      length-append (b ++ x) y,
+      length-append b x,
+      be-length 8 (f .«applied_fee»),
+      be-length 1 (flagNumber (f .warning)),
+      be-length 1 (dispositionNumber (f .disposition)),
+      be-length 1 (flagNumber (f .«should_broadcast»)),
+    ))

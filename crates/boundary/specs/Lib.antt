@@ -1,0 +1,4 @@
+pub mod Held
+pub mod Settle
+pub mod Forms
+pub mod Arguments

@@ -1,0 +1,1 @@
+// A list of calls on lent bytes gives what the rules' list gives: specs/Lists.antt.

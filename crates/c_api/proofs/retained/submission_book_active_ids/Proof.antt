@@ -1,0 +1,43 @@
+use borrow.Author.Tests.{not-true, not-false}
+use Rattle.rules.specs.Calls.ActiveIds.{activeIds}
+use Rattle.boundary.specs.Forms.{gives-absent, ids-given, idsForm}
+use borrow.Author.Needs.{needs}
+use Rattle.c_api.proofs.retained.submission_book_active_ids.Statement.{statement}
+use Rattle.c_api.proofs.retained.submission_book_active_ids.Tie as tie
+
+held-requires : tie.Need-held-requires
+held-requires c κs = search needs
+
+same-length : tie.Need-same-length
+same-length c = search needs
+
+returns : tie.Need-returns
+returns c = gives-absent idsForm (activeIds) (c .before .before .before .before .before .args .book .now) (c .before .before .before .before .before .args .answer .now) (c .before .held .ensures .absent (not-true _ (c .if1 .taken)))
+
+active-ids-sound-requires : tie.Need-active-ids-sound-requires
+active-ids-sound-requires c κs = c .before .before .held .ensures .present (not-false _ (c .before .if1 .left)) .sound
+
+settle-ids-requires : tie.Need-settle-ids-requires
+settle-ids-requires c κs = search needs
+
+same-length-2 : tie.Need-same-length-2
+same-length-2 c = search needs
+
+same-length-3 : tie.Need-same-length-3
+same-length-3 c = search needs
+
+returns-2 : tie.Need-returns-2
+returns-2 c = ids-given (c .before .before .before .before .before .before .before .before .before .before .before .before .before .before .args .book .now) (c .before .before .before .before .before .before .before .before .before .before .before .before .before .before .args .answer .now) (c .before .before .before .before .before .before .before .before .before .before .held .result .book) (c .before .before .before .before .before .before .before .before .before .before .held .ensures .present (not-false _ (c .before .before .before .before .before .before .before .before .before .if1 .left))) (activeIds) (c .before .before .before .before .before .before .before .active-ids-sound .result) (c .before .before .before .before .before .before .before .active-ids-sound .ensures) (c .before .before .before .before .settle-ids .ensures)
+
+pub submission-book-active-ids-spec : {M : Type 1} → statement M
+submission-book-active-ids-spec =
+    tie.close
+    (tie.spec
+    held-requires
+    same-length
+    returns
+    active-ids-sound-requires
+    settle-ids-requires
+    same-length-2
+    same-length-3
+    returns-2)

@@ -1,0 +1,39 @@
+use borrow.Author.Tests.{not-true, not-false}
+use Rattle.rules.specs.Calls.RestoreRuntime.{restoreRuntime}
+use Rattle.boundary.specs.Forms.{gives-book-absent, done-given, noForm}
+use borrow.Author.Needs.{needs}
+use Rattle.c_api.proofs.retained.submission_book_restore_runtime.Statement.{statement}
+use Rattle.c_api.proofs.retained.submission_book_restore_runtime.Tie as tie
+
+held-requires : tie.Need-held-requires
+held-requires c κs = search needs
+
+same-length : tie.Need-same-length
+same-length c = search needs
+
+returns : tie.Need-returns
+returns c = gives-book-absent noForm (restoreRuntime) (c .before .before .before .before .args .book .now) (c .before .held .ensures .absent (not-true _ (c .if1 .taken)))
+
+restore-runtime-sound-requires : tie.Need-restore-runtime-sound-requires
+restore-runtime-sound-requires c κs = c .before .before .held .ensures .present (not-false _ (c .before .if1 .left)) .sound
+
+settle-done-requires : tie.Need-settle-done-requires
+settle-done-requires c κs = search needs
+
+same-length-2 : tie.Need-same-length-2
+same-length-2 c = search needs
+
+returns-2 : tie.Need-returns-2
+returns-2 c = done-given (c .before .before .before .before .before .before .before .before .before .before .args .book .now) (c .before .before .before .before .before .before .before .held .result .book) (c .before .before .before .before .before .before .before .held .ensures .present (not-false _ (c .before .before .before .before .before .before .if1 .left))) (restoreRuntime) (c .before .before .before .before .restore-runtime-sound .result) (c .before .before .before .before .restore-runtime-sound .ensures) (c .before .before .settle-done .ensures)
+
+pub submission-book-restore-runtime-spec : {M : Type 1} → statement M
+submission-book-restore-runtime-spec =
+    tie.close
+    (tie.spec
+    held-requires
+    same-length
+    returns
+    restore-runtime-sound-requires
+    settle-done-requires
+    same-length-2
+    returns-2)

@@ -1,0 +1,125 @@
+-- Calls that only look, and write what they found into a lent buffer: the book stays, and the length is told beside the answer.
+use Prim.Native.Nat.{ℕ, _≤_}
+use mathlib.Core.Path.{_≡_, refl, sym, ap, _∙_, subst}
+use mathlib.Core.Bool.{Bool, true, false, cond, _&&_}
+use mathlib.Core.List.{List, []}
+use mathlib.Core.Option.{Option, none, some}
+use native.Mathlib.Omega.{arith}
+use lib.ListN.{length}
+use lib.Dec.{leb}
+use borrow.Author.Tests.{leb-true}
+use Rattle.wire.specs.Wire.{overlay}
+use Rattle.book_data.specs.Model.{Book, view}
+use Rattle.book_data.specs.declared.BookData.{BookData}
+use Rattle.archive_form.specs.Encode.{encodeModel, encodeBook}
+use Rattle.rules.specs.Call.{Value}
+use Rattle.rules.specs.Call as call
+use Rattle.lists.specs.Lists.{filterb, flatMap, elemb}
+use Rattle.coin_string.specs.CoinList.{coinsIn, coinListb}
+use Rattle.book_data.specs.Sound.{idOf}
+use Rattle.rules.specs.CoinLists.{encodeCoins}
+use Rattle.rules.specs.Doors.{idsOk}
+use Rattle.rules.specs.Rule.{Rule, done, undo, Outcome, ended, undone, stopped, run, book, _>>=_}
+use Rattle.rules.specs.Steps.{runBook}
+use Rattle.rules.specs.Calls.Common.{writing}
+use Rattle.rules.specs.Calls.ReconciliationInputCoins.{inputCoinsToReconcile, reconciliationInputCoins}
+use Rattle.rules.specs.Calls.AbsentOutputsForIds.{absentOutputs, absentOutputsForIds}
+use Rattle.replies.specs.Values.{bytesBy}
+use Rattle.replies.specs.Reply.{valueOf, answerOf, writtenReply, bufferLeft}
+use Rattle.replies.specs.declared.CallAnswer.{CallAnswer}
+use Rattle.replies.specs.declared.CallAnswer.the-variants.{Done, Refused}
+use Rattle.replies.specs.declared.WrittenReply.{WrittenReply}
+use Rattle.boundary.specs.Held.{layout, heldIn, Holding}
+use Rattle.boundary.specs.Settle.{Left, Form, refusal, written, written-fits, settled, boundary, boundary-held, boundary-absent, layout-length, overlay-none, Gives, gives-as}
+
+-- the bytes themselves
+abbrev pub bytesForm : Form
+bytesForm xs v = bytesBy v
+
+-- the length told: that of the answer, and what was there with a refusal
+abbrev pub lengthBy : ℕ → Outcome Book Value → ℕ
+lengthBy k (ended m xs v) = length (bytesBy v)
+lengthBy k (undone n) = k
+lengthBy k (stopped m xs n) = k
+
+abbrev pub lengthOf : ℕ → Rule Value → Option Book → ℕ
+lengthOf k r none = k
+lengthOf k r (some m) = lengthBy k (runBook r m)
+
+pub record GivesBytes (l : Left) (count n : ℕ) (d a : List ℕ) (k : ℕ) : Type 0 where
+  pub left : Gives l n d a
+  pub length : k ≡ count
+
+-- what such a call comes to: the bytes, within the room, or a refusal
+pub data Quiet (m : Book) (room : ℕ) : Outcome Book Value → Type 0 where
+  told : (s : List ℕ) → length s ≤ room → Quiet m room (ended m [] (call.written s))
+  turned : (n : ℕ) → Quiet m room (undone n)
+
+writing-quiet : (m : Book) (room : ℕ) (s : List ℕ) → Quiet m room (runBook (writing room s) m)
+unfolding writing run
+writing-quiet m room s = go (leb (length s) room) refl
+  where
+    go : (t : Bool) → leb (length s) room ≡ t → Quiet m room (runBook (cond t (done (call.written s)) (undo 12)) m)
+    go true e = told s (leb-true (length s) room e)
+    go false e = turned 12
+
+pub reconciliation-quiet : (outputs : List ℕ) (room : ℕ) (m : Book) → Quiet m room (runBook (reconciliationInputCoins outputs room) m)
+unfolding reconciliationInputCoins run
+reconciliation-quiet outputs room m = go (coinListb outputs)
+  where
+    go : (t : Bool) → Quiet m room (runBook (cond t (book >>= (λ b. writing room (encodeCoins (inputCoinsToReconcile (coinsIn outputs) b)))) (undo 2)) m)
+    go true = writing-quiet m room (encodeCoins (inputCoinsToReconcile (coinsIn outputs) m))
+    go false = turned 2
+
+pub absent-quiet : (is absent : List ℕ) (room : ℕ) (m : Book) → Quiet m room (runBook (absentOutputsForIds is absent room) m)
+unfolding absentOutputsForIds run
+absent-quiet is absent room m = go (idsOk is && coinListb absent)
+  where
+    found : Book → List ℕ
+    found b = encodeCoins (flatMap (λ t. absentOutputs (coinsIn absent) (t .entry)) (filterb (λ t. elemb (idOf t) is) (b .submitted)))
+
+    go : (t : Bool) → Quiet m room (runBook (cond t (book >>= (λ b. writing room (found b))) (undo 2)) m)
+    go true = writing-quiet m room (found m)
+    go false = turned 2
+
+done-refused : {X : Type 0} {n : ℕ} → _≡_ {A = CallAnswer} Done (Refused n) → X
+done-refused e = absurd (let z : _≡_ {A = ℕ} 0 1 = cc in omega arith)
+
+refused-done : {X : Type 0} {n : ℕ} → _≡_ {A = CallAnswer} (Refused n) Done → X
+refused-done e = absurd (let z : _≡_ {A = ℕ} 0 1 = cc in omega arith)
+
+refused-same : (x : CallAnswer) (m n : ℕ) → x ≡ Refused m → x ≡ Refused n → n ≡ m
+refused-same x m n e f = cc
+
+module _ (d a : List ℕ) (b : BookData) (h : Holding d b) (k : ℕ) (w : WrittenReply) {a′ : List ℕ} where
+  quiet-done : {o : Outcome Book Value} → Quiet (view b) (length a) o → w ≡ writtenReply b o → a′ ≡ bufferLeft a o → w .answer ≡ Done → Gives (settled bytesForm d a o) 0 d a′ × (w .length ≡ lengthBy k o)
+  unfolding settled encodeBook
+  quiet-done (told s q) e f g = (
+    gives-as (sym (written-fits 0 (encodeBook b) s d a (omega (arith, h .room, layout-length (encodeBook b))) q ∙ ap (λ (x : List ℕ). record { number = 0; book = x; answer = overlay s a }) (h .bytes)))
+        (record { number = refl; book = refl; answer = f }),
+    ap (λ (x : WrittenReply). x .length) e,
+  )
+  quiet-done (turned n) e f g = refused-done (sym (ap (λ (x : WrittenReply). x .answer) e) ∙ g)
+
+  quiet-refused : (n : ℕ) {o : Outcome Book Value} → Quiet (view b) (length a) o → w ≡ writtenReply b o → a′ ≡ bufferLeft a o → w .answer ≡ Refused n → Gives (settled bytesForm d a o) n d a′ × (k ≡ lengthBy k o)
+  unfolding settled
+  quiet-refused n (told s q) e f g = done-refused (sym (ap (λ (x : WrittenReply). x .answer) e) ∙ g)
+  quiet-refused n (turned j) e f g =
+      (record { number = refused-same (w .answer) j n (ap (λ (x : WrittenReply). x .answer) e) g; book = refl; answer = f ∙ overlay-none a }, refl)
+
+  module _ (r : Rule Value) (q : Quiet (view b) (length a) (runBook r (view b))) (e : w ≡ writtenReply b (runBook r (view b))) (f : a′ ≡ bufferLeft a (runBook r (view b))) where
+    pub bytes-done : w .answer ≡ Done → GivesBytes (boundary bytesForm r d a) (lengthOf k r (heldIn d)) 0 d a′ (w .length)
+    bytes-done g =
+        let x = quiet-done q e f g in
+        record { left = gives-as (sym (boundary-held bytesForm d a b h r)) (x .0); length = x .1 ∙ sym (ap (lengthOf k r) (h .held)) }
+
+    pub bytes-refused : (n : ℕ) → w .answer ≡ Refused n → GivesBytes (boundary bytesForm r d a) (lengthOf k r (heldIn d)) n d a′ k
+    bytes-refused n g =
+        let x = quiet-refused n q e f g in
+        record { left = gives-as (sym (boundary-held bytesForm d a b h r)) (x .0); length = x .1 ∙ sym (ap (lengthOf k r) (h .held)) }
+
+pub bytes-absent : (d a : List ℕ) (k : ℕ) (r : Rule Value) → heldIn d ≡ none → GivesBytes (boundary bytesForm r d a) (lengthOf k r (heldIn d)) 1 d a k
+bytes-absent d a k r e = record {
+  left = gives-as (sym (boundary-absent bytesForm r d a e)) (record { number = refl; book = refl; answer = refl });
+  length = sym (ap (lengthOf k r) e);
+}

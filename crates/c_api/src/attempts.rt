@@ -1,0 +1,196 @@
+// Calls by an attempt's token.
+use crate::JoinedBundle;
+use attempt_calls::abandon_attempt_sound;
+use attempt_calls::acknowledge_attempt_sound;
+use attempt_calls::attempt_sound;
+use attempt_calls::fee_intent_for_attempt_sound;
+use attempt_calls::relinquish_completed_attempt_sound;
+use attempt_calls::stop_attempt_sound;
+use book_data::SpendBundle;
+use book_data::Token;
+use boundary::read::held;
+use boundary::reply::settle_attempt;
+use boundary::reply::settle_fee_intent;
+use boundary::reply::settle_final;
+use boundary::reply::settle_status;
+use finalize_call::finalize_attempt_sound;
+use replies::SubmissionFeeSource;
+use spend_read::bundle::read_bundle;
+ghost use mathlib.Core.Path.{_≡_};
+ghost use Rattle.rules.specs.Calls.AcknowledgeAttempt.{acknowledgeAttempt};
+ghost use Rattle.rules.specs.Calls.StopAttempt.{stopAttempt};
+ghost use Rattle.rules.specs.Calls.AbandonAttempt.{abandonAttempt};
+ghost use Rattle.rules.specs.Calls.RelinquishCompletedAttempt.{relinquishCompletedAttempt};
+ghost use Rattle.rules.specs.Calls.FeeIntentForAttempt.{feeIntentForAttempt};
+ghost use Rattle.rules.specs.Calls.Attempt.{attempt};
+ghost use Rattle.boundary.specs.Settle.{boundary, Gives};
+ghost use Rattle.boundary.specs.Forms.{finalForm, attemptForm, feeIntentForm, statusForm};
+ghost use Rattle.boundary.specs.Arguments.{given};
+ghost use Rattle.rules.specs.Calls.FinalizeAttempt.{finalizeAttempt};
+ghost use Rattle.replies.specs.Values.{sourceOf};
+ghost use Rattle.c_api.specs.Laws.{sourceFrom, sourceIn, joinedIn, JoinedAnswer};
+
+#[no_mangle]
+pub extern "C" fn submission_book_acknowledge_attempt(
+    book: &mut [u8],
+    token: u64,
+    answer: &mut [u8],
+) -> u8
+    ensures { λ r. ⌜ Gives (boundary statusForm (acknowledgeAttempt token) (now (book .entry)) (now (answer .entry))) r (now (book .exit)) (now (answer .exit)) ⌝ }
+{
+    let h = held(&*book);
+    let ok = h.ok;
+    if !ok {
+        return 1;
+    }
+    let b = h.book;
+    let r = acknowledge_attempt_sound(b, Token(token));
+    settle_status(r, book, answer)
+}
+
+#[no_mangle]
+pub extern "C" fn submission_book_stop_attempt(book: &mut [u8], token: u64, answer: &mut [u8]) -> u8
+    ensures { λ r. ⌜ Gives (boundary statusForm (stopAttempt token) (now (book .entry)) (now (answer .entry))) r (now (book .exit)) (now (answer .exit)) ⌝ }
+{
+    let h = held(&*book);
+    let ok = h.ok;
+    if !ok {
+        return 1;
+    }
+    let b = h.book;
+    let r = stop_attempt_sound(b, Token(token));
+    settle_status(r, book, answer)
+}
+
+#[no_mangle]
+pub extern "C" fn submission_book_abandon_attempt(
+    book: &mut [u8],
+    token: u64,
+    answer: &mut [u8],
+) -> u8
+    ensures { λ r. ⌜ Gives (boundary statusForm (abandonAttempt token) (now (book .entry)) (now (answer .entry))) r (now (book .exit)) (now (answer .exit)) ⌝ }
+{
+    let h = held(&*book);
+    let ok = h.ok;
+    if !ok {
+        return 1;
+    }
+    let b = h.book;
+    let r = abandon_attempt_sound(b, Token(token));
+    settle_status(r, book, answer)
+}
+
+#[no_mangle]
+pub extern "C" fn submission_book_relinquish_completed_attempt(
+    book: &mut [u8],
+    token: u64,
+    answer: &mut [u8],
+) -> u8
+    ensures { λ r. ⌜ Gives (boundary statusForm (relinquishCompletedAttempt token) (now (book .entry)) (now (answer .entry))) r (now (book .exit)) (now (answer .exit)) ⌝ }
+{
+    let h = held(&*book);
+    let ok = h.ok;
+    if !ok {
+        return 1;
+    }
+    let b = h.book;
+    let r = relinquish_completed_attempt_sound(b, Token(token));
+    settle_status(r, book, answer)
+}
+
+#[no_mangle]
+pub extern "C" fn submission_book_fee_intent_for_attempt(
+    book: &mut [u8],
+    token: u64,
+    answer: &mut [u8],
+) -> u8
+    ensures { λ r. ⌜ Gives (boundary feeIntentForm (feeIntentForAttempt token) (now (book .entry)) (now (answer .entry))) r (now (book .exit)) (now (answer .exit)) ⌝ }
+{
+    let h = held(&*book);
+    let ok = h.ok;
+    if !ok {
+        return 1;
+    }
+    let b = h.book;
+    let r = fee_intent_for_attempt_sound(b, Token(token));
+    settle_fee_intent(r, book, answer)
+}
+
+#[no_mangle]
+pub extern "C" fn submission_book_attempt(book: &mut [u8], token: u64, answer: &mut [u8]) -> u8
+    ensures { λ r. ⌜ Gives (boundary attemptForm (attempt token) (now (book .entry)) (now (answer .entry))) r (now (book .exit)) (now (answer .exit)) ⌝ }
+{
+    let h = held(&*book);
+    let ok = h.ok;
+    if !ok {
+        return 1;
+    }
+    let b = h.book;
+    let r = attempt_sound(b, Token(token));
+    settle_attempt(r, book, answer)
+}
+
+// 0 not requested, 1 joined, 2 a join that failed, 3 failed.
+fn source_from(n: u8) -> SubmissionFeeSource
+    ensures { λ r. ⌜ r ≡ sourceFrom n ⌝ }
+{
+    if n == 0 {
+        return SubmissionFeeSource::NotRequested;
+    }
+    if n == 1 {
+        return SubmissionFeeSource::Joined;
+    }
+    if n == 2 {
+        return SubmissionFeeSource::JoinFailed;
+    }
+    SubmissionFeeSource::Failed
+}
+
+// The joined bundle in its archive form; with any other source there are no bytes.
+fn joined_in(source: u8, joined: &[u8]) -> JoinedBundle
+    ensures { λ r. ⌜ JoinedAnswer source (now (joined .entry)) r ⌝ }
+{
+    if source == 1 {
+        let j = read_bundle(joined, 0, false);
+        let bundle = j.value;
+        return JoinedBundle {
+            ok: j.ok & (joined.len() <= j.at),
+            bundle,
+        };
+    }
+    let bundle = SpendBundle::zero();
+    JoinedBundle {
+        ok: joined.len() <= 0,
+        bundle,
+    }
+}
+
+#[no_mangle]
+pub extern "C" fn submission_book_finalize_attempt(
+    book: &mut [u8],
+    token: u64,
+    source: u8,
+    joined: &[u8],
+    answer: &mut [u8],
+) -> u8
+    ensures { λ r. ⌜ Gives (boundary finalForm (given (sourceIn source) (λ s. given (joinedIn source (now (joined .entry))) (λ j. finalizeAttempt token (sourceOf s) j))) (now (book .entry)) (now (answer .entry))) r (now (book .exit)) (now (answer .exit)) ⌝ }
+{
+    let h = held(&*book);
+    let ok = h.ok;
+    if !ok {
+        return 1;
+    }
+    if 3 < source {
+        return 3;
+    }
+    let s = source_from(source);
+    let j = joined_in(source, joined);
+    let whole = j.ok;
+    if !whole {
+        return 3;
+    }
+    let b = h.book;
+    let bundle = j.bundle;
+    let r = finalize_attempt_sound(b, Token(token), s, bundle);
+    settle_final(r, book, answer)
+}

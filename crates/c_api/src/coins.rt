@@ -1,0 +1,65 @@
+// Coins of the retained submissions, as a coin list in `answer`; its length in `length`. These calls only look at the book.
+use boundary::read::held;
+use coin_calls::absent_outputs_for_ids_sound;
+use coin_calls::reconciliation_input_coins_sound;
+use replies::CallAnswer;
+ghost use mathlib.Core.Path.{_≡_};
+ghost use lib.ListN.{length as long};
+ghost use Rattle.rules.specs.Calls.ReconciliationInputCoins.{reconciliationInputCoins};
+ghost use Rattle.rules.specs.Calls.AbsentOutputsForIds.{absentOutputsForIds};
+ghost use Rattle.boundary.specs.Held.{heldIn};
+ghost use Rattle.boundary.specs.Settle.{boundary};
+ghost use Rattle.c_api.specs.Quiet.{GivesBytes, bytesForm, lengthOf};
+
+#[no_mangle]
+pub extern "C" fn submission_book_reconciliation_input_coins(
+    book: &[u8],
+    outputs: &[u8],
+    answer: &mut [u8],
+    count: &mut u64,
+) -> u8
+    ensures { λ r. ⌜ GivesBytes (boundary bytesForm (reconciliationInputCoins (now (outputs .entry)) (long (now (answer .entry)))) (now (book .entry)) (now (answer .entry))) (lengthOf (now (count .entry)) (reconciliationInputCoins (now (outputs .entry)) (long (now (answer .entry)))) (heldIn (now (book .entry)))) r (now (book .entry)) (now (answer .exit)) (now (count .exit)) ⌝ }
+{
+    let h = held(book);
+    let ok = h.ok;
+    if !ok {
+        return 1;
+    }
+    let b = h.book;
+    let r = reconciliation_input_coins_sound(b, outputs, answer);
+    let said = r.answer;
+    match said {
+        CallAnswer::Done => {
+            *count = r.length as u64;
+            0
+        }
+        CallAnswer::Refused(n) => n,
+    }
+}
+
+#[no_mangle]
+pub extern "C" fn submission_book_absent_outputs_for_ids(
+    book: &[u8],
+    ids: &[u64],
+    absent: &[u8],
+    answer: &mut [u8],
+    count: &mut u64,
+) -> u8
+    ensures { λ r. ⌜ GivesBytes (boundary bytesForm (absentOutputsForIds (now (ids .entry)) (now (absent .entry)) (long (now (answer .entry)))) (now (book .entry)) (now (answer .entry))) (lengthOf (now (count .entry)) (absentOutputsForIds (now (ids .entry)) (now (absent .entry)) (long (now (answer .entry)))) (heldIn (now (book .entry)))) r (now (book .entry)) (now (answer .exit)) (now (count .exit)) ⌝ }
+{
+    let h = held(book);
+    let ok = h.ok;
+    if !ok {
+        return 1;
+    }
+    let b = h.book;
+    let r = absent_outputs_for_ids_sound(b, ids, absent, answer);
+    let said = r.answer;
+    match said {
+        CallAnswer::Done => {
+            *count = r.length as u64;
+            0
+        }
+        CallAnswer::Refused(n) => n,
+    }
+}

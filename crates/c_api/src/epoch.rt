@@ -1,0 +1,93 @@
+// Replay epoch and retirements.
+use book_data::Height;
+use book_data::SubmissionId;
+use boundary::read::held;
+use boundary::reply::settle_flag;
+use boundary::reply::settle_height;
+use boundary::reply::settle_ids;
+use boundary::write::settle_done;
+use replay_calls::begin_replay_sound;
+use replay_calls::drain_retirements_sound;
+use replay_calls::emit_retirement_sound;
+use replay_calls::finish_replay_if_advanced_sound;
+use replay_calls::replay_rollback_height_sound;
+ghost use mathlib.Core.List.{[]};
+ghost use Rattle.rules.specs.Calls.Replay.{beginReplay, finishReplayIfAdvanced, replayRollbackHeight};
+ghost use Rattle.rules.specs.Calls.EmitRetirement.{emitRetirement};
+ghost use Rattle.rules.specs.Calls.DrainRetirements.{drainRetirements};
+ghost use Rattle.boundary.specs.Settle.{boundary, Gives, GivesBook};
+ghost use Rattle.boundary.specs.Forms.{flagForm, heightForm, idsForm, noForm};
+
+#[no_mangle]
+pub extern "C" fn submission_book_begin_replay(
+    book: &mut [u8],
+    height: u64,
+    answer: &mut [u8],
+) -> u8
+    ensures { λ r. ⌜ Gives (boundary flagForm (beginReplay (record { 0 = height })) (now (book .entry)) (now (answer .entry))) r (now (book .exit)) (now (answer .exit)) ⌝ }
+{
+    let h = held(&*book);
+    let ok = h.ok;
+    if !ok {
+        return 1;
+    }
+    let b = h.book;
+    let r = begin_replay_sound(b, Height(height));
+    settle_flag(r, book, answer)
+}
+
+#[no_mangle]
+pub extern "C" fn submission_book_finish_replay_if_advanced(book: &mut [u8], height: u64) -> u8
+    ensures { λ r. ⌜ GivesBook (boundary noForm (finishReplayIfAdvanced (record { 0 = height })) (now (book .entry)) []) r (now (book .exit)) ⌝ }
+{
+    let h = held(&*book);
+    let ok = h.ok;
+    if !ok {
+        return 1;
+    }
+    let b = h.book;
+    let r = finish_replay_if_advanced_sound(b, Height(height));
+    settle_done(r, book)
+}
+
+#[no_mangle]
+pub extern "C" fn submission_book_replay_rollback_height(book: &mut [u8], answer: &mut [u8]) -> u8
+    ensures { λ r. ⌜ Gives (boundary heightForm replayRollbackHeight (now (book .entry)) (now (answer .entry))) r (now (book .exit)) (now (answer .exit)) ⌝ }
+{
+    let h = held(&*book);
+    let ok = h.ok;
+    if !ok {
+        return 1;
+    }
+    let b = h.book;
+    let r = replay_rollback_height_sound(b);
+    settle_height(r, book, answer)
+}
+
+#[no_mangle]
+pub extern "C" fn submission_book_emit_retirement(book: &mut [u8], id: u64) -> u8
+    ensures { λ r. ⌜ GivesBook (boundary noForm (emitRetirement id) (now (book .entry)) []) r (now (book .exit)) ⌝ }
+{
+    let h = held(&*book);
+    let ok = h.ok;
+    if !ok {
+        return 1;
+    }
+    let b = h.book;
+    let r = emit_retirement_sound(b, SubmissionId(id));
+    settle_done(r, book)
+}
+
+#[no_mangle]
+pub extern "C" fn submission_book_drain_retirements(book: &mut [u8], answer: &mut [u8]) -> u8
+    ensures { λ r. ⌜ Gives (boundary idsForm drainRetirements (now (book .entry)) (now (answer .entry))) r (now (book .exit)) (now (answer .exit)) ⌝ }
+{
+    let h = held(&*book);
+    let ok = h.ok;
+    if !ok {
+        return 1;
+    }
+    let b = h.book;
+    let r = drain_retirements_sound(b);
+    settle_ids(r, book, answer)
+}

@@ -1,0 +1,132 @@
+// Calls that offer deliveries.
+use book_data::SubmissionId;
+use boundary::read::held;
+use boundary::write::settle_done;
+use entry_read::delivery::read_delivery;
+use queue_calls::queue_fee_readiness_sound;
+use queue_calls::queue_rebroadcast_epoch_sound;
+use queue_calls::queue_retained_delivery_sound;
+use queue_calls::queue_sound;
+use replay_queue::collect_rollback_replay_ids_sound;
+use spend_read::kind::read_goal;
+use spend_read::kind::read_trigger;
+ghost use mathlib.Core.List.{[]};
+ghost use Rattle.rules.specs.Calls.QueueFeeReadiness.{queueFeeReadiness};
+ghost use Rattle.rules.specs.Calls.CollectRollbackReplayIds.{collectRollbackReplayIds};
+ghost use Rattle.boundary.specs.Settle.{boundary, GivesBook};
+ghost use Rattle.boundary.specs.Forms.{noForm};
+ghost use Rattle.boundary.specs.Arguments.{given, byteAs, bytesAs};
+ghost use Rattle.archive_form.specs.Parse.{parseDelivery, parseTrigger, parseGoal};
+ghost use Rattle.rules.specs.Calls.Queue.{queue};
+ghost use Rattle.rules.specs.Calls.QueueRebroadcastEpoch.{queueRebroadcastEpoch};
+ghost use Rattle.rules.specs.Calls.QueueRetainedDelivery.{queueRetainedDelivery};
+
+#[no_mangle]
+pub extern "C" fn submission_book_queue_fee_readiness(book: &mut [u8]) -> u8
+    ensures { λ r. ⌜ GivesBook (boundary noForm queueFeeReadiness (now (book .entry)) []) r (now (book .exit)) ⌝ }
+{
+    let h = held(&*book);
+    let ok = h.ok;
+    if !ok {
+        return 1;
+    }
+    let b = h.book;
+    let r = queue_fee_readiness_sound(b);
+    settle_done(r, book)
+}
+
+#[no_mangle]
+pub extern "C" fn submission_book_collect_rollback_replay_ids(book: &mut [u8], ids: &[u64]) -> u8
+    ensures { λ r. ⌜ GivesBook (boundary noForm (collectRollbackReplayIds (now (ids .entry))) (now (book .entry)) []) r (now (book .exit)) ⌝ }
+{
+    let h = held(&*book);
+    let ok = h.ok;
+    if !ok {
+        return 1;
+    }
+    let b = h.book;
+    let r = collect_rollback_replay_ids_sound(b, ids);
+    settle_done(r, book)
+}
+
+// The delivery in its archive form: optional id, bundle, optional expiry, fee intent, trigger, goal.
+#[no_mangle]
+pub extern "C" fn submission_book_queue(book: &mut [u8], delivery: &[u8]) -> u8
+    ensures { λ r. ⌜ GivesBook (boundary noForm (given (bytesAs parseDelivery (now (delivery .entry))) queue) (now (book .entry)) []) r (now (book .exit)) ⌝ }
+{
+    let h = held(&*book);
+    let ok = h.ok;
+    if !ok {
+        return 1;
+    }
+    let d = read_delivery(delivery, 0);
+    let whole = d.ok;
+    if !whole {
+        return 3;
+    }
+    if d.at < delivery.len() {
+        return 3;
+    }
+    let b = h.book;
+    let value = d.value;
+    let r = queue_sound(b, value);
+    settle_done(r, book)
+}
+
+#[no_mangle]
+pub extern "C" fn submission_book_queue_rebroadcast_epoch(
+    book: &mut [u8],
+    ids: &[u64],
+    trigger: u8,
+) -> u8
+    ensures { λ r. ⌜ GivesBook (boundary noForm (given (byteAs parseTrigger trigger) (λ t. queueRebroadcastEpoch (now (ids .entry)) t)) (now (book .entry)) []) r (now (book .exit)) ⌝ }
+{
+    let h = held(&*book);
+    let ok = h.ok;
+    if !ok {
+        return 1;
+    }
+    let byte = [trigger];
+    let t = read_trigger(&byte, 0);
+    let whole = t.ok;
+    if !whole {
+        return 3;
+    }
+    let b = h.book;
+    let value = t.value;
+    let r = queue_rebroadcast_epoch_sound(b, ids, value);
+    settle_done(r, book)
+}
+
+#[no_mangle]
+pub extern "C" fn submission_book_queue_retained_delivery(
+    book: &mut [u8],
+    id: u64,
+    trigger: u8,
+    goal: u8,
+) -> u8
+    ensures { λ r. ⌜ GivesBook (boundary noForm (given (byteAs parseTrigger trigger) (λ t. given (byteAs parseGoal goal) (λ g. queueRetainedDelivery id t g))) (now (book .entry)) []) r (now (book .exit)) ⌝ }
+{
+    let h = held(&*book);
+    let ok = h.ok;
+    if !ok {
+        return 1;
+    }
+    let byte = [trigger];
+    let t = read_trigger(&byte, 0);
+    let whole = t.ok;
+    if !whole {
+        return 3;
+    }
+    let next = [goal];
+    let g = read_goal(&next, 0);
+    let known = g.ok;
+    if !known {
+        return 3;
+    }
+    let b = h.book;
+    let trigger_value = t.value;
+    let goal_value = g.value;
+    let r = queue_retained_delivery_sound(b, SubmissionId(id), trigger_value, goal_value);
+    settle_done(r, book)
+}

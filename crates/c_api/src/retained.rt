@@ -1,0 +1,75 @@
+// Calls on all retained submissions.
+use boundary::read::held;
+use boundary::reply::settle_ids;
+use boundary::write::settle_done;
+use retained_calls::active_ids_sound;
+use retained_calls::clear_local_artifacts_sound;
+use retained_calls::restore_runtime_sound;
+use retained_calls::retain_submitted_sound;
+ghost use mathlib.Core.List.{[]};
+ghost use Rattle.rules.specs.Calls.ActiveIds.{activeIds};
+ghost use Rattle.rules.specs.Calls.RetainSubmitted.{retainSubmitted};
+ghost use Rattle.rules.specs.Calls.ClearLocalArtifacts.{clearLocalArtifacts};
+ghost use Rattle.rules.specs.Calls.RestoreRuntime.{restoreRuntime};
+ghost use Rattle.boundary.specs.Settle.{boundary, Gives, GivesBook};
+ghost use Rattle.boundary.specs.Forms.{idsForm, noForm};
+
+#[no_mangle]
+pub extern "C" fn submission_book_active_ids(book: &mut [u8], answer: &mut [u8]) -> u8
+    ensures { λ r. ⌜ Gives (boundary idsForm activeIds (now (book .entry)) (now (answer .entry))) r (now (book .exit)) (now (answer .exit)) ⌝ }
+{
+    let h = held(&*book);
+    let ok = h.ok;
+    if !ok {
+        return 1;
+    }
+    let b = h.book;
+    let r = active_ids_sound(b);
+    settle_ids(r, book, answer)
+}
+
+#[no_mangle]
+pub extern "C" fn submission_book_retain_submitted(
+    book: &mut [u8],
+    removed: &[u64],
+    answer: &mut [u8],
+) -> u8
+    ensures { λ r. ⌜ Gives (boundary idsForm (retainSubmitted (now (removed .entry))) (now (book .entry)) (now (answer .entry))) r (now (book .exit)) (now (answer .exit)) ⌝ }
+{
+    let h = held(&*book);
+    let ok = h.ok;
+    if !ok {
+        return 1;
+    }
+    let b = h.book;
+    let r = retain_submitted_sound(b, removed);
+    settle_ids(r, book, answer)
+}
+
+#[no_mangle]
+pub extern "C" fn submission_book_clear_local_artifacts(book: &mut [u8]) -> u8
+    ensures { λ r. ⌜ GivesBook (boundary noForm clearLocalArtifacts (now (book .entry)) []) r (now (book .exit)) ⌝ }
+{
+    let h = held(&*book);
+    let ok = h.ok;
+    if !ok {
+        return 1;
+    }
+    let b = h.book;
+    let r = clear_local_artifacts_sound(b);
+    settle_done(r, book)
+}
+
+#[no_mangle]
+pub extern "C" fn submission_book_restore_runtime(book: &mut [u8]) -> u8
+    ensures { λ r. ⌜ GivesBook (boundary noForm restoreRuntime (now (book .entry)) []) r (now (book .exit)) ⌝ }
+{
+    let h = held(&*book);
+    let ok = h.ok;
+    if !ok {
+        return 1;
+    }
+    let b = h.book;
+    let r = restore_runtime_sound(b);
+    settle_done(r, book)
+}
