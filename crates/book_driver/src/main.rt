@@ -1,19 +1,18 @@
 // Plays a call script (docs/DRIVER.md) from standard input on one book, and writes what each call answered.
 mod archive_ops;
-mod buffer_ops;
-mod done_ops;
-mod drain_ops;
-mod frame;
-mod id_ops;
 mod input;
-mod status_ops;
-mod value_ops;
 
 use book_data::SubmissionId;
 use book_data::Token;
-use frame::Step;
-use frame::broken;
-use frame::say_byte;
+use driver_frame::Step;
+use driver_frame::broken;
+use driver_frame::say_byte;
+use driver_lists::buffer_ops;
+use driver_lists::done_ops;
+use driver_lists::id_ops;
+use driver_values::drain_ops;
+use driver_values::status_ops;
+use driver_values::value_ops;
 use submission::SubmissionBook;
 use wire_bytes::read::read_count;
 use wire_bytes::read::read_number;

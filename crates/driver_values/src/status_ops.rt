@@ -1,13 +1,13 @@
 // Calls that answer whether a token's attempt took them.
-use crate::frame::Step;
-use crate::frame::broken;
-use crate::frame::finish;
-use crate::frame::finish_with;
-use crate::frame::say;
 use answers::part::append_byte;
 use answers::value::append_status;
 use answers::value::refusal_number;
 use book_data::Token;
+use driver_frame::Step;
+use driver_frame::broken;
+use driver_frame::finish;
+use driver_frame::finish_with;
+use driver_frame::say;
 use submission::StatusAnswer;
 use submission::SubmissionBook;
 use wire_bytes::read::read_number;

@@ -1,11 +1,11 @@
 // Calls that write their value into a lent buffer.
-use crate::frame::Step;
-use crate::frame::broken;
-use crate::frame::finish;
-use crate::frame::say;
 use answers::part::append_byte;
 use answers::part::append_length;
 use answers::value::refusal_number;
+use driver_frame::Step;
+use driver_frame::broken;
+use driver_frame::finish;
+use driver_frame::say;
 use script::list::read_bytes;
 use script::list::read_ids;
 use script::list::read_length;

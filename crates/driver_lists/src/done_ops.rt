@@ -1,10 +1,10 @@
 // Calls that answer nothing.
-use crate::frame::Step;
-use crate::frame::broken;
-use crate::frame::finish_done;
-use crate::frame::finish_with;
 use book_data::Height;
 use book_data::SubmissionId;
+use driver_frame::Step;
+use driver_frame::broken;
+use driver_frame::finish_done;
+use driver_frame::finish_with;
 use script::delivery::read_delivery;
 use script::kind::read_flag;
 use script::kind::read_goal;

@@ -1,8 +1,4 @@
 // The drain.
-use crate::frame::Step;
-use crate::frame::finish;
-use crate::frame::finish_with;
-use crate::frame::say;
 use answers::drained::append_failure;
 use answers::drained::append_submissions;
 use answers::part::append_byte;
@@ -12,6 +8,10 @@ use drain_answers::SubmissionDrainFailure;
 use drain_answers::SubmissionDrainFailureStage;
 use drain_answers::retained_id;
 use drain_answers::stage_of;
+use driver_frame::Step;
+use driver_frame::finish;
+use driver_frame::finish_with;
+use driver_frame::say;
 use spend_write::write::at_most;
 use submission::DrainAnswer;
 use submission::SubmissionBook;

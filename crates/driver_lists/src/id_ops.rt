@@ -1,12 +1,12 @@
 // Calls that answer a list of ids.
-use crate::frame::Step;
-use crate::frame::broken;
-use crate::frame::finish;
-use crate::frame::finish_with;
-use crate::frame::say;
 use answers::part::append_byte;
 use answers::value::append_ids;
 use answers::value::refusal_number;
+use driver_frame::Step;
+use driver_frame::broken;
+use driver_frame::finish;
+use driver_frame::finish_with;
+use driver_frame::say;
 use script::list::read_bytes;
 use script::list::read_ids;
 use submission::IdsAnswer;

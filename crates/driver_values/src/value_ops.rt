@@ -1,9 +1,4 @@
 // Calls that answer one value of their own: a finalised submission, a fee intent, a flag, a height, an attempt.
-use crate::frame::Step;
-use crate::frame::broken;
-use crate::frame::finish;
-use crate::frame::finish_with;
-use crate::frame::say;
 use answers::part::append_byte;
 use answers::part::append_flag;
 use answers::part::append_height;
@@ -13,6 +8,11 @@ use answers::value::append_slot;
 use answers::value::refusal_number;
 use book_data::Height;
 use book_data::Token;
+use driver_frame::Step;
+use driver_frame::broken;
+use driver_frame::finish;
+use driver_frame::finish_with;
+use driver_frame::say;
 use script::cells::read_bundle;
 use script::kind::read_source;
 use submission::AttemptAnswer;

@@ -2,8 +2,8 @@ use borrow.Author.Needs.{needs}
 use mathlib.Core.Path.{_≡_}
 use Prim.Native.Nat.{_-_, _≤_}
 use lib.ListN.{length}
-use Rattle.book_driver.proofs.drain_ops.append_failures.Statement.{statement}
-use Rattle.book_driver.proofs.drain_ops.append_failures.Tie as tie
+use Rattle.driver_values.proofs.drain_ops.append_failures.Statement.{statement}
+use Rattle.driver_values.proofs.drain_ops.append_failures.Tie as tie
 
 abbrev Inv-loop : tie.InvT-loop
 Inv-loop out₀ at n a k e₀ i₀ out e i = (i ≤ k) × (k ≤ 16) × (length out ≡ length out₀)
