@@ -1,5 +1,5 @@
 # `make run` and `make test` are all that a fresh machine with the Rattle kit needs.
-.PHONY: help run test compare bench lib fmt archives
+.PHONY: help run test compare bench lib c-test fmt archives
 
 help:
 	@echo "make run    open a book at token 5, id 1 and show its archive"
@@ -7,6 +7,7 @@ help:
 	@echo "make compare N=6000 SEED=1  so many scripts, played by the driver and by the Rust"
 	@echo "make bench  SHA-256 and archives against plain Rust builds, in one run"
 	@echo "make lib    static libraries of what is exported so far"
+	@echo "make c-test a C program on that library"
 	@echo "make archives  damaged archives, read here and by the Rust side's decoder"
 	@echo "make fmt    the layout of every source, specification and proof"
 
@@ -37,6 +38,13 @@ archives:
 lib:
 	rt staticlib sha256_c
 	rt staticlib archive_c
+	rt staticlib c_api
+	cp crates/c_api/include/submission_book.h target/staticlib/
+
+# A C program on the library that `make lib` has written.
+c-test:
+	cc -std=c11 -Wall -Wextra -Werror -I crates/c_api/include tests/c_api/calls.c target/staticlib/libc_api.a -o target/c_api_calls
+	target/c_api_calls
 
 fmt:
 	rt fmt
