@@ -1,8 +1,4 @@
 // The book in lent bytes: its archive behind 8 bytes of its length. A call reads the book, makes its answer, and puts both back.
-pub mod read;
-pub mod reply;
-pub mod write;
-
 use book_data::BookData;
 
 // With a refusal the book is empty.

@@ -10,6 +10,7 @@
 #include <stdint.h>
 
 #define SUBMISSION_BOOK_BYTES 57702
+#define SUBMISSION_BOOK_DRAIN_BYTES 19330
 
 #ifdef __cplusplus
 extern "C" {
@@ -29,6 +30,12 @@ uint8_t submission_book_queue_rebroadcast_epoch(uint8_t *book, size_t book_len, 
 uint8_t submission_book_queue_fee_readiness(uint8_t *book, size_t book_len);
 /* Goal 0 EnsureBroadcast, 1 FeeUpgrade. */
 uint8_t submission_book_queue_retained_delivery(uint8_t *book, size_t book_len, uint64_t id, uint8_t trigger, uint8_t goal);
+
+/* Answer, at most SUBMISSION_BOOK_DRAIN_BYTES: count of submissions (1), each: id (8), token (8), predecessor (mark 0/1, then 8 bytes if 1),
+ * relationship (0 Initial, 1 Exact, 2 NewerFeeBearing, 3 Other), bundle in archive form, expiry (mark, then 8 if 1), fee intent in archive
+ * form; count of failures (1), each: candidate index (8), retained id (mark, then 8 if 1), candidate id (mark, then 8 if 1), intent
+ * fingerprint (32), stage (0 Fingerprint, 1 RetainedState, 2 ExpectedOutputs, 3 SubmissionId). */
+uint8_t submission_book_drain(uint8_t *book, size_t book_len, uint8_t *answer, size_t answer_len);
 
 /* Source 0 NotRequested, 1 Available and joined, 2 Available and the join failed, 3 Failed; `joined` is the joined bundle in archive
  * form where it is 1, and empty else. Answer, at most 1117 bytes: mark; if 1 bundle, applied fee (8), warning, disposition, variant
