@@ -30,7 +30,8 @@
  * THREADS. There is no hidden state. Calls on different books may run at once; calls on one book need a lock of the caller's, also
  * those that only look, unless `book` is `const` in each of them.
  *
- * STACK. A call uses at most SUBMISSION_BOOK_STACK_BYTES of the calling thread's stack, and ends for every input. */
+ * STACK. A call takes at most SUBMISSION_BOOK_STACK_BYTES (1,152 KB) of the calling thread's stack: enough room on a main thread of 8 MB,
+ * but a thread that is made with less than that must be given more. A call ends for every input, and calls nothing of the caller's. */
 #ifndef SUBMISSION_BOOK_H
 #define SUBMISSION_BOOK_H
 #include <stddef.h>
@@ -58,8 +59,8 @@
 #define SUBMISSION_BOOK_INPUT_COINS_BYTES 4738
 #define SUBMISSION_BOOK_ABSENT_OUTPUTS_BYTES 18946
 
-/* stack of one call, measured on full books: tests/c_api/stack.c */
-#define SUBMISSION_BOOK_STACK_BYTES 0
+/* stack of one call; the largest measured (tests/c_api/stack.c) is about 1,128,000 */
+#define SUBMISSION_BOOK_STACK_BYTES 1179648
 
 /* ---- limits */
 #define SUBMISSION_BOOK_RETAINED_LIMIT 16    /* submissions in a book */

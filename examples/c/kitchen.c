@@ -262,8 +262,9 @@ static void collect_retirements(Planner *p, const uint64_t *wanted, size_t count
 
 /* The chain shows the outputs of these payments; a reorganisation says which submissions it has undone. */
 static void report_landed(Planner *p, const Payment *const *landed, size_t count, bool reorg, const IdList *undone) {
-    CoinString coins[4];
+    CoinString coins[4] = {{{0}, 0}};
     uint8_t observed[2 + 4 * (1 + SUBMISSION_BOOK_COIN_BYTES)];
+    expect(count <= 4, "at most four payments in a report");
     for (size_t i = 0; i < count; i++) {
         coins[i] = output_coin(&landed[i]->delivery.bundle.spends[0], 0);
     }
