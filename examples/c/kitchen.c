@@ -442,6 +442,8 @@ static void print_account(Planner *p, uint64_t next_token) {
     const Account *account = &p->account;
     size_t sum = 0;
     chapter("Every token and its fate, from the answers above");
+    puts("       live: the attempt that may still act; set aside: over, and the next attempt's predecessor;\n"
+         "       displaced: a later attempt took its place; struck out: gone with its submission");
     for (size_t i = 0; i < account->count; i++) {
         const Row *row = &account->rows[i];
         printf("       token %" PRIu64 "  submission %" PRIu64 "  %-10s  %s\n", row->token, row->id, fate_name(row->fate), row->reason);

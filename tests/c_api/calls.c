@@ -354,6 +354,10 @@ static void test_last_token(void) {
     expect("the second again", queue_delivery(book, LEN, &second), 0);
     expect("no token", submission_book_drain(book, LEN, answer, ROOM), 11);
     expect("the queue alone was emptied", memcmp(before, book, 8 + (size_t)number_at(before)) == 0, true);
+    expect("open behind the last token", submission_book_open(book, LEN, UINT64_MAX, 1), 0);
+    expect("queue", queue_delivery(book, LEN, &first), 0);
+    keep();
+    refused("a retained submission is longer", submission_book_drain(book, 8 + (size_t)number_at(book), answer, ROOM), 12);
 }
 
 /* ---- archives */
