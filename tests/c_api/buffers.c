@@ -72,6 +72,9 @@ static size_t answer_length(const SampleCall *c) {
 
 static void short_answers(const SampleCall *c) {
     size_t length = answer_length(c);
+    if (c->answer_bytes != ANY) {
+        expect_for(c->name, "bytes of the answer", length, c->answer_bytes);
+    }
     for (size_t n = 0; n < length; n += 1 + n / 64) {
         refused(c, "short answer", lend(SUBMISSION_BOOK_BYTES, n, FILL), 12);
     }

@@ -25,6 +25,7 @@ void expect(const char *what, uint64_t got, uint64_t wanted) {
 enum { LEN = SUBMISSION_BOOK_BYTES, ROOM = SUBMISSION_BOOK_ARCHIVE_BYTES };
 static uint8_t book[LEN], before[LEN], answer[ROOM], answer_before[ROOM];
 static DrainResult drained;
+static size_t drained_bytes;
 static FinalizedSubmission finalized;
 static IdList ids;
 
@@ -43,7 +44,8 @@ static void refused(const char *what, uint8_t said, uint8_t number) {
 
 static void drain(size_t submissions, size_t failures) {
     expect("drain", submission_book_drain(book, LEN, answer, ROOM), 0);
-    expect("form of the drain's answer", read_drain(answer, ROOM, &drained) != 0, true);
+    drained_bytes = read_drain(answer, ROOM, &drained);
+    expect("form of the drain's answer", drained_bytes != 0, true);
     expect("drained submissions", drained.submission_count, submissions);
     expect("failures", drained.failure_count, failures);
 }
@@ -312,9 +314,12 @@ static void test_arguments(void) {
 
 /* ---- limits: 10, and 11 at the last token */
 static void test_full(void) {
+    uint64_t all[16];
     expect("open", submission_book_open(book, LEN, 1, 1), 0);
     for (uint8_t i = 0; i < 16; i++) {
         Delivery d = sample_delivery_with_fee(i, 4, 4);
+        d.expiry = (OptionalNumber){true, 77};
+        all[i] = 1 + (uint64_t)i;
         expect("queue", queue_delivery(book, LEN, &d), 0);
     }
     Delivery further = sample_delivery(99, 1, 1);
@@ -322,6 +327,11 @@ static void test_full(void) {
     refused("17th in the queue", queue_delivery(book, LEN, &further), 10);
     drain(16, 0);
     expect("the last of them", drained.submissions[15].token, 16);
+    expect("offer all again", submission_book_queue_rebroadcast_epoch(book, LEN, all, 16, SUBMISSION_BOOK_TRIGGER_ROLLBACK), 0);
+    drain(16, 0);
+    expect("the last of them", drained.submissions[15].predecessor.value, 16);
+    expect("the longest answer of 16 submissions", drained_bytes, 2 + 16 * (8 + 8 + 9 + 1 + SUBMISSION_BOOK_BUNDLE_BYTES + 9 + SUBMISSION_BOOK_FEE_INTENT_BYTES));
+    expect("it fits", drained_bytes <= SUBMISSION_BOOK_DRAIN_BYTES, true);
     expect("queue", queue_delivery(book, LEN, &further), 0);
     keep();
     refused("17th retained", submission_book_drain(book, LEN, answer, ROOM), 10);
@@ -330,7 +340,7 @@ static void test_full(void) {
     }
     keep();
     refused("65th retirement", submission_book_emit_retirement(book, LEN, 1), 10);
-    refused("abandon", submission_book_abandon_attempt(book, LEN, 1, answer, ROOM), 10);
+    refused("abandon", submission_book_abandon_attempt(book, LEN, 17, answer, ROOM), 10);
     refused("clear", submission_book_clear_local_artifacts(book, LEN), 10);
     expect("the 64th again", submission_book_emit_retirement(book, LEN, 163), 0);
 }

@@ -15,10 +15,11 @@ typedef struct {
 typedef struct {
     const char *name;
     uint8_t (*call)(Lent *lent);
-    bool makes_a_book; /* does not look at what `book` held */
+    bool makes_a_book;   /* does not look at what `book` held */
+    size_t answer_bytes; /* of its answer on the sample book; ANY where that is not told here */
 } SampleCall;
 
-enum { CALL_COUNT = 29 };
+enum { CALL_COUNT = 29, ANY = 1 << 20 };
 extern const SampleCall sample_calls[CALL_COUNT];
 
 /* A payment of so many spends and outputs; different seeds give different coins. */
