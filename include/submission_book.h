@@ -1,4 +1,4 @@
-/* The submission book, for C11 and C++: link libc_api.a.
+/* The submission book, for C11 and C++: link libsubmission_book.a.
  *
  * A submission book queues payments for a wallet. Each payment is a bundle of coin spends. Draining the queue
  * retains each new payment as a submission with an id, and issues a token for one attempt to deliver it. The

@@ -3,7 +3,7 @@
 # any report. CC names the compiler (cc), LIBRARY another library, OUT the folder of what is made.
 set -euo pipefail
 cd "$(dirname "$0")/../.."
-library=${LIBRARY:-target/staticlib/libc_api.a}
+library=${LIBRARY:-target/lib/libsubmission_book.a}
 out=${OUT:-target/sanitize}
 flags=(-std=c11 -Wall -Wextra -Werror -pedantic -g -O1 -fsanitize=address,undefined -fno-sanitize-recover=all -fno-omit-frame-pointer)
 includes=(-I include -I examples/c -I tests/c_api)

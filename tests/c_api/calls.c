@@ -1,6 +1,6 @@
 /* Calls through the C boundary, with what each must answer. Build, at the root of the repository:
  * cc -std=c11 -I include -I examples/c tests/c_api/calls.c tests/c_api/buffers.c tests/c_api/sample.c examples/c/wire.c examples/c/sha256.c \
- *     target/staticlib/libc_api.a */
+ *     target/lib/libsubmission_book.a */
 #include <inttypes.h>
 #include <stdio.h>
 #include <string.h>
