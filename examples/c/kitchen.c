@@ -247,6 +247,7 @@ static void abandon(Planner *p, uint64_t token) {
     account_removed(&p->account, account_id_of(&p->account, token), "abandoned");
 }
 
+/* A report of the chain answers no ids. It retires those that it settles, and that is how the planner hears of an attempt that was set aside. */
 static void collect_retirements(Planner *p, const uint64_t *wanted, size_t count, const char *reason) {
     uint8_t answer[SUBMISSION_BOOK_IDS_BYTES];
     IdList retired;
@@ -374,7 +375,7 @@ static void fitting(Planner *p, const Payment *payment, const SpendBundle *joine
 /* Calls that are turned away: the number says why, and no byte of the book or of the answer changes. */
 static void refusals(Planner *p, uint64_t token) {
     static uint8_t before[SUBMISSION_BOOK_BYTES];
-    uint8_t answer[SUBMISSION_BOOK_FINALIZED_BYTES] = {0}, empty[1] = {0};
+    uint8_t answer[SUBMISSION_BOOK_FINALIZED_BYTES] = {0}, untouched[sizeof answer] = {0}, empty[1] = {0};
     memcpy(before, p->book, sizeof before);
     uint8_t said = submission_book_acknowledge_attempt(p->book, sizeof p->book, token, answer, sizeof answer);
     told(p, said, SUBMISSION_BOOK_NOT_FINALIZED, "acknowledge attempt %" PRIu64 " too early", token);
@@ -382,7 +383,8 @@ static void refusals(Planner *p, uint64_t token) {
     told(p, said, SUBMISSION_BOOK_UNKNOWN_TOKEN, "stop attempt 999");
     said = submission_book_finalize_attempt(p->book, sizeof p->book, token, SUBMISSION_BOOK_SOURCE_JOINED, empty, 1, answer, sizeof answer);
     told(p, said, SUBMISSION_BOOK_UNREQUESTED_FEE, "finalise attempt %" PRIu64 " with a fee that nobody asked for", token);
-    expect(memcmp(before, p->book, sizeof before) == 0 && answer[0] == 0, "that refused calls leave every byte");
+    expect(memcmp(before, p->book, sizeof before) == 0, "that refused calls leave every byte of the book");
+    expect(memcmp(untouched, answer, sizeof answer) == 0, "that refused calls leave every byte of the answer");
 }
 
 static void final_payment(Planner *p, const Payment *wrong, const Payment *right) {

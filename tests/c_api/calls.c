@@ -312,6 +312,22 @@ static void test_arguments(void) {
     expect("count left", count, 99);
 }
 
+/* ---- lists without elements: NULL and 0, and nothing happens */
+static void test_empty_lists(void) {
+    uint8_t coins[2] = {0, 0};
+    uint64_t count = 99;
+    expect("sample book", sample_book(book), true);
+    keep();
+    expect("no ids to offer", submission_book_queue_rebroadcast_epoch(book, LEN, NULL, 0, 2), 0);
+    expect("no ids to replay", submission_book_collect_rollback_replay_ids(book, LEN, NULL, 0), 0);
+    expect("nothing seen", submission_book_reconcile_chain_terminality(book, LEN, coins, 2, NULL, 0, 0, NULL, 0), 0);
+    expect_ids("no ids to remove", submission_book_retain_submitted(book, LEN, NULL, 0, answer, ROOM), 0, NULL);
+    expect_ids("nothing absent", submission_book_causally_rolled_back_ids(book, LEN, coins, 2, NULL, 0, answer, ROOM), 0, NULL);
+    expect("no ids to look at", submission_book_absent_outputs_for_ids(book, LEN, NULL, 0, coins, 2, answer, ROOM, &count), 0);
+    expect("the empty coin list", count == 2 && answer[0] == 0 && answer[1] == 0, true);
+    expect("the book is the same", memcmp(before, book, sizeof book) == 0, true);
+}
+
 /* ---- limits: 10, and 11 at the last token */
 static void test_full(void) {
     uint64_t all[16];
@@ -409,6 +425,7 @@ int main(void) {
     test_replay();
     test_failures();
     test_arguments();
+    test_empty_lists();
     test_full();
     test_last_token();
     test_archives();
