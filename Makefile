@@ -1,10 +1,15 @@
 # `make run` and `make test` are all that a fresh machine with the Rattle kit, a C compiler and cargo needs.
-.PHONY: help run test library lib compare bench fuzz sanitize archives fmt
+.PHONY: help run test library lib compare bench fuzz archives fmt
 
 CC ?= cc
+CXX ?= c++
 CFLAGS = -std=c11 -Wall -Wextra -Werror -pedantic -O2
 SOURCES = crates.txt $(shell find crates -name '*.rt' -o -name '*.antt')
 LIBRARY = target/lib/libsubmission_book.a
+EXAMPLE = examples/c/kitchen.c examples/c/account.c examples/c/wire.c examples/c/sha256.c
+SAMPLE = tests/c_api/sample.c examples/c/wire.c examples/c/sha256.c
+INCLUDE = -I include -I examples/c -I tests/c_api
+HEADERS = include/submission_book.h $(wildcard examples/c/*.h tests/c_api/*.h)
 
 help:
 	@echo "make run      play a sample kitchen through the library, write its archive and show it"
@@ -38,11 +43,25 @@ target/bin/show_archive: $(SOURCES)
 	@rt check show_archive
 	@touch $@
 
-target/kitchen: examples/c/kitchen.c include/submission_book.h $(LIBRARY)
-	$(CC) $(CFLAGS) -I include examples/c/kitchen.c $(LIBRARY) -o $@
+target/kitchen: $(EXAMPLE) $(HEADERS) $(LIBRARY)
+	$(CC) $(CFLAGS) $(INCLUDE) $(EXAMPLE) $(LIBRARY) -o $@
 
-library: $(LIBRARY)
-	@tests/library/check
+target/c_api_calls: tests/c_api/calls.c tests/c_api/buffers.c $(SAMPLE) $(HEADERS) $(LIBRARY)
+	$(CC) $(CFLAGS) $(INCLUDE) tests/c_api/calls.c tests/c_api/buffers.c $(SAMPLE) $(LIBRARY) -o $@
+
+target/c_api_stack: tests/c_api/stack.c $(SAMPLE) $(HEADERS) $(LIBRARY)
+	$(CC) $(CFLAGS) $(INCLUDE) tests/c_api/stack.c $(SAMPLE) $(LIBRARY) -pthread -o $@
+
+# The library as its users have it: the sample kitchen, all functions from C and C++, the stack that they take, sanitizers, the Rust
+# crate, and archives shown as text.
+library: $(LIBRARY) target/kitchen target/c_api_calls target/c_api_stack target/bin/show_archive
+	target/kitchen target/kitchen.archive >target/kitchen.txt
+	target/c_api_calls
+	target/c_api_stack >target/c_api_stack.txt
+	@printf '#include "submission_book.h"\n' | $(CXX) -std=c++11 -Wall -Wextra -Werror -pedantic -I include -x c++ -fsyntax-only -
+	examples/c/sanitize.sh
+	cd bindings/rust && cargo test --offline --quiet
+	tests/show_archive/run.sh
 
 # The driver against the Rust on N seeded scripts of about 20 calls each.
 N ?= 6000

@@ -67,8 +67,8 @@
 #define SUBMISSION_BOOK_INPUT_COINS_BYTES 4738
 #define SUBMISSION_BOOK_ABSENT_OUTPUTS_BYTES 18946
 
-/* stack of one call; the largest measured (tests/c_api/stack.c) is about 1,128,000 */
-#define SUBMISSION_BOOK_STACK_BYTES 1179648
+/* stack of one call; the largest measured (tests/c_api/stack.c) is about 967,000 */
+#define SUBMISSION_BOOK_STACK_BYTES 1000000
 
 /* ---- limits */
 #define SUBMISSION_BOOK_RETAINED_LIMIT 16    /* submissions in a book */
