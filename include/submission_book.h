@@ -37,7 +37,7 @@
  * caller's, also those that only look (they write the same bytes again); only functions with a `const` book may run
  * at once on it.
  *
- * STACK. A call takes at most SUBMISSION_BOOK_STACK_BYTES (1,152 KB) of the calling thread's stack: enough room on
+ * STACK. A call takes at most SUBMISSION_BOOK_STACK_BYTES (1 MB) of the calling thread's stack: enough room on
  * a main thread of 8 MB, but a thread that is made with less than that must be given more. A call ends for every
  * input, and calls nothing of the caller's. */
 #ifndef SUBMISSION_BOOK_H
@@ -266,15 +266,15 @@ uint8_t submission_book_fee_intent_for_attempt(uint8_t *book, size_t book_len, u
  * changed.
  * Refusals, in this order: 3 `source` over 3, or `joined` is not exactly one bundle (source 1) or not empty (any
  * other); 4; 5 finalised before; 7 the submission contradicts itself; 8 its current bundle is not the one that was
- * drained; 9 no fee is open and `source` is not 0. A book that calls alone have made shows no 7 and no 8. */
+ * drained; 9 no fee is open and `source` is not 0. 7 and 8 are for books put
+ * together by hand: as far as we know the calls themselves lead to neither. */
 uint8_t submission_book_finalize_attempt(uint8_t *book, size_t book_len, uint64_t token, uint8_t source,
     const uint8_t *joined, size_t joined_len, uint8_t *answer, size_t answer_len);
 
 /* The wallet has taken what was finalised: the submission's current bundle is acknowledged, the live attempt set
  * aside, and queue entries of this submission are dropped.
  * Answer, 1 byte: 0 applied; 1 stale, the token is inactive and nothing changed.
- * Refusals, in this order: 4; 6 not finalised; 8 the current bundle is not the one that was finalised (not in a
- * book that calls alone made). */
+ * Refusals, in this order: 4; 6 not finalised; 8 the current bundle is not the one that was finalised (as above). */
 uint8_t submission_book_acknowledge_attempt(uint8_t *book, size_t book_len, uint64_t token,
     uint8_t *answer, size_t answer_len);
 
