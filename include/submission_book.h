@@ -266,8 +266,8 @@ uint8_t submission_book_fee_intent_for_attempt(uint8_t *book, size_t book_len, u
  * changed.
  * Refusals, in this order: 3 `source` over 3, or `joined` is not exactly one bundle (source 1) or not empty (any
  * other); 4; 5 finalised before; 7 the submission contradicts itself; 8 its current bundle is not the one that was
- * drained; 9 no fee is open and `source` is not 0. 7 and 8 are for books put
- * together by hand: as far as we know the calls themselves lead to neither. */
+ * drained; 9 no fee is open and `source` is not 0. 7 and 8 are for books put together by hand: as far as we know
+ * the calls themselves lead to neither. */
 uint8_t submission_book_finalize_attempt(uint8_t *book, size_t book_len, uint64_t token, uint8_t source,
     const uint8_t *joined, size_t joined_len, uint8_t *answer, size_t answer_len);
 
