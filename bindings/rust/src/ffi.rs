@@ -4,7 +4,8 @@
 //! it are a slice that can be read, and where the pointer is `*mut` written, for the time of the
 //! call; a slice that is written overlaps no other. The library keeps no pointer, has no state of
 //! its own, always returns, does not unwind, and stays within the counts whatever the bytes are:
-//! bytes that hold no book are refused 1.
+//! bytes that hold no book are refused 1. It touches every page of its stack in order, so a stack
+//! that is too small ends the program at the guard page.
 
 /// Bytes that hold every book: the length of its archive (8), then the archive.
 pub const BOOK_BYTES: usize = 57_702;

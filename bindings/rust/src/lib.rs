@@ -57,6 +57,13 @@
 //! Coin ids come from the chain. A coin's id is the SHA-256 of its [`CoinString`]; this crate does
 //! not compute it.
 //!
+//! # Stack
+//!
+//! The library keeps whole books on the stack: a drain takes about 1.1 MiB (measured on x86-64
+//! Linux). The main thread and the threads of Rust, with 2 MiB, have enough. A thread with less is
+//! to be given more ([`stack_size`](std::thread::Builder::stack_size)); else the program ends with
+//! a stack overflow.
+//!
 //! # Panics
 //!
 //! No value makes a method panic. They panic only if the linked `libc_api.a` answers otherwise than

@@ -321,3 +321,48 @@ impl<'a> Answer<'a> {
         })
     }
 }
+
+#[cfg(test)]
+mod tests {
+    use super::*;
+
+    /// One submission without predecessor, spends and expiry, and one failure.
+    fn drain_answer() -> Vec<u8> {
+        let submission = [&[0; 15][..], &[9, 0, 0, 0, 0, 1]].concat();
+        let failure = [&[0; 8][..], &[0, 1], &[0; 7], &[4], &[8; 32], &[2]].concat();
+        [&[1][..], &submission, &[1], &failure].concat()
+    }
+
+    #[test]
+    fn an_answer_that_is_cut_short_is_none() {
+        let whole = drain_answer();
+        let drained = Answer(&whole).drain().unwrap();
+        assert_eq!(drained.submissions[0].attempt_token, Token(9));
+        assert_eq!(drained.submissions[0].fee_intent, SubmissionFeeIntent::NoFeeConfigured);
+        assert_eq!(drained.failures[0].candidate_submission_id, Some(SubmissionId(4)));
+        assert_eq!(drained.failures[0].stage, SubmissionDrainFailureStage::ExpectedOutputs);
+        for length in 0..whole.len() {
+            assert_eq!(Answer(&whole[..length]).drain(), None);
+        }
+    }
+
+    #[test]
+    fn a_kind_that_is_unknown_is_none() {
+        assert_eq!(Answer(&[2]).flag(), None);
+        assert_eq!(Answer(&[2]).status(), None);
+        assert_eq!(Answer(&[2]).goal(), None);
+        assert_eq!(Answer(&[3]).disposition(), None);
+        assert_eq!(Answer(&[4]).relationship(), None);
+        assert_eq!(Answer(&[4]).stage(), None);
+        assert_eq!(Answer(&[3; 41]).fee_intent(), None);
+        assert_eq!(Answer(&[2; 9]).height(), None);
+    }
+
+    #[test]
+    fn a_coin_list_uses_its_bytes_up() {
+        let coin = CoinString::from_bytes(&[7]);
+        assert_eq!(Answer(&[0, 1, 1, 7]).coins(), Some(vec![coin]));
+        assert_eq!(Answer(&[0, 1, 1, 7, 0]).coins(), None);
+        assert_eq!(Answer(&[0, 1, 2, 7]).coins(), None);
+    }
+}

@@ -64,21 +64,21 @@ fn readiness_waits_for_an_attempt_that_is_not_finalized() {
 #[test]
 fn a_reorg_with_replay() {
     let mut book = acknowledged_book(NO_FEE);
-    let (input, output) = (coin_id(&coin(10)), made(10));
+    let (input, output) = ([coin_id(&coin(10))], [made(10)]);
 
     // it lands at height 1,000
-    book.reconcile_chain_terminality(&[output.clone()], &[input], false, &[]).unwrap();
+    book.reconcile_chain_terminality(&output, &input, false, &[]).unwrap();
     assert_eq!(book.active_ids(), []);
     assert_eq!(book.drain_retirements(), ids([1]));
-    assert_eq!(book.causally_rolled_back_ids(&[], &[input]), Ok(vec![]));
-    assert_eq!(book.causally_rolled_back_ids(&[output.clone()], &[]), Ok(vec![]));
+    assert_eq!(book.causally_rolled_back_ids(&[], &input), Ok(vec![]));
+    assert_eq!(book.causally_rolled_back_ids(&output, &[]), Ok(vec![]));
 
     // the chain goes back to 990: the output is gone, the input is there again
     assert!(book.begin_replay(Height(990)));
-    let rolled_back = book.causally_rolled_back_ids(&[output.clone()], &[input]).unwrap();
+    let rolled_back = book.causally_rolled_back_ids(&output, &input).unwrap();
     assert_eq!(rolled_back, ids([1]));
-    let absent = book.absent_outputs_for_ids(&rolled_back, &[made(20), output.clone()]).unwrap();
-    assert_eq!(absent, [output.clone()]);
+    let absent = book.absent_outputs_for_ids(&rolled_back, &[made(20), made(10)]).unwrap();
+    assert_eq!(absent, output);
     book.reconcile_chain_terminality(&[], &[], true, &rolled_back).unwrap();
     assert_eq!(book.active_ids(), ids([1]));
     book.collect_rollback_replay_ids(&rolled_back).unwrap();
@@ -99,7 +99,7 @@ fn a_reorg_with_replay() {
     assert_eq!(book.drain(), Ok(SubmissionDrainResult::default()));
 
     // it lands again, and the epoch ends
-    book.reconcile_chain_terminality(&[output], &[input], false, &[]).unwrap();
+    book.reconcile_chain_terminality(&output, &input, false, &[]).unwrap();
     book.finish_replay_if_advanced(Height(990));
     assert_eq!(book.replay_rollback_height(), Some(Height(990)));
     book.finish_replay_if_advanced(Height(1_001));

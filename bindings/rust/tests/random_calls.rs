@@ -268,7 +268,7 @@ impl Course {
 fn refused_calls_leave_the_book_and_tokens_run_up_by_one() {
     let mut refusals = [0; 14];
     let mut issued = 0;
-    for seed in 0..60 {
+    for seed in 0..30 {
         let mut course = Course::new(seed, 5, 1);
         (0..200).for_each(|_| course.step());
         issued += course.next_token - 5;
@@ -276,9 +276,9 @@ fn refused_calls_leave_the_book_and_tokens_run_up_by_one() {
             *all += one;
         }
     }
-    assert!(issued > 1_000, "{issued} tokens");
+    assert!(issued > 500, "{issued} tokens");
     for number in [0, 2, 3, 4, 5, 6, 9, 10] {
-        assert!(refusals[number] > 10, "{number}: {refusals:?}");
+        assert!(refusals[number] > 5, "{number}: {refusals:?}");
     }
     for number in [1, 7, 8, 11, 12, 13] {
         assert_eq!(refusals[number], 0, "{number}: {refusals:?}");
@@ -288,11 +288,11 @@ fn refused_calls_leave_the_book_and_tokens_run_up_by_one() {
 #[test]
 fn at_the_end_of_tokens_and_ids() {
     let mut exhausted = 0;
-    for seed in 1_000..1_040 {
+    for seed in 1_000..1_020 {
         let mut course = Course::new(seed, u64::MAX - 12, u64::MAX - 12);
         (0..120).for_each(|_| course.step());
         assert!(course.next_token > u64::MAX - 12, "no token was issued");
         exhausted += course.refusals[11];
     }
-    assert!(exhausted > 40, "{exhausted} drains were refused 11");
+    assert!(exhausted > 20, "{exhausted} drains were refused 11");
 }
