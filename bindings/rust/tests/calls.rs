@@ -94,6 +94,60 @@ fn the_worked_example_of_the_archive() {
     assert_eq!(inputs, [CoinString::from_bytes(&[0xaa, 0xbb])]);
 }
 
+/// The archive form of a bundle of the largest size; no two coins are equal.
+fn largest_bundle(n: u8) -> Vec<u8> {
+    let outputs = [&[9; 32][..], &[0xff; 8]].concat().repeat(4);
+    let spend = |i: u8| {
+        let coin = [&[n, i][..], &[7; 71]].concat();
+        [&[73][..], &coin, &[8; 32], &[1, 4], &outputs].concat()
+    };
+    [vec![4], spend(0), spend(1), spend(2), spend(3)].concat()
+}
+
+/// An archive of the largest size: every list full, every optional part there.
+fn largest_archive() -> Vec<u8> {
+    let number = |n: u8| vec![0, 0, 0, 0, 0, 0, 0, n];
+    let attempt = |n: u8| [vec![1], number(n), vec![0], vec![3; 32], vec![1], vec![3; 32]].concat();
+    let fee_intent = [vec![2], vec![5; 32], number(9)].concat();
+    let expiry = [vec![1], number(77)].concat();
+    let submission = |n: u8| {
+        let attempts = [attempt(2 * n), attempt(2 * n + 1)].concat();
+        let bundles = [largest_bundle(n), vec![1], largest_bundle(n), number(9)].concat();
+        let state = [vec![2], fee_intent.clone(), vec![1], vec![6; 32], vec![0]].concat();
+        [number(n), attempts, vec![4; 32], bundles, state, expiry.clone()].concat()
+    };
+    let delivery = |n: u8| {
+        let intent = [expiry.clone(), fee_intent.clone()].concat();
+        [vec![1], number(n), largest_bundle(n), intent, vec![3, 1]].concat()
+    };
+    [
+        [vec![2], number(32), number(16)].concat(),
+        [vec![16], (0..16).flat_map(submission).collect()].concat(),
+        [vec![16], (0..16).flat_map(delivery).collect()].concat(),
+        [vec![64], (100..164).flat_map(number).collect()].concat(),
+        [vec![1], number(200)].concat(),
+        [vec![16], (0..16).flat_map(number).collect()].concat(),
+    ]
+    .concat()
+}
+
+#[test]
+fn the_largest_book() {
+    let archive = largest_archive();
+    assert_eq!(archive.len(), 57_694);
+    let mut book = SubmissionBook::from_archive(&archive).unwrap();
+    assert_eq!(book.to_archive(), archive);
+    assert_eq!(book.active_ids(), ids(0..16));
+    assert_eq!(book.replay_rollback_height(), Some(Height(200)));
+    assert_eq!(book.attempt(Token(30)).unwrap().token, Token(30));
+    let inputs = book.reconciliation_input_coins(&[]).unwrap();
+    assert_eq!(inputs.len(), 64);
+    let fits = book.relinquish_completed_attempt(Token(31));
+    assert_eq!(fits, Ok(Applied));
+    assert_eq!(book.to_archive(), archive);
+    assert_eq!(book.drain_retirements(), ids(100..164));
+}
+
 #[test]
 fn queue_puts_the_delivery_into_the_archive() {
     let mut book = book();

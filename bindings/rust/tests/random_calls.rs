@@ -95,7 +95,7 @@ impl Generator {
 }
 
 /// What is known of the book without looking at it.
-struct Course {
+struct Trial {
     book: SubmissionBook,
     generator: Generator,
     first_id: u64,
@@ -105,9 +105,9 @@ struct Course {
     refusals: [u32; 14],
 }
 
-impl Course {
-    fn new(seed: u64, next_token: u64, first_id: u64) -> Course {
-        Course {
+impl Trial {
+    fn new(seed: u64, next_token: u64, first_id: u64) -> Trial {
+        Trial {
             book: SubmissionBook::open(Token(next_token), SubmissionId(first_id)),
             generator: Generator(seed),
             first_id,
@@ -269,10 +269,10 @@ fn refused_calls_leave_the_book_and_tokens_run_up_by_one() {
     let mut refusals = [0; 14];
     let mut issued = 0;
     for seed in 0..30 {
-        let mut course = Course::new(seed, 5, 1);
-        (0..200).for_each(|_| course.step());
-        issued += course.next_token - 5;
-        for (all, one) in refusals.iter_mut().zip(course.refusals) {
+        let mut trial = Trial::new(seed, 5, 1);
+        (0..200).for_each(|_| trial.step());
+        issued += trial.next_token - 5;
+        for (all, one) in refusals.iter_mut().zip(trial.refusals) {
             *all += one;
         }
     }
@@ -289,10 +289,10 @@ fn refused_calls_leave_the_book_and_tokens_run_up_by_one() {
 fn at_the_end_of_tokens_and_ids() {
     let mut exhausted = 0;
     for seed in 1_000..1_020 {
-        let mut course = Course::new(seed, u64::MAX - 12, u64::MAX - 12);
-        (0..120).for_each(|_| course.step());
-        assert!(course.next_token > u64::MAX - 12, "no token was issued");
-        exhausted += course.refusals[11];
+        let mut trial = Trial::new(seed, u64::MAX - 12, u64::MAX - 12);
+        (0..120).for_each(|_| trial.step());
+        assert!(trial.next_token > u64::MAX - 12, "no token was issued");
+        exhausted += trial.refusals[11];
     }
     assert!(exhausted > 20, "{exhausted} drains were refused 11");
 }

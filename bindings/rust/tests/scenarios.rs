@@ -1,4 +1,4 @@
-//! Whole courses of a submission.
+//! A submission from its queue to the end: a fee upgrade, a reorg, failing drains, a restart.
 
 mod common;
 
