@@ -49,6 +49,8 @@ fn open_takes_any_two_numbers() {
     let archive = "02ffffffffffffffff00000000000001020000000000";
     assert_eq!(hex(&opened.to_archive()), archive);
     assert_eq!(SubmissionBook::default(), SubmissionBook::open(Token(0), SubmissionId(0)));
+    assert_ne!(book(), SubmissionBook::open(Token(6), SubmissionId(1)));
+    assert_ne!(book(), SubmissionBook::open(Token(5), SubmissionId(2)));
     let text =
         "SubmissionBook { next_token: 18446744073709551615, next_id: 258, archive_bytes: 22 }";
     assert_eq!(format!("{opened:?}"), text);

@@ -141,6 +141,36 @@ fn refused_3_bundles() {
     }
 }
 
+/// Three spends, the first of a coin of 256 bytes. Were its length cut to a byte, 0, the bytes that
+/// follow would be read as three other spends, all within their ranges.
+fn other_spends_within() -> SpendBundle {
+    let mut coin = [7; 256];
+    // first: no coin, digest, unreadable
+    coin[32] = 0;
+    // second: a coin of 73 bytes, digest, four outputs, which end in the next spend's digest
+    coin[33] = 73;
+    coin[139] = 1;
+    coin[140] = 4;
+    let spend = |coin: &[u8], digest: [u8; 32]| CoinSpend {
+        coin: CoinString::from_bytes(coin),
+        digest: Hash32(digest),
+        run: Run::Unreadable,
+    };
+    // third: a coin of 22 bytes, then the digest of the last spend
+    let mut digest = [5; 32];
+    digest[11] = 22;
+    SpendBundle { spends: vec![spend(&coin, [4; 32]), spend(&[], digest), spend(&[], [6; 32])] }
+}
+
+#[test]
+fn refused_3_and_not_read_as_other_spends() {
+    let mut book = drained_book(attach(7));
+    let joined = SubmissionFeeSource::Joined(other_spends_within());
+    refused(&mut book, Refusal::ValueOutOfRange, |book| book.finalize_attempt(Token(5), &joined));
+    let delivery = PendingDelivery::protocol(other_spends_within(), None, NO_FEE);
+    refused(&mut book, Refusal::ValueOutOfRange, |book| book.queue(&delivery));
+}
+
 #[test]
 fn taken_at_the_limits() {
     for bundle in [spends(4), coin_of(73), outputs(4), spends(0), coin_of(0), outputs(0)] {
