@@ -1,4 +1,5 @@
-//! Finds `libc_api.a`: in the folder that SUBMISSION_BOOK_LIB names, else in `target/staticlib` of the repository.
+//! Finds `libc_api.a`: in the folder that SUBMISSION_BOOK_LIB names, else in `target/staticlib` of
+//! the repository.
 
 use std::env;
 use std::path::PathBuf;
@@ -23,15 +24,13 @@ fn main() {
     }
     println!("cargo:rustc-link-search=native={}", folder.display());
     println!("cargo:rustc-link-lib=static=c_api");
+    // tests/header.rs reads the header there
+    println!("cargo:rustc-env=SUBMISSION_BOOK_FOLDER={}", folder.display());
 }
 
 fn missing(library: &str) -> ! {
     eprintln!("There is no library {library}.");
-    eprintln!(
-        "Run `make lib` at the root of the repository, which writes target/staticlib/libc_api.a,"
-    );
-    eprintln!(
-        "or name the folder that holds libc_api.a in the environment variable SUBMISSION_BOOK_LIB."
-    );
+    eprintln!("Run `make lib` at the root of the repository: it writes target/staticlib/libc_api.a.");
+    eprintln!("A library elsewhere: SUBMISSION_BOOK_LIB names the folder that holds libc_api.a.");
     exit(1);
 }
