@@ -1,36 +1,51 @@
-//! Finds `libc_api.a`: in the folder that SUBMISSION_BOOK_LIB names, else in `target/staticlib` of
-//! the repository.
+//! Finds the library that `make lib` writes: in the folder that SUBMISSION_BOOK_LIB names, else in
+//! `target/lib` of the repository, else as the compiler writes it, in `target/staticlib`.
 
 use std::env;
-use std::path::PathBuf;
+use std::path::{Path, PathBuf};
 use std::process::exit;
+
+/// The library for its users, and the same as the compiler names it.
+const NAMES: [&str; 2] = ["submission_book", "c_api"];
 
 fn main() {
     println!("cargo:rerun-if-changed=build.rs");
     println!("cargo:rerun-if-env-changed=SUBMISSION_BOOK_LIB");
-    let named = env::var_os("SUBMISSION_BOOK_LIB").filter(|name| !name.is_empty());
-    let folder = named.map_or_else(
-        || PathBuf::from(env::var_os("CARGO_MANIFEST_DIR").unwrap()).join("../../target/staticlib"),
-        PathBuf::from,
-    );
-    let library = folder.join("libc_api.a");
-    println!("cargo:rerun-if-changed={}", library.display());
-    // The linker runs in another folder than this program.
-    let Ok(folder) = folder.canonicalize() else {
-        missing(&library.display().to_string());
+    let folders = folders();
+    let Some((folder, name)) = folders.iter().find_map(|folder| library_in(folder)) else {
+        missing(&folders);
     };
-    if !library.is_file() {
-        missing(&library.display().to_string());
-    }
     println!("cargo:rustc-link-search=native={}", folder.display());
-    println!("cargo:rustc-link-lib=static=c_api");
+    println!("cargo:rustc-link-lib=static={name}");
     // tests/header.rs reads the header there
     println!("cargo:rustc-env=SUBMISSION_BOOK_FOLDER={}", folder.display());
 }
 
-fn missing(library: &str) -> ! {
-    eprintln!("There is no library {library}.");
-    eprintln!("Run `make lib` at the root of the repository: it writes target/staticlib/libc_api.a.");
-    eprintln!("A library elsewhere: SUBMISSION_BOOK_LIB names the folder that holds libc_api.a.");
+fn folders() -> Vec<PathBuf> {
+    if let Some(named) = env::var_os("SUBMISSION_BOOK_LIB").filter(|name| !name.is_empty()) {
+        return vec![PathBuf::from(named)];
+    }
+    let crate_folder = PathBuf::from(env::var_os("CARGO_MANIFEST_DIR").expect("set by cargo"));
+    let target = crate_folder.join("../../target");
+    vec![target.join("lib"), target.join("staticlib")]
+}
+
+/// The folder by its whole path, since the linker runs elsewhere, and the name of the library.
+fn library_in(folder: &Path) -> Option<(PathBuf, &'static str)> {
+    let path = |name: &str| folder.join(format!("lib{name}.a"));
+    // one that is written later is found by the next build
+    for name in NAMES {
+        println!("cargo:rerun-if-changed={}", path(name).display());
+    }
+    let name = NAMES.into_iter().find(|name| path(name).is_file())?;
+    Some((folder.canonicalize().ok()?, name))
+}
+
+fn missing(folders: &[PathBuf]) -> ! {
+    for folder in folders {
+        eprintln!("There is no libsubmission_book.a (or libc_api.a) in {}.", folder.display());
+    }
+    eprintln!("Run `make lib` at the root of the repository: it writes the library.");
+    eprintln!("For a library elsewhere, SUBMISSION_BOOK_LIB names the folder that holds it.");
     exit(1);
 }

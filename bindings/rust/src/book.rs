@@ -42,7 +42,7 @@ pub struct SubmissionBook {
 /// The library does not do as its header says, so it is another one than this crate is for.
 #[cold]
 fn wrong_library() -> ! {
-    panic!("the linked libc_api.a is not of this crate's revision: build it anew with `make lib`")
+    panic!("the linked library is not of this crate's revision: build it anew with `make lib`")
 }
 
 /// `Ok` for 0, else the refusal of that number.

@@ -1,4 +1,4 @@
-//! The 29 functions of `libc_api.a` behind safe signatures. This is the only module with `unsafe`.
+//! The 29 functions of the library behind safe signatures. This is the only module with `unsafe`.
 //!
 //! The library asks the same of every caller (`submission_book.h`): a pointer and the count behind
 //! it are a slice that can be read, and where the pointer is `*mut` written, for the time of the

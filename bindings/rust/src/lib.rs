@@ -1,8 +1,8 @@
 //! The submission book: a queue of deliveries for a wallet, the submissions that it retains, and
 //! the attempts to deliver them, each with a token of its own.
 //!
-//! Every rule of the book is in the static library `libc_api.a`, whose functions are proved to do
-//! what the project's definitions say. This crate gives them Rust types: it writes arguments as the
+//! Every rule of the book is in the static library `libsubmission_book.a`, whose functions are proved
+//! to do what the project's definitions say. This crate gives them Rust types: it writes arguments as the
 //! library reads them and reads its answers. It is not proved itself.
 //!
 //! # A deposit
@@ -59,15 +59,15 @@
 //!
 //! # Stack
 //!
-//! The library keeps whole books on the stack: a drain takes about 1.1 MiB (measured on x86-64
-//! Linux). The main thread and the threads of Rust, with 2 MiB, have enough. A thread with less is
-//! to be given more ([`stack_size`](std::thread::Builder::stack_size)); else the program ends with
-//! a stack overflow.
+//! The library keeps whole books on the stack: a call takes up to about 1 MiB, and
+//! SUBMISSION_BOOK_STACK_BYTES in `submission_book.h` has the number. The main thread and the threads
+//! of Rust, with 2 MiB, have enough. A thread with less is to be given more
+//! ([`stack_size`](std::thread::Builder::stack_size)); else the program ends with a stack overflow.
 //!
 //! # Panics
 //!
-//! No value makes a method panic. They panic only if the linked `libc_api.a` answers otherwise than
-//! its header says, as one of another revision might.
+//! No value makes a method panic. They panic only if the linked library answers otherwise than its
+//! header says, as one of another revision might.
 
 #![deny(unsafe_code, unsafe_op_in_unsafe_fn, missing_docs)]
 

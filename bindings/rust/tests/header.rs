@@ -6,14 +6,10 @@ use std::path::PathBuf;
 
 const FFI: &str = include_str!("../src/ffi.rs");
 
-/// The header beside the library that is linked, else that of the repository.
+/// The header of the repository, else that beside the library that is linked.
 fn header() -> String {
-    let root = PathBuf::from(env!("CARGO_MANIFEST_DIR")).join("../..");
-    let folders = [
-        PathBuf::from(env!("SUBMISSION_BOOK_FOLDER")),
-        root.join("include"),
-        root.join("crates/c_api/include"),
-    ];
+    let repository = PathBuf::from(env!("CARGO_MANIFEST_DIR")).join("../../include");
+    let folders = [repository, PathBuf::from(env!("SUBMISSION_BOOK_FOLDER"))];
     let mut read =
         folders.iter().map(|folder| fs::read_to_string(folder.join("submission_book.h")));
     read.find_map(Result::ok).expect("submission_book.h")
