@@ -4,16 +4,42 @@ use crate::case::Case;
 use crate::inputs::holder;
 use crate::port::BOOK_BYTES;
 
-extern "C" {
-    fn call_bench_stop_attempt(book: *const u8, length: usize, token: u64, times: u64, out: *mut u8, room: usize) -> u64;
-    fn call_bench_acknowledge_attempt(book: *const u8, length: usize, token: u64, times: u64, out: *mut u8, room: usize) -> u64;
-    fn call_bench_attempt(book: *const u8, length: usize, token: u64, times: u64, out: *mut u8, room: usize) -> u64;
-    fn call_bench_finalize_attempt(book: *const u8, length: usize, held: *const u8, held_length: usize, token: u64, times: u64, out: *mut u8, room: usize) -> u64;
-    fn call_bench_queue(book: *const u8, length: usize, held: *const u8, held_length: usize, times: u64, out: *mut u8, room: usize) -> u64;
-    fn call_bench_drain(book: *const u8, length: usize, times: u64, out: *mut u8, room: usize) -> u64;
+macro_rules! methods {
+    ($($name:ident($($argument:ident: $type:ty),*);)*) => {
+        extern "C" {
+            $(fn $name(book: *const u8, length: usize, $($argument: $type,)* times: u64, out: *mut u8, room: usize) -> u64;)*
+        }
+    };
 }
 
-/// The calls of this case, and the archive of the book that they leave; none where `call_bench` has no such method.
+methods! {
+    call_bench_stop_attempt(token: u64);
+    call_bench_acknowledge_attempt(token: u64);
+    call_bench_abandon_attempt(token: u64);
+    call_bench_relinquish_completed_attempt(token: u64);
+    call_bench_fee_intent_for_attempt(token: u64);
+    call_bench_attempt(token: u64);
+    call_bench_finalize_attempt(held: *const u8, held_length: usize, token: u64);
+    call_bench_queue(held: *const u8, held_length: usize);
+    call_bench_drain();
+}
+
+type TokenCalls = unsafe extern "C" fn(*const u8, usize, u64, u64, *mut u8, usize) -> u64;
+
+/// The methods that take a token and nothing else.
+fn token_calls(call: &str) -> Option<TokenCalls> {
+    Some(match call {
+        "stop_attempt" => call_bench_stop_attempt,
+        "acknowledge_attempt" => call_bench_acknowledge_attempt,
+        "abandon_attempt" => call_bench_abandon_attempt,
+        "relinquish_completed_attempt" => call_bench_relinquish_completed_attempt,
+        "fee_intent_for_attempt" => call_bench_fee_intent_for_attempt,
+        "attempt" => call_bench_attempt,
+        _ => return None,
+    })
+}
+
+/// A case for `call_bench`, and the archive of the book that its calls leave.
 pub struct ByValue {
     case: Case,
     held: Vec<u8>,
@@ -21,32 +47,27 @@ pub struct ByValue {
 }
 
 impl ByValue {
+    /// None where `call_bench` has no such method.
     pub fn of(case: &Case) -> Option<ByValue> {
-        let methods = ["stop_attempt", "acknowledge_attempt", "attempt", "finalize_attempt", "queue", "drain"];
-        methods.contains(&case.call).then(|| ByValue {
-            case: case.clone(),
-            held: holder(case),
-            out: vec![0; BOOK_BYTES],
-        })
+        let known = token_calls(case.call).is_some() || matches!(case.call, "finalize_attempt" | "queue" | "drain");
+        known.then(|| ByValue { case: case.clone(), held: holder(case), out: vec![0; BOOK_BYTES] })
     }
 
     /// Makes the call once and then so many times more; the length of the archive left in `out`, or 0 for a refusal.
     pub fn run(&mut self, times: u64) -> usize {
-        let Case { call, book, number, .. } = &self.case;
-        let (token, held, out) = (*number, &self.held, &mut self.out);
-        let (book, length, out, room) = (book.as_ptr(), book.len(), out.as_mut_ptr(), out.len());
-        // The functions read `length` bytes of `book`, those of `held`, and write at most `room`.
+        let Case { call, book, number: token, .. } = &self.case;
+        let (held, held_length) = (self.held.as_ptr(), self.held.len());
+        let (book, length) = (book.as_ptr(), book.len());
+        let (out, room) = (self.out.as_mut_ptr(), self.out.len());
+        // The functions read `length` bytes of `book` and `held_length` of `held`, and write at most `room`.
         let written = unsafe {
-            match *call {
-                "stop_attempt" => call_bench_stop_attempt(book, length, token, times, out, room),
-                "acknowledge_attempt" => call_bench_acknowledge_attempt(book, length, token, times, out, room),
-                "attempt" => call_bench_attempt(book, length, token, times, out, room),
-                "finalize_attempt" => {
-                    call_bench_finalize_attempt(book, length, held.as_ptr(), held.len(), token, times, out, room)
+            match (token_calls(call), *call) {
+                (Some(calls), _) => calls(book, length, *token, times, out, room),
+                (_, "finalize_attempt") => {
+                    call_bench_finalize_attempt(book, length, held, held_length, *token, times, out, room)
                 }
-                "queue" => call_bench_queue(book, length, held.as_ptr(), held.len(), times, out, room),
-                "drain" => call_bench_drain(book, length, times, out, room),
-                other => panic!("no method {other}"),
+                (_, "queue") => call_bench_queue(book, length, held, held_length, times, out, room),
+                _ => call_bench_drain(book, length, times, out, room),
             }
         };
         written as usize

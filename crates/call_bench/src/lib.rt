@@ -10,6 +10,7 @@ use replies::SubmissionFeeSource;
 use submission::AttemptAnswer;
 use submission::DoneAnswer;
 use submission::DrainAnswer;
+use submission::FeeIntentAnswer;
 use submission::FinalizeAnswer;
 use submission::StatusAnswer;
 use submission::SubmissionBook;
@@ -95,6 +96,78 @@ pub extern "C" fn call_bench_acknowledge_attempt(
     written(answer, book, out)
 }
 
+fn abandon_attempts(b: SubmissionBook, token: u64, times: u64) -> StatusAnswer {
+    let mut a = b.abandon_attempt(Token(token));
+    let mut i: u64 = 0;
+    while i < times {
+        a = b.abandon_attempt(Token(token));
+        i += 1;
+    }
+    a
+}
+
+#[no_mangle]
+pub extern "C" fn call_bench_abandon_attempt(
+    archive: &[u8],
+    token: u64,
+    times: u64,
+    out: &mut [u8],
+) -> u64 {
+    let b = book_of(archive);
+    let a = abandon_attempts(b, token, times);
+    let answer = a.answer;
+    let book = a.book;
+    written(answer, book, out)
+}
+
+fn relinquish_completed_attempts(b: SubmissionBook, token: u64, times: u64) -> StatusAnswer {
+    let mut a = b.relinquish_completed_attempt(Token(token));
+    let mut i: u64 = 0;
+    while i < times {
+        a = b.relinquish_completed_attempt(Token(token));
+        i += 1;
+    }
+    a
+}
+
+#[no_mangle]
+pub extern "C" fn call_bench_relinquish_completed_attempt(
+    archive: &[u8],
+    token: u64,
+    times: u64,
+    out: &mut [u8],
+) -> u64 {
+    let b = book_of(archive);
+    let a = relinquish_completed_attempts(b, token, times);
+    let answer = a.answer;
+    let book = a.book;
+    written(answer, book, out)
+}
+
+fn fee_intents_for_attempt(b: SubmissionBook, token: u64, times: u64) -> FeeIntentAnswer {
+    let mut a = b.fee_intent_for_attempt(Token(token));
+    let mut i: u64 = 0;
+    while i < times {
+        a = b.fee_intent_for_attempt(Token(token));
+        i += 1;
+    }
+    a
+}
+
+#[no_mangle]
+pub extern "C" fn call_bench_fee_intent_for_attempt(
+    archive: &[u8],
+    token: u64,
+    times: u64,
+    out: &mut [u8],
+) -> u64 {
+    let b = book_of(archive);
+    let a = fee_intents_for_attempt(b, token, times);
+    let answer = a.answer;
+    let book = a.book;
+    written(answer, book, out)
+}
+
 fn attempts(b: SubmissionBook, token: u64, times: u64) -> AttemptAnswer {
     let mut a = b.attempt(Token(token));
     let mut i: u64 = 0;
@@ -106,7 +179,12 @@ fn attempts(b: SubmissionBook, token: u64, times: u64) -> AttemptAnswer {
 }
 
 #[no_mangle]
-pub extern "C" fn call_bench_attempt(archive: &[u8], token: u64, times: u64, out: &mut [u8]) -> u64 {
+pub extern "C" fn call_bench_attempt(
+    archive: &[u8],
+    token: u64,
+    times: u64,
+    out: &mut [u8],
+) -> u64 {
     let b = book_of(archive);
     let a = attempts(b, token, times);
     let answer = a.answer;
