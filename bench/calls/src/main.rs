@@ -25,7 +25,7 @@ mod case;
 mod model;
 #[cfg(not(feature = "rust"))]
 mod oracle {
-    pub use crate::{archive, model, sha256};
+    pub(crate) use crate::{archive, model, sha256};
 }
 #[cfg(not(feature = "rust"))]
 #[path = "../../../tests/oracle/rust_book/src/sha256.rs"]

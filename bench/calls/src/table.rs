@@ -69,31 +69,57 @@ fn row_name(cases: &[Case], row: usize) -> String {
     }
 }
 
+/// The slowest of the calls by token on the full book, by value and through the C boundary.
+#[derive(Default)]
+struct Slowest {
+    by_value: (f64, &'static str),
+    boundary: (f64, &'static str),
+}
+
+impl Slowest {
+    fn note(&mut self, call: &'static str, times: Times) {
+        let by_value = times.by_value.unwrap_or(0.0);
+        if call.ends_with("attempt") && by_value > self.by_value.0 {
+            self.by_value = (by_value, call);
+        }
+        if call.ends_with("attempt") && times.boundary > self.boundary.0 {
+            self.boundary = (times.boundary, call);
+        }
+    }
+
+    fn print(&self) {
+        let ((by_value, method), (boundary, call)) = (self.by_value, self.boundary);
+        println!(
+            "\nGoal: a call by token within {TOKEN_CALL} µs by value. On the full book the slowest, `{method}`, takes {} µs: {}. \
+             Through the C boundary, where every call also reads the whole book and writes it back, the slowest, `{call}`, takes {} µs.\n",
+            figure(by_value),
+            verdict(by_value <= TOKEN_CALL),
+            figure(boundary),
+        );
+    }
+}
+
 pub fn print_calls() {
     print_head();
     let columns = SIZES.map(cases);
-    let mut slowest = [(0.0, ""), (0.0, "")];
+    let mut slowest = Slowest::default();
     for row in 0..columns[0].len() {
         print!("| {} |", row_name(&columns[2], row));
         for (size, column) in SIZES.iter().zip(&columns) {
             let case = &column[row];
-            if case.call == "open" && size.name != "empty" {
+            if case.call == "open" && size.name != EMPTY.name {
                 print!(" - | - | - |");
                 continue;
             }
             let times = times(case);
             print!("{}", cells(times));
-            if size.name == "full" && case.call.ends_with("attempt") {
-                let both = [times.by_value.unwrap_or(0.0), times.boundary];
-                for (slowest, micros) in slowest.iter_mut().zip(both) {
-                    *slowest = if micros > slowest.0 { (micros, case.call) } else { *slowest };
-                }
+            if size.name == FULL.name {
+                slowest.note(case.call, times);
             }
         }
         println!();
     }
-    let [(value, method), (boundary, call)] = slowest;
-    println!("\nGoal: a call by token within {TOKEN_CALL} µs. By value on the full book the slowest, `{method}`, takes {} µs: {}. Through the C boundary the slowest, `{call}`, takes {} µs, nearly all of it reading and writing the book.\n", figure(value), verdict(value <= TOKEN_CALL), figure(boundary));
+    slowest.print();
 }
 
 fn verdict(met: bool) -> &'static str {
