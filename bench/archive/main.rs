@@ -111,7 +111,11 @@ fn main() {
     }
     assert_eq!(out, bytes);
     println!("## Archives against plain Rust\n");
-    println!("The largest book, 57,694 bytes. Medians of {ROUNDS} rounds, turn about, by processor time. The ratio is the port's speed divided by the plain one's: above 1 the port is faster. The port's writer tests the book's soundness each time, the plain one does not.\n");
+    println!(
+        "The largest book, 57,694 bytes. Medians of {ROUNDS} rounds, turn about, by processor time. The ratio is the port's \
+         speed divided by the plain one's: above 1 the port is faster. The port's writer tests the book's soundness each \
+         time, the plain one does not.\n"
+    );
     println!("| | port MB/s | plain Rust MB/s | ratio |\n|---|---|---|---|");
     let rate = |time: f64| bytes.len() as f64 * times as f64 / 1e6 / time;
     for (name, ours, theirs) in [("read", ours_read, plain_read), ("write", ours_write, plain_write)] {

@@ -30,7 +30,10 @@ fn seconds(hash: fn(&[u8]) -> [u8; 32], message: &[u8], times: usize) -> f64 {
 
 fn main() {
     println!("## SHA-256 against plain Rust\n");
-    println!("Medians of {ROUNDS} rounds, turn about, by processor time. The ratio is the port's speed divided by the plain one's: above 1 the port is faster.\n");
+    println!(
+        "Medians of {ROUNDS} rounds, turn about, by processor time. The ratio is the port's speed divided by the plain \
+         one's: above 1 the port is faster.\n"
+    );
     println!("| bytes | port MB/s | plain Rust MB/s | ratio |\n|---|---|---|---|");
     for (size, times) in [(73, 50_000), (1024, 5_000), (57_694, 100), (64 << 20, 1)] {
         let message: Vec<u8> = (0..size).map(|i| (i * 7 + 1) as u8).collect();

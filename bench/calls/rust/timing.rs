@@ -79,9 +79,7 @@ fn by_token(case: &Case, books: &mut [SubmissionBook], now: Clock) -> Option<f64
         "acknowledge_attempt" => each(books, now, |book| book.acknowledge_attempt(token)),
         "stop_attempt" => each(books, now, |book| book.stop_attempt(token)),
         "abandon_attempt" => each(books, now, |book| book.abandon_attempt(token)),
-        "relinquish_completed_attempt" => {
-            each(books, now, |book| book.relinquish_completed_attempt(token))
-        }
+        "relinquish_completed_attempt" => each(books, now, |book| book.relinquish_completed_attempt(token)),
         "attempt" => each(books, now, |book| book.attempt(token).cloned()),
         _ => return None,
     })
@@ -93,9 +91,7 @@ fn of_queue(case: &Case, books: &mut [SubmissionBook], now: Clock) -> Option<f64
         "queue" => {
             let entry = queued(&case.bytes);
             let (trigger, goal) = (plain::to_trigger(entry.trigger), plain::to_goal(entry.goal));
-            each_with(books, now, plain::to_intent(&entry), |book, intent| {
-                book.queue(intent, trigger, goal)
-            })
+            each_with(books, now, plain::to_intent(&entry), |book, intent| book.queue(intent, trigger, goal))
         }
         "queue_rebroadcast_epoch" => {
             let trigger = plain::to_trigger(trigger);
@@ -131,9 +127,7 @@ fn of_chain(case: &Case, books: &mut [SubmissionBook], now: Clock) -> Option<f64
             let absent = coins(&case.bytes);
             each(books, now, |book| book.absent_outputs_for_ids(&ids, &absent))
         }
-        "collect_rollback_replay_ids" => {
-            each(books, now, |book| book.collect_rollback_replay_ids(&ids))
-        }
+        "collect_rollback_replay_ids" => each(books, now, |book| book.collect_rollback_replay_ids(&ids)),
         _ => return None,
     })
 }
@@ -141,16 +135,12 @@ fn of_chain(case: &Case, books: &mut [SubmissionBook], now: Clock) -> Option<f64
 fn others(case: &Case, books: &mut [SubmissionBook], now: Clock) -> f64 {
     match case.call {
         "open" => each(books, now, |book| *book = opened()),
-        "retain_submitted" => {
-            each(books, now, |book| book.retain_submitted(|tx| !case.ids.contains(&tx.id)))
-        }
+        "retain_submitted" => each(books, now, |book| book.retain_submitted(|tx| !case.ids.contains(&tx.id))),
         "emit_retirement" => each(books, now, |book| book.emit_retirement(case.number)),
         "drain_retirements" => each(books, now, |book| book.drain_retirements()),
         "active_ids" => each(books, now, |book| book.active_ids()),
         "begin_replay" => each(books, now, |book| book.begin_replay(case.number)),
-        "finish_replay_if_advanced" => {
-            each(books, now, |book| book.finish_replay_if_advanced(case.number))
-        }
+        "finish_replay_if_advanced" => each(books, now, |book| book.finish_replay_if_advanced(case.number)),
         "replay_rollback_height" => each(books, now, |book| book.replay_rollback_height()),
         "clear_local_artifacts" => each(books, now, |book| book.clear_local_artifacts()),
         "restore_runtime" => each(books, now, |book| book.restore_runtime()),

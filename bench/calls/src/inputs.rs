@@ -57,7 +57,11 @@ fn coin_string(parent: &Digest, puzzle_hash: &Digest, amount: u64) -> Vec<u8> {
 
 /// A full book has the longest coin strings, of 73 bytes.
 fn amount(size: Size, i: u64) -> u64 {
-    if size.whole { u64::MAX - i } else { 1_750_000_000_000 + i }
+    if size.whole {
+        u64::MAX - i
+    } else {
+        1_750_000_000_000 + i
+    }
 }
 
 fn bundle(size: Size, mark: u64) -> Bundle {
@@ -145,9 +149,8 @@ fn retained(size: Size, id: u64, state: State) -> Retained {
 fn book(size: Size, state: State, last: bool) -> Book {
     let n = size.retained as u64;
     let mut book = Book::open(100, 100);
-    book.retained = (1..=n)
-        .map(|id| retained(size, id, if last && id < n { State::Finalised } else { state }))
-        .collect();
+    book.retained =
+        (1..=n).map(|id| retained(size, id, if last && id < n { State::Finalised } else { state })).collect();
     book.queue = (0..size.queued as u64).map(|i| queued(size, None, 50 + i)).collect();
     book.retirements = (0..size.retirements as u64).map(|i| 1000 + i).collect();
     book.rollback = Some(800_000);

@@ -1,5 +1,5 @@
-//! Every call of the book, timed in one run on the same books: the upstream Rust, the port through its C boundary, and the port's methods by
-//! value. Prints Markdown.
+//! Every call of the book, timed in one run on the same books: the upstream Rust, the port through its C boundary, and
+//! the port's methods by value. Prints Markdown.
 
 #[path = "../../clock.rs"]
 mod clock;

@@ -74,7 +74,12 @@ fn by_token(case: Case, mut answer: Vec<u8>) -> Option<Call> {
     let source = kinds[0];
     Some(match call {
         "finalize_attempt" => lend!(submission_book_finalize_attempt(
-            number, source, bytes.as_ptr(), bytes.len(), answer.as_mut_ptr(), answer.len()
+            number,
+            source,
+            bytes.as_ptr(),
+            bytes.len(),
+            answer.as_mut_ptr(),
+            answer.len()
         )),
         "fee_intent_for_attempt" => {
             lend!(submission_book_fee_intent_for_attempt(number, answer.as_mut_ptr(), answer.len()))
@@ -88,9 +93,9 @@ fn by_token(case: Case, mut answer: Vec<u8>) -> Option<Call> {
         "abandon_attempt" => {
             lend!(submission_book_abandon_attempt(number, answer.as_mut_ptr(), answer.len()))
         }
-        "relinquish_completed_attempt" => lend!(submission_book_relinquish_completed_attempt(
-            number, answer.as_mut_ptr(), answer.len()
-        )),
+        "relinquish_completed_attempt" => {
+            lend!(submission_book_relinquish_completed_attempt(number, answer.as_mut_ptr(), answer.len()))
+        }
         "attempt" => lend!(submission_book_attempt(number, answer.as_mut_ptr(), answer.len())),
         _ => return None,
     })
@@ -117,27 +122,48 @@ fn of_chain(case: Case, mut answer: Vec<u8>) -> Option<Call> {
     let (reorg, mut count) = (kinds[0], 0u64);
     Some(match call {
         "reconciliation_input_coins" => lend!(submission_book_reconciliation_input_coins(
-            bytes.as_ptr(), bytes.len(), answer.as_mut_ptr(), answer.len(), &mut count
+            bytes.as_ptr(),
+            bytes.len(),
+            answer.as_mut_ptr(),
+            answer.len(),
+            &mut count
         )),
         "reconcile_chain_terminality" => lend!(submission_book_reconcile_chain_terminality(
-            bytes.as_ptr(), bytes.len(), more.as_ptr(), more.len(), reorg, ids.as_ptr(), ids.len()
+            bytes.as_ptr(),
+            bytes.len(),
+            more.as_ptr(),
+            more.len(),
+            reorg,
+            ids.as_ptr(),
+            ids.len()
         )),
         "causally_rolled_back_ids" => lend!(submission_book_causally_rolled_back_ids(
-            bytes.as_ptr(), bytes.len(), more.as_ptr(), more.len(), answer.as_mut_ptr(), answer.len()
+            bytes.as_ptr(),
+            bytes.len(),
+            more.as_ptr(),
+            more.len(),
+            answer.as_mut_ptr(),
+            answer.len()
         )),
         "absent_outputs_for_ids" => lend!(submission_book_absent_outputs_for_ids(
-            ids.as_ptr(), ids.len(), bytes.as_ptr(), bytes.len(), answer.as_mut_ptr(), answer.len(), &mut count
+            ids.as_ptr(),
+            ids.len(),
+            bytes.as_ptr(),
+            bytes.len(),
+            answer.as_mut_ptr(),
+            answer.len(),
+            &mut count
         )),
-        "collect_rollback_replay_ids" => {
-            lend!(submission_book_collect_rollback_replay_ids(ids.as_ptr(), ids.len()))
-        }
         _ => return None,
     })
 }
 
 fn of_epoch(case: Case, mut answer: Vec<u8>) -> Option<Call> {
-    let height = case.number;
-    Some(match case.call {
+    let Case { call, number: height, ids, .. } = case;
+    Some(match call {
+        "collect_rollback_replay_ids" => {
+            lend!(submission_book_collect_rollback_replay_ids(ids.as_ptr(), ids.len()))
+        }
         "begin_replay" => {
             lend!(submission_book_begin_replay(height, answer.as_mut_ptr(), answer.len()))
         }
@@ -156,9 +182,9 @@ fn others(case: Case, mut answer: Vec<u8>) -> Call {
         "open" => lend!(submission_book_open(number, 1)),
         "read" => lend!(submission_book_read(archive.as_ptr(), archive.len(), &mut count)),
         "write" => lend!(submission_book_write(answer.as_mut_ptr(), answer.len(), &mut count)),
-        "retain_submitted" => lend!(submission_book_retain_submitted(
-            ids.as_ptr(), ids.len(), answer.as_mut_ptr(), answer.len()
-        )),
+        "retain_submitted" => {
+            lend!(submission_book_retain_submitted(ids.as_ptr(), ids.len(), answer.as_mut_ptr(), answer.len()))
+        }
         "emit_retirement" => lend!(submission_book_emit_retirement(number)),
         "drain_retirements" => {
             lend!(submission_book_drain_retirements(answer.as_mut_ptr(), answer.len()))

@@ -45,13 +45,8 @@ fn processor() -> String {
 }
 
 fn print_head() {
-    println!("## Every call, in µs\n");
-    println!("Processor: {}. Processor time, medians of {ROUNDS} rounds in which the sides take turns, both built for release.\n", processor());
-    println!("- *Rust*: the upstream `SubmissionBook`, its text unchanged, with the stand-ins of tests/oracle (SHA-256 in plain Rust). Its books and arguments are made before the clock starts and dropped after it stops. For `read` and `write`, a plain reader and writer of the archive form (bench/archive).");
-    println!("- *C*: the port as a linked library, through `submission_book.h`: each call reads the book from the lent bytes and writes it back.");
-    println!("- *by value*: the method of `SubmissionBook` as a Rattle caller pays it, door and the moves of the book in and out included.");
-    println!("- In brackets: the port's time divided by the Rust's; below ×1 the port is faster.");
-    println!("- *empty*: nothing in the book. *typical*: 4 payments of 2 spends with 2 outputs each. *full*: 16 payments of 4 spends with 4 outputs each, with fee bundles, 16 queued, 64 retirements, 16 replayed ids, as far as the call leaves room.\n");
+    let head = include_str!("head.md");
+    print!("{}", head.replace("PROCESSOR", &processor()).replace("ROUNDS", &ROUNDS.to_string()));
     if cfg!(not(feature = "rust")) {
         println!("The upstream text or cargo is not at hand, so there is no Rust side in this run.\n");
     }
@@ -91,7 +86,7 @@ impl Slowest {
         let ((by_value, method), (boundary, call)) = (self.by_value, self.boundary);
         println!(
             "\nGoal: a call by token within {TOKEN_CALL} µs by value. On the full book the slowest, `{method}`, takes {} µs: {}. \
-             Through the C boundary, where every call also reads the whole book and writes it back, the slowest, `{call}`, takes {} µs.\n",
+             Through the C boundary, where the call also reads the whole book and writes it back, the slowest, `{call}`, takes {} µs.\n",
             figure(by_value),
             verdict(by_value <= TOKEN_CALL),
             figure(boundary),
@@ -123,7 +118,11 @@ pub fn print_calls() {
 }
 
 fn verdict(met: bool) -> &'static str {
-    if met { "met" } else { "MISSED" }
+    if met {
+        "met"
+    } else {
+        "MISSED"
+    }
 }
 
 pub fn print_drain() {
@@ -134,7 +133,11 @@ pub fn print_drain() {
     match times.rust {
         Some(rust) => {
             let ratio = value / rust;
-            println!("\nGoal: by value within {DRAIN_RATIO} times the Rust. Measured: {} times: {}.\n", figure(ratio), verdict(ratio <= DRAIN_RATIO));
+            println!(
+                "\nGoal: by value within {DRAIN_RATIO} times the Rust. Measured: {} times: {}.\n",
+                figure(ratio),
+                verdict(ratio <= DRAIN_RATIO)
+            );
         }
         None => println!("\nGoal: by value within {DRAIN_RATIO} times the Rust, which is not at hand.\n"),
     }
@@ -167,7 +170,10 @@ fn by_value_stack(case: &Case) -> Option<usize> {
 
 pub fn print_stack() {
     println!("## Stack, in bytes, on the full book\n");
-    println!("A thread's stack is painted before the call and looked at after it. *C, refused*: the book's archive is cut short by a byte. *by value*: with `call_bench`'s function around the method, which reads, holds and writes the book.\n");
+    println!(
+        "A thread's stack is painted before the call and looked at after it. *C, refused*: the book's archive is cut short \
+         by a byte. *by value*: with `call_bench`'s function around the method, which reads, holds and writes the book.\n"
+    );
     println!("| call | C | C, refused | by value |\n|---|---|---|---|");
     let full = cases(FULL);
     let mut largest = (0, String::new());
@@ -187,5 +193,10 @@ pub fn print_stack() {
         }
         println!();
     }
-    println!("\nGoal: at most {STACK} bytes. The largest is {} ({}): {}.\n", largest.0, largest.1, verdict(largest.0 <= STACK));
+    println!(
+        "\nGoal: at most {STACK} bytes. The largest is {} ({}): {}.\n",
+        largest.0,
+        largest.1,
+        verdict(largest.0 <= STACK)
+    );
 }
