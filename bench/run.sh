@@ -14,7 +14,7 @@ log=$out/build.log
 # A library is proved again when it is built, which takes a minute or two, so one that is newer than every source is kept.
 for crate in c_api call_bench archive_c sha256_c; do
     library=target/staticlib/lib$crate.a
-    if [ ! -f "$library" ] || [ -n "$(find crates crates.txt -type f -newer "$library" -print -quit)" ]; then
+    if [ ! -f "$library" ] || [ -n "$(find crates crates.txt -regex '.*\.\(rt\|antt\|txt\)' -newer "$library" -print -quit)" ]; then
         echo "proving and building $library" >&2
         rt staticlib "$crate" >>"$log" 2>&1 || { cat "$log"; exit 1; }
     fi
