@@ -2,13 +2,14 @@
 use mathlib.Core.Path.{_≡_, refl, sym, ap, _∙_, subst}
 use mathlib.Core.Bool.{Bool, true, false, not}
 use mathlib.Core.List.{List, [], _++_}
-use Prim.Native.Nat.{ℕ, _+_, _≤_, _<_, min}
+use Prim.Native.Nat.{ℕ, _+_, _-_, _*_, _≤_, _<_, zero-le, min}
 use native.Mathlib.Omega.{arith}
-use native.Mathlib.Nat.{add-zero}
-use lib.ListN.{length, getD, take}
+use native.Mathlib.Nat.{add-zero, one-mul, add-mul}
+use lib.ListN.{length, getD, take, length-append}
 use lib.Dec.{leb}
 use borrow.Author.Tests.{le-leb, leb-true, not-true, not-false}
-use Rattle.wire.specs.Wire.{encMany}
+use Rattle.wire.specs.Wire.{be, encMany}
+use Rattle.wire.specs.Number.{be-length}
 use Rattle.wire.specs.Puts.{Puts, Room, room-first, room-next, puts-join, puts-as, room-as, splice, splice-none, many-suc, take-cut}
 
 -- where l has room in d from place `at` on, it is written there, d is d′ then and e the place behind it
@@ -47,3 +48,41 @@ pub each-done : {A : Type 0} (enc : A → List ℕ) (l : List A) (N n k i : ℕ)
 each-done enc l N n k i h q a b f =
     let w : i ≡ k = omega arith in
     fits-as (ap (λ (x : ℕ). encMany enc (take x l)) w ∙ ap (encMany enc) (take-cut N n k l h q)) f
+
+-- ---- parts whose greatest length is known
+pub record FitsWithin (most : ℕ) (l : List ℕ) (at : ℕ) (d d′ : List ℕ) (e : ℕ) : Type 0 where
+  pub fits : Fits l at d d′ e
+  pub few : length l ≤ most
+
+pub within-join : {m n : ℕ} {a b : List ℕ} {at : ℕ} {d d₁ d₂ : List ℕ} {e₁ e₂ : ℕ} → FitsWithin m a at d d₁ e₁ → FitsWithin n b e₁ d₁ d₂ e₂ → FitsWithin (m + n) (a ++ b) at d d₂ e₂
+within-join {m} {n} {a} {b} f g = record { fits = fits-join (f .fits) (g .fits); few = omega (arith, length-append a b, f .few, g .few) }
+
+pub within-as : {m : ℕ} {a b : List ℕ} {at : ℕ} {d d′ : List ℕ} {e : ℕ} → a ≡ b → FitsWithin m a at d d′ e → FitsWithin m b at d d′ e
+within-as {m} {a} {b} {at} {d} {d′} {e} q p = subst (λ (l : List ℕ). FitsWithin m l at d d′ e) q p
+
+-- a byte that says the number k
+pub within-byte : {j k : ℕ} {at : ℕ} {d d′ : List ℕ} {e : ℕ} → j ≡ k → Fits (be 1 j) at d d′ e → FitsWithin 1 (be 1 k) at d d′ e
+within-byte {j} {k} q f = record { fits = fits-as (ap (be 1) q) f; few = omega (arith, be-length 1 k) }
+
+-- i parts are no longer than n of them
+fewer : (m i n : ℕ) → i ≤ n → i * m ≤ n * m
+fewer m i n h =
+    let q : i + (n - i) ≡ n = omega arith in
+    let p : n * m ≡ i * m + (n - i) * m = ap (λ (x : ℕ). x * m) (sym q) ∙ add-mul i (n - i) m in
+    omega (arith, p)
+
+pub within-start : {A : Type 0} (m : ℕ) (enc : A → List ℕ) (l : List A) (at : ℕ) (d : List ℕ) → FitsWithin (0 * m) (encMany enc (take 0 l)) at d d at
+unfolding encMany
+within-start m enc l at d = record { fits = fits-none at d; few = zero-le }
+
+pub within-more : {A : Type 0} (m : ℕ) (z : A) (enc : A → List ℕ) (l : List A) (i : ℕ) {at : ℕ} {d d₁ d₂ : List ℕ} {e₁ e₂ : ℕ} → i < length l → FitsWithin (i * m) (encMany enc (take i l)) at d d₁ e₁ → FitsWithin m (enc (getD l i z)) e₁ d₁ d₂ e₂ → FitsWithin ((i + 1) * m) (encMany enc (take (i + 1) l)) at d d₂ e₂
+within-more m z enc l i {at} {d} {d₁} {d₂} {e₁} {e₂} h f g =
+    let q : i * m + m ≡ (i + 1) * m = ap (λ (x : ℕ). i * m + x) (sym (one-mul m)) ∙ sym (add-mul i 1 m) in
+    within-as (sym (many-suc z enc l i h)) (subst (λ (x : ℕ). FitsWithin x (encMany enc (take i l) ++ enc (getD l i z)) at d d₂ e₂) q (within-join f g))
+
+-- all n of them, or as many as there are cells
+pub within-done : {A : Type 0} (m : ℕ) (enc : A → List ℕ) (l : List A) (n k i : ℕ) {at : ℕ} {d d′ : List ℕ} {e : ℕ} → length l ≡ 16 → k ≡ min n 16 → i ≤ k → k ≤ i → FitsWithin (i * m) (encMany enc (take i l)) at d d′ e → FitsWithin (16 * m) (encMany enc (take n l)) at d d′ e
+within-done m enc l n k i {at} {d} {d′} {e} h q a b f =
+    let w : i ≡ k = omega arith in
+    let p : encMany enc (take i l) ≡ encMany enc (take n l) = ap (λ (x : ℕ). encMany enc (take x l)) w ∙ ap (encMany enc) (take-cut 16 n k l h q) in
+    within-as p (record { fits = f .fits; few = omega (arith, f .few, fewer m i 16 (omega arith)) })

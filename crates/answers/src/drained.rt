@@ -1,12 +1,13 @@
 // What a drain hands out: submissions and failures.
 ghost use mathlib.Core.Path.{_≡_};
 ghost use mathlib.Core.List.{_++_};
-ghost use Prim.Native.Nat.{min};
 ghost use lib.ListN.{take};
 ghost use Rattle.wire.specs.Wire.{be, encMany};
 ghost use Rattle.archive_form.specs.Encode.{encodeId};
-ghost use Rattle.answers.specs.Fits.{Fits};
+ghost use Rattle.drain_answers.specs.Failures.{stageMeans};
+ghost use Rattle.answers.specs.Fits.{Fits, FitsWithin};
 ghost use Rattle.answers.specs.Forms.{relationshipNumber, encodeToken, encodeDrained};
+ghost use Rattle.answers.specs.Drain.{stageNumber, encodeFailed, encodeSubmissions, encodeFailures};
 use crate::part::append_bundle;
 use crate::part::append_byte;
 use crate::part::append_bytes;
@@ -15,7 +16,14 @@ use crate::part::append_height;
 use crate::part::append_id;
 use crate::part::append_number;
 use book_data::OptionalId;
+use drain_answers::SubmissionDrainFailure;
+use drain_answers::SubmissionDrainFailureStage;
+use drain_answers::retained_id;
+use drain_answers::stage_of;
 use slots::SubmissionAttemptRelationship;
+use spend_size::size_bundle;
+use spend_size::size_fee_intent;
+use spend_size::size_height;
 use spend_write::write::at_most;
 use submitted::DrainedSubmission;
 use submitted::OptionalToken;
@@ -44,13 +52,17 @@ pub fn append_token(out: &mut [u8], at: usize, t: OptionalToken) -> usize
 }
 
 pub fn append_drained(out: &mut [u8], at: usize, d: DrainedSubmission) -> usize
-    ensures { λ r. ⌜ Fits (encodeDrained d) at (now (out .entry)) (now (out .exit)) r ⌝ }
+    ensures { λ r. ⌜ FitsWithin 1149 (encodeDrained d) at (now (out .entry)) (now (out .exit)) r ⌝ }
 {
     let predecessor = d.predecessor_attempt_token;
     let relationship = d.relationship;
     let bundle = d.bundle;
     let expiry = d.expiry;
     let fee_intent = d.fee_intent;
+    // at most 1073, 9 and 41: the parts that decide how long the whole can be
+    size_bundle(bundle);
+    size_height(expiry);
+    size_fee_intent(fee_intent);
     let n = relationship_number(relationship);
     let id_end = append_number(&mut *out, at, d.id.0);
     let token_end = append_number(&mut *out, id_end, d.attempt_token.0);
@@ -62,7 +74,7 @@ pub fn append_drained(out: &mut [u8], at: usize, d: DrainedSubmission) -> usize
 }
 
 fn append_each(out: &mut [u8], at: usize, a: [DrainedSubmission; 16], n: usize) -> usize
-    ensures { λ r. ⌜ Fits (encMany encodeDrained (take n a)) at (now (out .entry)) (now (out .exit)) r ⌝ }
+    ensures { λ r. ⌜ FitsWithin 18384 (encMany encodeDrained (take n a)) at (now (out .entry)) (now (out .exit)) r ⌝ }
 {
     let k = at_most(n, 16);
     let mut e = at;
@@ -77,7 +89,7 @@ fn append_each(out: &mut [u8], at: usize, a: [DrainedSubmission; 16], n: usize) 
 
 // The count, and the first n submissions.
 pub fn append_submissions(out: &mut [u8], at: usize, a: [DrainedSubmission; 16], n: usize) -> usize
-    ensures { λ r. ⌜ Fits (be 1 (min n 16) ++ encMany encodeDrained (take n a)) at (now (out .entry)) (now (out .exit)) r ⌝ }
+    ensures { λ r. ⌜ FitsWithin 18385 (encodeSubmissions n a) at (now (out .entry)) (now (out .exit)) r ⌝ }
 {
     let k = at_most(n, 16);
     let e = append_byte(&mut *out, at, k as u8);
@@ -85,7 +97,7 @@ pub fn append_submissions(out: &mut [u8], at: usize, a: [DrainedSubmission; 16],
 }
 
 // A failure of a drain. The stage is 0 Fingerprint, 1 RetainedState, 2 ExpectedOutputs, 3 SubmissionId.
-pub fn append_failure(
+fn append_failure(
     out: &mut [u8],
     at: usize,
     index: u64,
@@ -94,11 +106,75 @@ pub fn append_failure(
     fingerprint: [u8; 32],
     stage: u8,
 ) -> usize
-    ensures { λ r. ⌜ Fits (be 8 index ++ encodeId retained ++ encodeId candidate ++ fingerprint ++ be 1 stage) at (now (out .entry)) (now (out .exit)) r ⌝ }
+    ensures { λ r. ⌜ FitsWithin 59 (be 8 index ++ encodeId retained ++ encodeId candidate ++ fingerprint ++ be 1 stage) at (now (out .entry)) (now (out .exit)) r ⌝ }
 {
     let index_end = append_number(&mut *out, at, index);
     let retained_end = append_id(&mut *out, index_end, retained);
     let candidate_end = append_id(&mut *out, retained_end, candidate);
     let fingerprint_end = append_bytes(&mut *out, candidate_end, &fingerprint);
     append_byte(out, fingerprint_end, stage)
+}
+
+pub fn stage_number(s: SubmissionDrainFailureStage) -> u8
+    ensures { λ n. ⌜ n ≡ stageNumber (stageMeans s) ⌝ }
+{
+    match s {
+        SubmissionDrainFailureStage::Fingerprint => 0,
+        SubmissionDrainFailureStage::RetainedState => 1,
+        SubmissionDrainFailureStage::ExpectedOutputs => 2,
+        SubmissionDrainFailureStage::SubmissionId => 3,
+    }
+}
+
+fn append_drain_failure(out: &mut [u8], at: usize, f: SubmissionDrainFailure) -> usize
+    ensures { λ r. ⌜ FitsWithin 59 (encodeFailed f) at (now (out .entry)) (now (out .exit)) r ⌝ }
+{
+    let cause = f.cause;
+    let id = f.candidate_id;
+    let fingerprint = f.intent_fingerprint;
+    let stage = stage_of(cause);
+    let n = stage_number(stage);
+    let retained = retained_id(f);
+    append_failure(
+        out,
+        at,
+        f.candidate_index as u64,
+        retained,
+        OptionalId::Of(id),
+        fingerprint,
+        n,
+    )
+}
+
+fn append_each_failure(
+    out: &mut [u8],
+    at: usize,
+    a: [SubmissionDrainFailure; 16],
+    n: usize,
+) -> usize
+    ensures { λ r. ⌜ FitsWithin 944 (encMany encodeFailed (take n a)) at (now (out .entry)) (now (out .exit)) r ⌝ }
+{
+    let k = at_most(n, 16);
+    let mut e = at;
+    let mut i: usize = 0;
+    while i < k {
+        let f = a[i];
+        e = append_drain_failure(&mut *out, e, f);
+        i += 1;
+    }
+    e
+}
+
+// The count, and the first n failures.
+pub fn append_failures(
+    out: &mut [u8],
+    at: usize,
+    a: [SubmissionDrainFailure; 16],
+    n: usize,
+) -> usize
+    ensures { λ r. ⌜ FitsWithin 945 (encodeFailures n a) at (now (out .entry)) (now (out .exit)) r ⌝ }
+{
+    let k = at_most(n, 16);
+    let e = append_byte(&mut *out, at, k as u8);
+    append_each_failure(out, e, a, n)
 }

@@ -2,19 +2,25 @@
 use Prim.Native.Nat.{ℕ, zero, suc, _+_, _-_, _*_, _≤_, _<_, zero-le, min}
 use mathlib.Core.Path.{_≡_, refl, sym, ap, _∙_, subst}
 use mathlib.Core.Bool.{Bool, true, false}
-use mathlib.Core.List.{List, [], _∷_, _++_}
+use mathlib.Core.List.{List, [], _∷_, _++_, map}
 use mathlib.Core.Option.{none}
 use native.Mathlib.Omega.{arith}
 use native.Mathlib.Nat.{sub-zero}
-use lib.ListN.{length, take, drop, length-append, length-take}
+use lib.ListN.{length, take, drop, replicate, length-append, length-take, length-map}
 use lib.Seq.{take-at}
+use Rattle.lists.specs.Lists.{cells}
 use Rattle.wire.specs.Wire.{be, encMany, encOpt, overlay}
 use Rattle.wire.specs.Number.{be-length}
 use Rattle.wire.specs.Puts.{Puts, Size, puts-overlay}
 use Rattle.spend.specs.Forms.{encodeBundle, encodeHeight, encodeFeeIntent}
 use Rattle.archive_form.specs.Encode.{encodeHash, encodeAttempt, encodeSlot, goalNumber}
 use Rattle.answers.specs.Fits.{Fits}
-use Rattle.answers.specs.Forms.{flagNumber, statusNumber, dispositionNumber, encodeIds, encodeFinal}
+use Rattle.answers.specs.Forms.{flagNumber, statusNumber, dispositionNumber, encodeIds, encodeFinal, encodeDrained}
+use Rattle.answers.specs.Drain.{encodeFailure, encodeFailed, encodeSubmissions, encodeFailures}
+use Rattle.submitted.specs.Drained.{drainedBack, zeroDrained}
+use Rattle.drain_answers.specs.Failures.{failureBack, failure-of, zeroFailure}
+use Rattle.drain_answers.specs.DrainReply.{failuresBy, drainReply}
+use Rattle.drain_answers.specs.declared.DrainReply.{DrainReply}
 use Rattle.book_data.specs.Model.{Book, view, ids64}
 use Rattle.book_data.specs.Zero.{zeroFeeIntent, noAttempt}
 use Rattle.book_data.specs.declared.BookData.{BookData}
@@ -23,7 +29,7 @@ use Rattle.book_data.specs.declared.OptionalHash.{OptionalHash}
 use Rattle.book_data.specs.declared.DeliveryAttempt.{DeliveryAttempt}
 use Rattle.book_data.specs.declared.OptionalAttempt.{OptionalAttempt}
 use Rattle.book_data.specs.declared.OptionalHeight.the-variants.{NoHeight}
-use Rattle.rules.specs.Call.{Value}
+use Rattle.rules.specs.Call.{Value, Failure}
 use Rattle.rules.specs.Rule.{Rule, DrainedSubmission, Outcome, ended, undone, stopped}
 use Rattle.rules.specs.Steps.{runBook}
 use Rattle.replies.specs.Values.{statusBy, idsBy, flagBy, heightBy, attemptBy, hasFeeIntent, feeIntentBy, hasFinal, finalBy, zeroFinal}
@@ -70,6 +76,16 @@ feeIntentForm xs v = encOpt (hasFeeIntent v) (encodeFeeIntent (feeIntentBy v))
 unfoldable pub finalForm : Form
 unfolding encOpt encodeFinal
 finalForm xs v = encOpt (hasFinal v) (encodeFinal (finalBy v))
+
+-- what a drain hands out, then its failures
+unfoldable pub drainForm : Form
+unfolding be encMany encodeDrained encodeFailure
+drainForm xs v = (be 1 (length xs) ++ encMany encodeDrained (map drainedBack xs)) ++ (be 1 (length (failuresBy v)) ++ encMany encodeFailure (failuresBy v))
+
+-- the same, of the reply's cells
+unfoldable pub encodeDrain : DrainReply → List ℕ
+unfolding encodeSubmissions encodeFailures
+encodeDrain r = encodeSubmissions (r .«submission_count») (r .submissions) ++ encodeFailures (r .«failure_count») (r .failures)
 
 -- ---- a call on bytes that hold no book
 pub gives-absent : (form : Form) (r : Rule Value) (d a : List ℕ) → heldIn d ≡ none → Gives (boundary form r d a) 1 d a
@@ -157,6 +173,57 @@ module _ (d a : List ℕ) (b : BookData) (h : Holding d b) (rule : Rule Value) {
 pub done-given : (d : List ℕ) (b : BookData) (h : Holding d b) (rule : Rule Value) {n : ℕ} {d′ : List ℕ} (r : DoneReply) → r ≡ doneReply b (runBook rule (view b)) → GivesBook (finish (r .answer) (r .book) [] d []) n d′ → GivesBook (boundary noForm rule d []) n d′
 done-given d b h rule r e g =
     gives-book-as (ap (λ (x : DoneReply). finish (x .answer) (x .book) [] d []) e ∙ boundary-reply noForm d [] b h rule [] (tells-none (runBook rule (view b)))) g
+
+-- ---- a drain's reply: the cells hold what the rules hand out
+cells-front : {A : Type 0} (z : A) (l : List A) (n : ℕ) → length l ≡ n → take n (cells 16 z l) ≡ l
+cells-front z l n e = take-at l (replicate (16 - length l) z) n e
+
+cells-few : {A : Type 0} (z : A) (l : List A) → length (cells 16 z l) ≡ 16 → length l ≤ 16
+cells-few z l e = omega (arith, length-append l (replicate (16 - length l) z))
+
+submissions-told : (xs : List DrainedSubmission) → length (cells 16 zeroDrained (map drainedBack xs)) ≡ 16 → encodeSubmissions (length xs) (cells 16 zeroDrained (map drainedBack xs)) ≡ be 1 (length xs) ++ encMany encodeDrained (map drainedBack xs)
+unfolding encodeSubmissions
+submissions-told xs h =
+    let q : length (map drainedBack xs) ≡ length xs = length-map xs drainedBack in
+    let m : min (length xs) 16 ≡ length xs = omega (arith, cells-few zeroDrained (map drainedBack xs) h) in
+    ap (λ (n : ℕ). be 1 n ++ encMany encodeDrained (take (length xs) (cells 16 zeroDrained (map drainedBack xs)))) m
+    ∙ ap (λ l. be 1 (length xs) ++ encMany encodeDrained l) (cells-front zeroDrained (map drainedBack xs) (length xs) q)
+
+failed-all : (fs : List Failure) → encMany encodeFailed (map failureBack fs) ≡ encMany encodeFailure fs
+unfolding encMany encodeFailed
+failed-all [] = refl
+failed-all (f ∷ fs) =
+    ap (λ (g : Failure). encodeFailure g ++ encMany encodeFailed (map failureBack fs)) (failure-of f) ∙ ap (λ (l : List ℕ). encodeFailure f ++ l) (failed-all fs)
+
+failures-told : (fs : List Failure) → length (cells 16 zeroFailure (map failureBack fs)) ≡ 16 → encodeFailures (length fs) (cells 16 zeroFailure (map failureBack fs)) ≡ be 1 (length fs) ++ encMany encodeFailure fs
+unfolding encodeFailures
+failures-told fs h =
+    let q : length (map failureBack fs) ≡ length fs = length-map fs failureBack in
+    let m : min (length fs) 16 ≡ length fs = omega (arith, cells-few zeroFailure (map failureBack fs) h) in
+    ap (λ (n : ℕ). be 1 n ++ encMany encodeFailed (take (length fs) (cells 16 zeroFailure (map failureBack fs)))) m
+    ∙ ap (λ l. be 1 (length fs) ++ encMany encodeFailed l) (cells-front zeroFailure (map failureBack fs) (length fs) q)
+    ∙ ap (λ (l : List ℕ). be 1 (length fs) ++ l) (failed-all fs)
+
+tells-drain : (b : BookData) (o : Outcome Book Value) → length (drainReply b o .submissions) ≡ 16 → length (drainReply b o .failures) ≡ 16 → Tells drainForm o (encodeDrain (drainReply b o))
+unfolding drainForm encodeDrain
+tells-drain b (ended m xs v) s f =
+    ap (λ (l : List ℕ). l ++ encodeFailures (length (failuresBy v)) (cells 16 zeroFailure (map failureBack (failuresBy v)))) (submissions-told xs s)
+    ∙ ap (λ (l : List ℕ). (be 1 (length xs) ++ encMany encodeDrained (map drainedBack xs)) ++ l) (failures-told (failuresBy v) f)
+tells-drain b (undone k) s f = tt
+tells-drain b (stopped m xs k) s f = tt
+
+-- what settling a drain's reply leaves; the cells are those of its type
+pub record DrainGiven (r : DrainReply) (d a : List ℕ) (n : ℕ) (d′ a′ : List ℕ) : Type 0 where
+  pub left : Gives (finish (r .answer) (r .book) (encodeDrain r) d a) n d′ a′
+  pub submissions : length (r .submissions) ≡ 16
+  pub failures : length (r .failures) ≡ 16
+
+pub drain-given : (d a : List ℕ) (b : BookData) (h : Holding d b) (rule : Rule Value) {n : ℕ} {d′ a′ : List ℕ} (r : DrainReply) → r ≡ drainReply b (runBook rule (view b)) → DrainGiven r d a n d′ a′ → Gives (boundary drainForm rule d a) n d′ a′
+drain-given d a b h rule r e g =
+    let o = runBook rule (view b) in
+    let s : length (drainReply b o .submissions) ≡ 16 = ap (λ (x : DrainReply). length (x .submissions)) (sym e) ∙ g .submissions in
+    let f : length (drainReply b o .failures) ≡ 16 = ap (λ (x : DrainReply). length (x .failures)) (sym e) ∙ g .failures in
+    gives-as (ap (λ (x : DrainReply). finish (x .answer) (x .book) (encodeDrain x) d a) e ∙ boundary-reply drainForm d a b h rule _ (tells-drain b o s f)) (g .left)
 
 -- ---- an answer made in an array of its own
 pub told : (x l l′ : List ℕ) (n : ℕ) → Fits x 0 l l′ n → length x ≤ length l → take (n - 0) (drop 0 l′) ≡ x

@@ -1,25 +1,25 @@
 -- A list of calls on lent bytes: behind each call the bytes hold the book that the rules leave.
-use Prim.Native.Nat.{ℕ, zero, suc, _+_, _-_, _^_, _≤_, _<_, zero-le}
-use mathlib.Core.Path.{_≡_, refl, sym, ap, _∙_, subst}
+use Prim.Native.Nat.{ℕ, _+_, _^_, _≤_, _<_}
+use mathlib.Core.Path.{_≡_, refl, sym, ap, _∙_}
 use mathlib.Core.Bool.{Bool, true, false, cond, _&&_}
 use mathlib.Core.List.{List, [], _∷_, _++_, append-assoc}
-use mathlib.Core.Option.{Option, none, some}
+use mathlib.Core.Option.{some}
 use native.Mathlib.Omega.{arith}
 use native.Mathlib.Nat.{zero-add}
 use lib.ListN.{length, take, drop, length-append, length-drop}
 use lib.Seq.{take-at, drop-at}
-use lib.Dec.{leb, lit<}
+use lib.Dec.{leb}
 use borrow.Author.Tests.{leb-true}
-use Rattle.wire.specs.Wire.{Ans, got, be, number, run, overlay}
+use Rattle.wire.specs.Wire.{got, be, number, run, overlay}
 use Rattle.wire.specs.Number.{be-length}
 use Rattle.wire.specs.Lawful.{Spans}
 use Rattle.wire.specs.Items.{number-lawful}
 use Rattle.wire_bytes.specs.Reading.{then-got, run-got}
-use Rattle.book_data.specs.Model.{Book, view, back}
+use Rattle.book_data.specs.Model.{Book, back}
 use Rattle.book_data.specs.Typed.{Typed}
 use Rattle.book_data.specs.SoundLaws.{view-back}
-use Rattle.archive_form.specs.Encode.{encodeModel, encodeBook}
-use Rattle.archive_form.specs.Parse.{readArchive, ArchiveRead, book}
+use Rattle.archive_form.specs.Encode.{encodeModel}
+use Rattle.archive_form.specs.Parse.{readArchive, book}
 use Rattle.archive_laws.specs.Books.{TypedModel}
 use Rattle.archive_laws.specs.Back.{back-typed, back-sound}
 use Rattle.archive_laws.specs.Sizes.{archive-size}
@@ -29,13 +29,9 @@ use Rattle.rules.specs.Rule.{Rule, Outcome, ended, undone, stopped, left}
 use Rattle.rules.specs.Steps.{runBook}
 use Rattle.rule_laws.specs.Sound.Run.{SoundBook, sound-left}
 use Rattle.boundary.specs.Held.{layout, archiveIn, bookOf, heldBy, heldIn}
-use Rattle.boundary.specs.Settle.{Left, Form, refusal, written, settled, ruled, boundary, layout-length}
+use Rattle.boundary.specs.Settle.{Left, Form, refusal, written, settled, ruled, boundary, layout-length, encode-back}
 
 -- ---- a book that was written is held
-encode-back : (m : Book) → encodeBook (back m) ≡ encodeModel m
-unfolding encodeBook
-encode-back m = ap encodeModel (view-back m)
-
 archive-front : (s d : List ℕ) → length s < 256 ^ 8 → length (layout s) ≤ length d → archiveIn (overlay (layout s) d) 0 ≡ got s (8 + length s)
 unfolding archiveIn layout overlay
 archive-front s d h k =

@@ -1,7 +1,7 @@
 // What the chain shows.
-use boundary::read::held;
-use boundary::reply::settle_ids;
-use boundary::write::settle_done;
+use boundary_read::held;
+use boundary_replies::settle_ids;
+use boundary_write::settle_done;
 use chain_calls::causally_rolled_back_ids_sound;
 use chain_calls::reconcile_chain_terminality_sound;
 ghost use Rattle.rules.specs.Calls.CausallyRolledBackIds.{causallyRolledBackIds};

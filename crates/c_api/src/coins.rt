@@ -1,5 +1,5 @@
 // Coins of the retained submissions, as a coin list in `answer`; its length in `length`. These calls only look at the book.
-use boundary::read::held;
+use boundary_read::held;
 use coin_calls::absent_outputs_for_ids_sound;
 use coin_calls::reconciliation_input_coins_sound;
 use replies::CallAnswer;

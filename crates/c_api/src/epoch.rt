@@ -1,11 +1,11 @@
 // Replay epoch and retirements.
 use book_data::Height;
 use book_data::SubmissionId;
-use boundary::read::held;
-use boundary::reply::settle_flag;
-use boundary::reply::settle_height;
-use boundary::reply::settle_ids;
-use boundary::write::settle_done;
+use boundary_read::held;
+use boundary_replies::settle_flag;
+use boundary_replies::settle_height;
+use boundary_replies::settle_ids;
+use boundary_write::settle_done;
 use replay_calls::begin_replay_sound;
 use replay_calls::drain_retirements_sound;
 use replay_calls::emit_retirement_sound;

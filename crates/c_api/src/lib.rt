@@ -3,6 +3,7 @@
 mod attempts;
 mod chain;
 mod coins;
+mod drain_call;
 mod epoch;
 mod queue;
 mod retained;

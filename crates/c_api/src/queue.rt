@@ -1,7 +1,7 @@
 // Calls that offer deliveries.
 use book_data::SubmissionId;
-use boundary::read::held;
-use boundary::write::settle_done;
+use boundary_read::held;
+use boundary_write::settle_done;
 use entry_read::delivery::read_delivery;
 use queue_calls::queue_fee_readiness_sound;
 use queue_calls::queue_rebroadcast_epoch_sound;

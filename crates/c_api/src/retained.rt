@@ -1,7 +1,7 @@
 // Calls on all retained submissions.
-use boundary::read::held;
-use boundary::reply::settle_ids;
-use boundary::write::settle_done;
+use boundary_read::held;
+use boundary_replies::settle_ids;
+use boundary_write::settle_done;
 use retained_calls::active_ids_sound;
 use retained_calls::clear_local_artifacts_sound;
 use retained_calls::restore_runtime_sound;

@@ -1,10 +1,20 @@
 use Rattle.wire.specs.Wire.{be}
 use Rattle.answers.specs.Fits.{fits-join, fits-as}
 use Rattle.answers.specs.Forms.{encodeDrained}
+use Rattle.answers.specs.Drain.{drained-most}
 use mathlib.Core.Path.{ap}
 use borrow.Author.Needs.{needs}
 use Rattle.answers.proofs.drained.append_drained.Statement.{statement}
 use Rattle.answers.proofs.drained.append_drained.Tie as tie
+
+size-bundle-requires : tie.Need-size-bundle-requires
+size-bundle-requires c κs = search needs
+
+size-height-requires : tie.Need-size-height-requires
+size-height-requires c κs = search needs
+
+size-fee-intent-requires : tie.Need-size-fee-intent-requires
+size-fee-intent-requires c κs = search needs
 
 relationship-number-requires : tie.Need-relationship-number-requires
 relationship-number-requires c κs = search needs
@@ -35,12 +45,15 @@ same-length c = search needs
 
 returns : tie.Need-returns
 unfolding encodeDrained
-returns c = fits-join (fits-join (fits-join (fits-join (fits-join (fits-join (c .before .before .before .before .before .before .before .before .before .before .before .before .before .before .before .before .before .before .before .before .before .before .before .before .before .before .append-number .ensures) (c .before .before .before .before .before .before .before .before .before .before .before .before .before .before .before .before .before .before .before .before .before .before .append-number2 .ensures)) (c .before .before .before .before .before .before .before .before .before .before .before .before .before .before .before .before .before .before .append-token .ensures)) (fits-as (ap (be 1) (c .before .before .before .before .before .before .before .before .before .before .before .before .before .before .before .before .before .before .before .before .before .before .before .before .before .before .before .before .relationship-number .ensures)) (c .before .before .before .before .before .before .before .before .before .before .before .before .before .before .append-byte .ensures))) (c .before .before .before .before .before .before .before .before .before .before .append-bundle .ensures)) (c .before .before .before .before .before .before .append-height .ensures)) (c .before .before .append-fee-intent .ensures)
+returns c = record { fits = fits-join (fits-join (fits-join (fits-join (fits-join (fits-join (c .before .before .before .before .before .before .before .before .before .before .before .before .before .before .before .before .before .before .before .before .before .before .before .before .before .before .append-number .ensures) (c .before .before .before .before .before .before .before .before .before .before .before .before .before .before .before .before .before .before .before .before .before .before .append-number2 .ensures)) (c .before .before .before .before .before .before .before .before .before .before .before .before .before .before .before .before .before .before .append-token .ensures)) (fits-as (ap (be 1) (c .before .before .before .before .before .before .before .before .before .before .before .before .before .before .before .before .before .before .before .before .before .before .before .before .before .before .before .before .relationship-number .ensures)) (c .before .before .before .before .before .before .before .before .before .before .before .before .before .before .append-byte .ensures))) (c .before .before .before .before .before .before .before .before .before .before .append-bundle .ensures)) (c .before .before .before .before .before .before .append-height .ensures)) (c .before .before .append-fee-intent .ensures); few = drained-most (c .before .before .before .before .before .before .before .before .before .before .before .before .before .before .before .before .before .before .before .before .before .before .before .before .before .before .before .before .before .before .before .before .before .before .before .args .d) (c .before .before .before .before .before .before .before .before .before .before .before .before .before .before .before .before .before .before .before .before .before .before .before .before .before .before .before .before .before .before .before .size-bundle .ensures) (c .before .before .before .before .before .before .before .before .before .before .before .before .before .before .before .before .before .before .before .before .before .before .before .before .before .before .before .before .before .before .size-height .ensures) (c .before .before .before .before .before .before .before .before .before .before .before .before .before .before .before .before .before .before .before .before .before .before .before .before .before .before .before .before .before .size-fee-intent .ensures) }
 
 pub append-drained-spec : {M : Type 1} → statement M
 append-drained-spec =
     tie.close
     (tie.spec
+    size-bundle-requires
+    size-height-requires
+    size-fee-intent-requires
     relationship-number-requires
     append-number-requires
     append-number-requires-2

@@ -1,16 +1,16 @@
 use Rattle.wire.specs.Wire.{encMany}
-use Rattle.answers.specs.Fits.{Fits, each-start, each-more, each-done}
+use Rattle.answers.specs.Fits.{FitsWithin, within-start, within-more, within-done}
 use Rattle.answers.specs.Forms.{encodeDrained}
 use borrow.Author.Needs.{needs}
 use native.Mathlib.Omega.{arith}
 use mathlib.Core.Path.{_≡_, refl}
-use Prim.Native.Nat.{_-_, _≤_}
+use Prim.Native.Nat.{_-_, _*_, _≤_}
 use lib.ListN.{length, take}
 use Rattle.answers.proofs.drained.append_each.Statement.{statement}
 use Rattle.answers.proofs.drained.append_each.Tie as tie
 
 abbrev Inv-loop : tie.InvT-loop
-Inv-loop out₀ at n a k e₀ i₀ out e i = Fits (encMany encodeDrained (take i a)) at out₀ out e × (i ≤ k) × (k ≤ 16) × (length out ≡ length out₀)
+Inv-loop out₀ at n a k e₀ i₀ out e i = FitsWithin (i * 1149) (encMany encodeDrained (take i a)) at out₀ out e × (i ≤ k) × (k ≤ 16) × (length out ≡ length out₀)
 
 abbrev μ-loop : tie.MeasureT-loop
 μ-loop out₀ at n a k e₀ i₀ out e i = k - i
@@ -19,7 +19,7 @@ at-most-requires : tie.Need-at-most-requires Inv-loop μ-loop
 at-most-requires c κs = search needs
 
 loop-holds : tie.Need-loop-holds Inv-loop μ-loop
-loop-holds c = (each-start encodeDrained (c .before .before .args .t3) (c .before .before .args .at) (c .before .before .args .out .now), omega arith, omega (arith, c .at-most .ensures), refl)
+loop-holds c = (within-start 1149 encodeDrained (c .before .before .args .t3) (c .before .before .args .at) (c .before .before .args .out .now), omega arith, omega (arith, c .at-most .ensures), refl)
 
 mul-d : tie.Need-mul-d Inv-loop μ-loop
 mul-d c = search needs
@@ -37,13 +37,13 @@ loop-less : tie.Need-loop-less Inv-loop μ-loop
 loop-less c = search needs
 
 loop-again : tie.Need-loop-again Inv-loop μ-loop
-loop-again c = let l : length (c .before .before .before .before .before .before .before .before .before .args .t3) ≡ 16 = search needs in (each-more _ encodeDrained (c .before .before .before .before .before .before .before .before .before .args .t3) (c .before .before .before .before .before .before .loop .i) (omega (arith, l, c .before .before .before .before .before .before .loop .inv .2)) (c .before .before .before .before .before .before .loop .inv .0) (c .before .before .append-drained .ensures), omega arith, c .before .before .before .before .before .before .loop .inv .2, search needs)
+loop-again c = let l : length (c .before .before .before .before .before .before .before .before .before .args .t3) ≡ 16 = search needs in (within-more 1149 _ encodeDrained (c .before .before .before .before .before .before .before .before .before .args .t3) (c .before .before .before .before .before .before .loop .i) (omega (arith, l, c .before .before .before .before .before .before .loop .inv .2)) (c .before .before .before .before .before .before .loop .inv .0) (c .before .before .append-drained .ensures), omega arith, c .before .before .before .before .before .before .loop .inv .2, search needs)
 
 same-length : tie.Need-same-length Inv-loop μ-loop
 same-length c = c .before .loop .inv .3
 
 returns : tie.Need-returns Inv-loop μ-loop
-returns c = let l : length (c .before .before .before .before .args .t3) ≡ 16 = search needs in each-done encodeDrained (c .before .before .before .before .args .t3) 16 (c .before .before .before .before .args .n) (c .before .before .at-most .result) (c .before .loop .i) l (c .before .before .at-most .ensures) (c .before .loop .inv .1) (c .loop-test .left) (c .before .loop .inv .0)
+returns c = let l : length (c .before .before .before .before .args .t3) ≡ 16 = search needs in within-done 1149 encodeDrained (c .before .before .before .before .args .t3) (c .before .before .before .before .args .n) (c .before .before .at-most .result) (c .before .loop .i) l (c .before .before .at-most .ensures) (c .before .loop .inv .1) (c .loop-test .left) (c .before .loop .inv .0)
 
 pub append-each-spec : {M : Type 1} → statement M
 append-each-spec =

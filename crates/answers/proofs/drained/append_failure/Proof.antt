@@ -1,4 +1,5 @@
 use Rattle.answers.specs.Fits.{fits-join}
+use Rattle.answers.specs.Drain.{failure-most}
 use borrow.Author.Needs.{needs}
 use Rattle.answers.proofs.drained.append_failure.Statement.{statement}
 use Rattle.answers.proofs.drained.append_failure.Tie as tie
@@ -25,7 +26,7 @@ same-length : tie.Need-same-length
 same-length c = search needs
 
 returns : tie.Need-returns
-returns c = fits-join (fits-join (fits-join (fits-join (c .before .before .before .before .before .before .before .before .before .before .before .before .before .before .before .before .before .before .before .append-number .ensures) (c .before .before .before .before .before .before .before .before .before .before .before .before .before .before .before .append-id .ensures)) (c .before .before .before .before .before .before .before .before .before .before .before .append-id2 .ensures)) (c .before .before .before .before .before .before .append-bytes .ensures)) (c .before .before .append-byte .ensures)
+returns c = record { fits = fits-join (fits-join (fits-join (fits-join (c .before .before .before .before .before .before .before .before .before .before .before .before .before .before .before .before .before .before .before .append-number .ensures) (c .before .before .before .before .before .before .before .before .before .before .before .before .before .before .before .append-id .ensures)) (c .before .before .before .before .before .before .before .before .before .before .before .append-id2 .ensures)) (c .before .before .before .before .before .before .append-bytes .ensures)) (c .before .before .append-byte .ensures); few = failure-most (c .before .before .before .before .before .before .before .before .before .before .before .before .before .before .before .before .before .before .before .before .before .before .args .index) (c .before .before .before .before .before .before .before .before .before .before .before .before .before .before .before .before .before .before .before .before .before .before .args .retained) (c .before .before .before .before .before .before .before .before .before .before .before .before .before .before .before .before .before .before .before .before .before .before .args .candidate) (c .before .before .before .before .before .before .before .before .before .before .before .before .before .before .before .before .before .before .before .before .before .before .args .t6) (c .before .before .before .before .before .before .before .before .before .before .before .before .before .before .before .before .before .before .before .before .before .before .args .stage) (search needs) }
 
 pub append-failure-spec : {M : Type 1} → statement M
 append-failure-spec =

@@ -1,6 +1,5 @@
-use Rattle.wire.specs.Wire.{be}
-use Rattle.answers.specs.Fits.{fits-join, fits-as}
-use mathlib.Core.Path.{ap}
+use Rattle.answers.specs.Fits.{within-join, within-byte}
+use Rattle.answers.specs.Drain.{encodeSubmissions}
 use borrow.Author.Needs.{needs}
 use Rattle.answers.proofs.drained.append_submissions.Statement.{statement}
 use Rattle.answers.proofs.drained.append_submissions.Tie as tie
@@ -21,7 +20,8 @@ same-length : tie.Need-same-length
 same-length c = search needs
 
 returns : tie.Need-returns
-returns c = fits-join (fits-as (ap (be 1) (c .before .before .before .before .before .before .before .before .at-most .ensures)) (c .before .before .before .before .before .before .append-byte .ensures)) (c .before .before .append-each .ensures)
+unfolding encodeSubmissions
+returns c = within-join (within-byte (c .before .before .before .before .before .before .before .before .at-most .ensures) (c .before .before .before .before .before .before .append-byte .ensures)) (c .before .before .append-each .ensures)
 
 pub append-submissions-spec : {M : Type 1} → statement M
 append-submissions-spec =

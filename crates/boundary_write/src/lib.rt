@@ -1,0 +1,75 @@
+// The book and the answer of a call, put back into the lent bytes. Refusals first, so that a refused call leaves every lent byte.
+use answers::value::refusal_number;
+use archive_size::size_archive;
+use archive_write::write_book;
+use book_data::BookData;
+use replies::CallAnswer;
+use replies::DoneReply;
+use wire::write::put_bytes;
+use wire::write::put_number;
+ghost use mathlib.Core.Path.{_≡_};
+ghost use mathlib.Core.List.{[]};
+ghost use lib.ListN.{length};
+ghost use Rattle.wire.specs.Wire.{overlay};
+ghost use Rattle.wire.specs.Puts.{Room};
+ghost use Rattle.archive_form.specs.Encode.{encodeBook};
+ghost use Rattle.boundary.specs.Held.{layout};
+ghost use Rattle.boundary.specs.Settle.{Gives, GivesBook, written, finish};
+
+// The archive of a book, behind its length n.
+fn put_book(next: BookData, n: usize, book: &mut [u8])
+    requires { ⌜ n ≡ length (encodeBook next) ⌝ }
+    requires { ⌜ Room (layout (encodeBook next)) 0 (now book) ⌝ }
+    ensures { λ _. ⌜ now (book .exit) ≡ overlay (layout (encodeBook next)) (now (book .entry)) ⌝ }
+{
+    let at = put_number(&mut *book, 0, n as u64);
+    write_book(&mut book[at..], next);
+}
+
+// The book alone.
+pub fn put_back(number: u8, next: BookData, book: &mut [u8]) -> u8
+    ensures { λ r. ⌜ GivesBook (written number (encodeBook next) [] (now (book .entry)) []) r (now (book .exit)) ⌝ }
+{
+    let n = size_archive(next);
+    if book.len() < 8 + n {
+        return 12;
+    }
+    put_book(next, n, book);
+    number
+}
+
+// The book, and the answer l.
+pub fn put_both(number: u8, next: BookData, l: &[u8], book: &mut [u8], answer: &mut [u8]) -> u8
+    ensures { λ r. ⌜ Gives (written number (encodeBook next) (now (l .entry)) (now (book .entry)) (now (answer .entry))) r (now (book .exit)) (now (answer .exit)) ⌝ }
+{
+    let n = size_archive(next);
+    if book.len() < 8 + n {
+        return 12;
+    }
+    if answer.len() < l.len() {
+        return 12;
+    }
+    put_book(next, n, book);
+    put_bytes(answer, 0, l);
+    number
+}
+
+// A reply, with the bytes of its value.
+pub fn settle(said: CallAnswer, next: BookData, l: &[u8], book: &mut [u8], answer: &mut [u8]) -> u8
+    ensures { λ r. ⌜ Gives (finish said next (now (l .entry)) (now (book .entry)) (now (answer .entry))) r (now (book .exit)) (now (answer .exit)) ⌝ }
+{
+    match said {
+        CallAnswer::Done => put_both(0, next, l, book, answer),
+        CallAnswer::Refused(n) => put_both(n, next, &l[0..0], book, answer),
+    }
+}
+
+// A reply without a value.
+pub fn settle_done(r: DoneReply, book: &mut [u8]) -> u8
+    ensures { λ n. ⌜ GivesBook (finish (r .answer) (r .book) [] (now (book .entry)) []) n (now (book .exit)) ⌝ }
+{
+    let said = r.answer;
+    let next = r.book;
+    let number = refusal_number(said);
+    put_back(number, next, book)
+}
