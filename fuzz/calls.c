@@ -1,5 +1,6 @@
 /* A script of calls on one lent book. The first bytes open it; then each call has a byte that says which one and how its buffers are
  * lent, and takes its arguments from the bytes behind. Every call is checked (checks.h), and the book behind it is written and read. */
+#include "chain.h"
 #include "checks.h"
 #include "made_book.h"
 #include "submission_book.h"
@@ -134,14 +135,14 @@ static const struct call calls[32] = {
     [0x0c] = {"retain_submitted", give_ids, run_retain, foretell_ids, check_retain, R(2) | R(10), 513, 0},
     [0x0d] = {"emit_retirement", give_id, run_emit, foretell_emit, check_emit, R(10), 0, 0},
     [0x0e] = {"drain_retirements", give_none, run_drain_retirements, foretell_none, check_drain_retirements, 0, 513, 0},
-    [0x0f] = {"reconciliation_input_coins", give_coins, run_coins, foretell_coins, check_coins, R(2), 4738, 1},
+    [0x0f] = {"reconciliation_input_coins", give_coins, run_coins, foretell_coins, check_input_coins, R(2), 4738, 1},
     [0x10] = {"active_ids", give_none, run_active, foretell_none, check_active, 0, 513, 0},
     [0x11] = {"begin_replay", give_number, run_begin, foretell_none, check_begin, 0, 1, 0},
     [0x12] = {"finish_replay_if_advanced", give_number, run_finish, foretell_none, check_finish, 0, 0, 0},
     [0x13] = {"replay_rollback_height", give_none, run_height, foretell_none, check_height, 0, 9, 0},
-    [0x14] = {"reconcile_chain_terminality", give_chain, run_chain, foretell_reconcile, check_none, R(2) | R(3) | R(10), 0, 0},
+    [0x14] = {"reconcile_chain_terminality", give_chain, run_chain, foretell_reconcile, check_chain, R(2) | R(3) | R(10), 0, 0},
     [0x15] = {"causally_rolled_back_ids", give_coins_and_inputs, run_rolled_back, foretell_rolled_back, check_rolled_back, R(2), 513, 0},
-    [0x16] = {"absent_outputs_for_ids", give_ids_and_coins, run_absent, foretell_absent, check_coins, R(2), 18946, 1},
+    [0x16] = {"absent_outputs_for_ids", give_ids_and_coins, run_absent, foretell_absent, check_absent, R(2), 18946, 1},
     [0x17] = {"collect_rollback_replay_ids", give_ids, run_collect, foretell_ids, check_none, R(2) | R(10), 0, 0},
     [0x18] = {"clear_local_artifacts", give_none, run_clear, foretell_unsaid, check_clear, R(10), 0, 0},
     [0x19] = {"restore_runtime", give_none, run_restore, foretell_none, check_restore, 0, 0, 0},

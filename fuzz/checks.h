@@ -367,19 +367,6 @@ static size_t check_retain(const struct given *g, const uint8_t *answer, size_t 
     return 1 + 8 * n;
 }
 
-static size_t check_rolled_back(const struct given *g, const uint8_t *answer, size_t len) {
-    uint64_t ids[64];
-    size_t n = ids_in(answer, len, ids);
-    (void)g;
-    for (size_t i = 0; i < n; i++) {
-        const struct submission *x = retained_with(was, ids[i]);
-        must(i == 0 || ids[i - 1] < ids[i], "rolled back ids rise");
-        must(x != NULL && x->chain != 0, "a rolled back id is retained and not active");
-    }
-    must(same_book(), "asking for rolled back ids changes nothing");
-    return 1 + 8 * n;
-}
-
 static size_t check_emit(const struct given *g, const uint8_t *answer, size_t len) {
     (void)answer, (void)len;
     must(retired_in(is, g->number), "an emitted id is retired");
@@ -424,16 +411,6 @@ static size_t check_restore(const struct given *g, const uint8_t *answer, size_t
         must(same_part(was, x->live.there ? x->live.form : x->aside.form, is, y->aside.form), "live attempts are set aside");
     }
     return 0;
-}
-
-/* A coin list of the book's coins. */
-static size_t check_coins(const struct given *g, const uint8_t *answer, size_t len) {
-    struct made m;
-    (void)g;
-    m.len = 0;
-    add_run(&m, answer, len);
-    must(is_coin_list(&m), "the answer is a coin list");
-    return len;
 }
 
 /* ---- drain */
