@@ -16,11 +16,16 @@ static struct given given;
 static int show; /* FUZZ_SHOW is set: the calls of a script are printed, to see what a failing one does */
 
 #define NUMBER ((uint64_t *)(void *)number.bytes)
-#define IDS ((const uint64_t *)(const void *)ids.bytes), given.ids.len / 8
-#define BOOK book.bytes, book.len
-#define ANSWER answer.bytes, answer.len
-#define ONE one.bytes, one.len
-#define TWO two.bytes, two.len
+#define IDS ((const uint64_t *)(const void *)at(&ids)), given.ids.len / 8
+#define BOOK at(&book), book.len
+#define ANSWER at(&answer), answer.len
+#define ONE at(&one), one.len
+#define TWO at(&two), two.len
+
+/* An empty slice may have no address. */
+static uint8_t *at(const struct lent *b) {
+    return b->len == 0 && shift == 0 ? NULL : b->bytes;
+}
 
 /* ---- arguments */
 
