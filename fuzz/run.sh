@@ -3,6 +3,8 @@
 set -eu
 cd "$(dirname "$0")/.."
 seconds=${1:-600}
+crate=c_api
+library=target/staticlib/lib$crate.a
 out=$PWD/target/fuzz
 machine=$(uname -m)
 
@@ -42,7 +44,7 @@ make_keeping_kit() {
     cat >"$out/kit/on/$machine/toolchain/bin/clang" <<END
 #!/bin/sh
 for word in "\$@"; do
-    case \$word in *.bc) cp "\$word" "$out/c_api.bc" ;; esac
+    case \$word in *.bc) cp "\$word" "$out/module.bc" ;; esac
 done
 exec "$compiler" "\$@"
 END
@@ -56,14 +58,14 @@ module_stamp() {
 
 build_module() {
     stamp=$(module_stamp)
-    if [ -f "$out/c_api.bc" ] && [ -f target/staticlib/libc_api.a ] && [ "$(cat "$out/stamp" 2>/dev/null)" = "$stamp" ]; then
+    if [ -f "$out/module.bc" ] && [ -f "$library" ] && [ "$(cat "$out/stamp" 2>/dev/null)" = "$stamp" ]; then
         return
     fi
-    echo "fuzz: proving c_api and compiling it, which takes minutes"
+    echo "fuzz: proving $crate and compiling it, which takes minutes"
     make_keeping_kit
-    rm -f "$out/c_api.bc"
-    RATTLE_HOME=$out/kit rt staticlib c_api >"$out/staticlib.log" 2>&1 || fail "rt staticlib c_api failed: see target/fuzz/staticlib.log"
-    [ -f "$out/c_api.bc" ] || fail "the compiler was given no LLVM module"
+    rm -f "$out/module.bc"
+    RATTLE_HOME=$out/kit rt staticlib "$crate" >"$out/staticlib.log" 2>&1 || fail "rt staticlib $crate failed: see target/fuzz/staticlib.log"
+    [ -f "$out/module.bc" ] || fail "the compiler was given no LLVM module"
     echo "$stamp" >"$out/stamp"
 }
 
@@ -72,23 +74,23 @@ build_module() {
 instrument_module() {
     flags="--target=x86_64-unknown-linux-gnu -march=x86-64 --no-default-config -fPIC"
     # shellcheck disable=SC2086
-    "$compiler" $flags -O0 -Xclang -disable-llvm-passes -S -emit-llvm -x ir "$out/c_api.bc" -o "$out/c_api.ll"
-    sed 's/^\(attributes #[0-9]* = { nounwind\) \("probe-stack"\)/\1 sanitize_address \2/' "$out/c_api.ll" >"$out/c_api_asan.ll"
-    grep -q '^attributes .* sanitize_address' "$out/c_api_asan.ll" || fail "no function got the attribute for AddressSanitizer"
+    "$compiler" $flags -O0 -Xclang -disable-llvm-passes -S -emit-llvm -x ir "$out/module.bc" -o "$out/module.ll"
+    sed 's/^\(attributes #[0-9]* = { nounwind\) \("probe-stack"\)/\1 sanitize_address \2/' "$out/module.ll" >"$out/module_asan.ll"
+    grep -q '^attributes .* sanitize_address' "$out/module_asan.ll" || fail "no function got the attribute for AddressSanitizer"
     # shellcheck disable=SC2086
-    "$compiler" $flags -O3 -mllvm -trap-unreachable -fsanitize=fuzzer-no-link,address -c -x ir "$out/c_api_asan.ll" -o "$out/c_api.o"
+    "$compiler" $flags -O3 -mllvm -trap-unreachable -fsanitize=fuzzer-no-link,address -c -x ir "$out/module_asan.ll" -o "$out/module.o"
 }
 
 # Each target twice: on the instrumented library, and on the library as it is delivered.
 build_target() {
     include=include
-    [ -f $include/submission_book.h ] || include=crates/c_api/include
+    [ -f "$include/submission_book.h" ] || include=crates/$crate/include
     words="-std=c11 -g -O1 -Wall -Wextra -Wno-unused-function -I $include"
     # shellcheck disable=SC2086
     clang $words -fsanitize=address -c "fuzz/$1.c" -o "$out/$1.o"
-    clang -fsanitize=fuzzer,address "$out/$1.o" "$out/c_api.o" -o "$out/$1"
+    clang -fsanitize=fuzzer,address "$out/$1.o" "$out/module.o" -o "$out/$1"
     # shellcheck disable=SC2086
-    clang $words -fsanitize=fuzzer "fuzz/$1.c" target/staticlib/libc_api.a -o "$out/$1_delivered"
+    clang $words -fsanitize=fuzzer "fuzz/$1.c" "$library" -o "$out/$1_delivered"
 }
 
 # Prints the last coverage line and the counts of a log.
