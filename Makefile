@@ -18,7 +18,7 @@ help:
 	@echo "make library  the library's tests alone: C, sanitizers, the Rust crate, archives shown"
 	@echo "make compare N=6000 SEED=1  so many scripts, played by the driver and by the Rust"
 	@echo "make bench    every call, archives and SHA-256 against Rust, in one run"
-	@echo "make fuzz     ten minutes of coverage-guided fuzzing of the library (SECONDS=30 for less)"
+	@echo "make fuzz     ten minutes of coverage-guided fuzzing of the C boundary (SECONDS=30 for less)"
 	@echo "make archives damaged archives, read here and by the Rust side's decoder"
 	@echo "make fmt      the layout of every source, specification and proof"
 
@@ -74,7 +74,7 @@ bench: $(LIBRARY)
 	@bench/run.sh
 
 SECONDS ?= 600
-fuzz: $(LIBRARY)
+fuzz:
 	@fuzz/run.sh $(SECONDS)
 
 archives:
