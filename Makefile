@@ -1,23 +1,67 @@
-# `make run` and `make test` are all that a fresh machine with the Rattle kit needs.
-.PHONY: help run test compare bench lib c-test fmt archives
+# `make run` and `make test` are all that a fresh machine with the Rattle kit, a C compiler and cargo needs.
+.PHONY: help run test library lib compare bench fuzz archives fmt
+
+CC ?= cc
+CXX ?= c++
+CFLAGS = -std=c11 -Wall -Wextra -Werror -pedantic -O2
+SOURCES = crates.txt $(shell find crates -name '*.rt' -o -name '*.antt')
+LIBRARY = target/lib/libsubmission_book.a
+EXAMPLE = examples/c/kitchen.c examples/c/account.c examples/c/wire.c examples/c/sha256.c
+SAMPLE = tests/c_api/sample.c examples/c/wire.c examples/c/sha256.c
+INCLUDE = -I include -I examples/c -I tests/c_api
+HEADERS = include/submission_book.h $(wildcard examples/c/*.h tests/c_api/*.h)
 
 help:
-	@echo "make run    open a book at token 5, id 1 and show its archive"
-	@echo "make test   the gate: every proof, must-fail edit and program (.ci/run)"
+	@echo "make run      play a sample kitchen through the library, write its archive and show it"
+	@echo "make test     the gate: every proof, must-fail edit and program, the Rust comparison, the library's own tests (.ci/run)"
+	@echo "make lib      target/lib/libsubmission_book.a and target/lib/submission_book.h"
+	@echo "make library  the library's tests alone: C, sanitizers, the Rust crate, archives shown"
 	@echo "make compare N=6000 SEED=1  so many scripts, played by the driver and by the Rust"
-	@echo "make bench  SHA-256 and archives against plain Rust builds, in one run"
-	@echo "make lib    static libraries of what is exported so far"
-	@echo "make c-test a C program on that library"
-	@echo "make archives  damaged archives, read here and by the Rust side's decoder"
-	@echo "make fmt    the layout of every source, specification and proof"
+	@echo "make bench    every call, archives and SHA-256 against Rust, in one run"
+	@echo "make fuzz     ten minutes of coverage-guided fuzzing of the C boundary (SECONDS=30 for less)"
+	@echo "make archives damaged archives, read here and by the Rust side's decoder"
+	@echo "make fmt      the layout of every source, specification and proof"
 
-# The two opening numbers, 8 bytes each, in; the 22 bytes of the new book's archive out.
-run:
-	@rt check open_archive >/dev/null
-	@printf '\000\000\000\000\000\000\000\005\000\000\000\000\000\000\000\001' | target/bin/open_archive | od -An -tx1 -v
+# The first run proves what it links, about ten minutes on two cores; later ones take seconds.
+run: $(LIBRARY) target/bin/show_archive target/kitchen
+	@target/kitchen target/kitchen.archive
+	@echo
+	@target/bin/show_archive target/kitchen.archive
 
 test:
 	@.ci/run
+
+lib: $(LIBRARY)
+
+$(LIBRARY): $(SOURCES) include/submission_book.h
+	rt staticlib c_api
+	@mkdir -p target/lib
+	@cp target/staticlib/libc_api.a $(LIBRARY)
+	@cp include/submission_book.h target/lib/
+
+target/bin/show_archive: $(SOURCES)
+	@rt check show_archive
+	@touch $@
+
+target/kitchen: $(EXAMPLE) $(HEADERS) $(LIBRARY)
+	$(CC) $(CFLAGS) $(INCLUDE) $(EXAMPLE) $(LIBRARY) -o $@
+
+target/c_api_calls: tests/c_api/calls.c tests/c_api/buffers.c $(SAMPLE) $(HEADERS) $(LIBRARY)
+	$(CC) $(CFLAGS) $(INCLUDE) tests/c_api/calls.c tests/c_api/buffers.c $(SAMPLE) $(LIBRARY) -o $@
+
+target/c_api_stack: tests/c_api/stack.c $(SAMPLE) $(HEADERS) $(LIBRARY)
+	$(CC) $(CFLAGS) $(INCLUDE) tests/c_api/stack.c $(SAMPLE) $(LIBRARY) -pthread -o $@
+
+# The library as its users have it: the sample kitchen, all functions from C and C++, the stack that they take, sanitizers, the Rust
+# crate, and archives shown as text.
+library: $(LIBRARY) target/kitchen target/c_api_calls target/c_api_stack target/bin/show_archive
+	target/kitchen target/kitchen.archive >target/kitchen.txt
+	target/c_api_calls
+	target/c_api_stack >target/c_api_stack.txt
+	@printf '#include "submission_book.h"\n' | $(CXX) -std=c++11 -Wall -Wextra -Werror -pedantic -I include -x c++ -fsyntax-only -
+	examples/c/sanitize.sh
+	cd bindings/rust && cargo test --offline --quiet
+	tests/show_archive/run.sh
 
 # The driver against the Rust on N seeded scripts of about 20 calls each.
 N ?= 6000
@@ -26,25 +70,17 @@ compare:
 	@rt check book_driver >/dev/null
 	@tests/oracle/check "$(CURDIR)/target/bin/book_driver" $(SEED) $(N)
 
-bench:
-	@bench/sha256/run.sh
-	@bench/archive/run.sh
+bench: $(LIBRARY)
+	@bench/run.sh
+
+SECONDS ?= 600
+fuzz:
+	@fuzz/run.sh $(SECONDS)
 
 archives:
 	@rt check book_driver >/dev/null
 	@cd tests/oracle && cargo build --release --offline
 	@tests/oracle/target/release/oracle archives --driver target/bin/book_driver --seed 1 --archives 5
-
-lib:
-	rt staticlib sha256_c
-	rt staticlib archive_c
-	rt staticlib c_api
-	cp crates/c_api/include/submission_book.h target/staticlib/
-
-# A C program on the library that `make lib` has written.
-c-test:
-	cc -std=c11 -Wall -Wextra -Werror -I crates/c_api/include tests/c_api/calls.c target/staticlib/libc_api.a -o target/c_api_calls
-	target/c_api_calls
 
 fmt:
 	rt fmt

@@ -19,3 +19,9 @@ pub fn now() -> f64 {
     assert_eq!(unsafe { clock_gettime(CLOCK_PROCESS_CPUTIME_ID, &mut time) }, 0);
     time.seconds as f64 + time.nanoseconds as f64 / 1e9
 }
+
+/// The value in the middle, so that a round in which another program disturbed decides nothing.
+pub fn median(mut values: Vec<f64>) -> f64 {
+    values.sort_unstable_by(f64::total_cmp);
+    values[values.len() / 2]
+}

@@ -3,8 +3,10 @@
 mod clock;
 mod plain;
 
-use clock::now;
+use clock::{median, now};
 use std::hint::black_box;
+
+const ROUNDS: usize = 15;
 
 extern "C" {
     fn wotzenka_sha256(message: *const u8, length: usize, digest: *mut [u8; 32]);
@@ -27,17 +29,24 @@ fn seconds(hash: fn(&[u8]) -> [u8; 32], message: &[u8], times: usize) -> f64 {
 }
 
 fn main() {
-    println!("{:>12} {:>14} {:>14} {:>8}", "bytes", "proved MB/s", "plain MB/s", "ratio");
-    for (size, times) in [(73, 100_000), (1024, 10_000), (57_694, 200), (64 << 20, 1)] {
+    println!("## SHA-256 against plain Rust\n");
+    println!(
+        "Medians of {ROUNDS} rounds, turn about, by processor time. The ratio is the port's speed divided by the plain \
+         one's: above 1 the port is faster.\n"
+    );
+    println!("| bytes | port MB/s | plain Rust MB/s | ratio |\n|---|---|---|---|");
+    for (size, times) in [(73, 50_000), (1024, 5_000), (57_694, 100), (64 << 20, 1)] {
         let message: Vec<u8> = (0..size).map(|i| (i * 7 + 1) as u8).collect();
         assert_eq!(proved(&message), plain::sha256(&message), "digests differ at {size} bytes");
-        // The best of many short rounds, turn about, so that another program on the machine does not decide.
-        let (mut ours, mut theirs) = (f64::MAX, f64::MAX);
-        for _ in 0..15 {
-            ours = ours.min(seconds(proved, &message, times));
-            theirs = theirs.min(seconds(plain::sha256, &message, times));
+        let rounds = if times == 1 { ROUNDS / 3 } else { ROUNDS };
+        let (mut ours, mut theirs) = (Vec::new(), Vec::new());
+        for _ in 0..rounds {
+            ours.push(seconds(proved, &message, times));
+            theirs.push(seconds(plain::sha256, &message, times));
         }
+        let (ours, theirs) = (median(ours), median(theirs));
         let megabytes = (size * times) as f64 / 1e6;
-        println!("{:>12} {:>14.1} {:>14.1} {:>8.2}", size, megabytes / ours, megabytes / theirs, theirs / ours);
+        println!("| {size} | {:.0} | {:.0} | {:.2} |", megabytes / ours, megabytes / theirs, theirs / ours);
     }
+    println!();
 }

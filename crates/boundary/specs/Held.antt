@@ -23,7 +23,6 @@ use Rattle.archive_read.specs.Archive.{archiveAnswer}
 use Rattle.archive_read.specs.declared.ReadArchive.{ReadArchive}
 use Rattle.archive_laws.specs.Cells.{every-take, every-bytes}
 use Rattle.archive_laws.specs.Theorems.{accepted}
-use Rattle.boundary.specs.declared.HeldBook.{HeldBook}
 
 -- an archive behind its length
 unfoldable pub layout : List ℕ → List ℕ
@@ -59,7 +58,7 @@ pub record Holding (d : List ℕ) (b : BookData) : Type 0 where
   pub bytes : overlay (layout (encodeBook b)) d ≡ d
 
 -- what reading the held book answers
-pub record HeldAnswer (d : List ℕ) (r : HeldBook) : Type 0 where
+pub record HeldAnswer (d : List ℕ) (r : ReadArchive) : Type 0 where
   pub absent : r .ok ≡ false → heldIn d ≡ none
   pub present : r .ok ≡ true → Holding d (r .book)
 
@@ -98,16 +97,21 @@ archive-reads d s e h b x =
     then-got (number 8) run d 0 (number-lawful 8 .reads d 0 (0 + length l) n h (span-left d 0 e l s x))
     ∙ run-lawful n .reads d (0 + length l) e s (record { long = refl; bytes = b }) (span-right d 0 e l s x)
 
+-- no bytes are no archive
+pub nothing-held : {r : ReadArchive} → r ≡ archiveAnswer (readArchive []) → r .ok ≡ false
+unfolding readArchive
+nothing-held e = ap (λ (x : ReadArchive). x .ok) e
+
 -- ---- the three ways of reading
 module _ (d : List ℕ) where
-  pub held-short : (r : HeldBook) {v a : ℕ} {ok : Bool} → Reads 0 (number 8 d 0) ok v a → not ok ≡ true → r .ok ≡ false → HeldAnswer d r
+  pub held-short : (r : ReadArchive) {v a : ℕ} {ok : Bool} → Reads 0 (number 8 d 0) ok v a → not ok ≡ true → r .ok ≡ false → HeldAnswer d r
   unfolding heldIn archiveIn
   held-short r h q f = record {
     absent = λ _. ap heldBy (then-bad (number 8) run d 0 (reads-bad h q));
     present = λ p. absurd (let z : _≡_ {A = ℕ} 0 1 = cc in omega arith);
   }
 
-  pub held-cut : (r : HeldBook) {v a : ℕ} {ok room : Bool} → Reads 0 (number 8 d 0) ok v a → not ok ≡ false → room ≡ leb (a + v) (length d) → not room ≡ true → r .ok ≡ false → HeldAnswer d r
+  pub held-cut : (r : ReadArchive) {v a : ℕ} {ok room : Bool} → Reads 0 (number 8 d 0) ok v a → not ok ≡ false → room ≡ leb (a + v) (length d) → not room ≡ true → r .ok ≡ false → HeldAnswer d r
   unfolding heldIn archiveIn
   held-cut r {v} {a} h q m n f = record {
     absent = λ _. ap heldBy (then-got (number 8) run d 0 (reads-got h q) ∙ run-short v d a m n);
@@ -128,7 +132,7 @@ module _ (d : List ℕ) where
         bytes = ap (λ (l : List ℕ). overlay l d) f ∙ ap (λ (n : ℕ). layout s ++ drop n d) k ∙ sym (x .holds);
       }
 
-  held-as : (s : List ℕ) (e : ℕ) → Every U8 s → archiveIn d 0 ≡ got s e → Spans d 0 e (layout s) → (x : ArchiveRead) → readArchive s ≡ x → HeldAnswer d (record { ok = archiveAnswer x .ok; book = archiveAnswer x .book })
+  held-as : (s : List ℕ) (e : ℕ) → Every U8 s → archiveIn d 0 ≡ got s e → Spans d 0 e (layout s) → (x : ArchiveRead) → readArchive s ≡ x → HeldAnswer d (archiveAnswer x)
   unfolding heldIn
   held-as s e t p y (book b) q = record {
     absent = λ f. absurd (let z : _≡_ {A = ℕ} 0 1 = cc in omega arith);
@@ -140,7 +144,7 @@ module _ (d : List ℕ) where
   }
 
   pub held-read : {v a : ℕ} {ok : Bool} (r : ReadArchive) → Every U8 d → Reads 0 (number 8 d 0) ok v a → not ok ≡ false → a + v ≤ length d
-      → r ≡ archiveAnswer (readArchive (take (a + v - a) (drop a d))) → HeldAnswer d (record { ok = r .ok; book = r .book })
+      → r ≡ archiveAnswer (readArchive (take (a + v - a) (drop a d))) → HeldAnswer d r
   unfolding archiveIn
   held-read {v} {a} r t h q m e =
       let s = take v (drop a d) in
@@ -148,5 +152,5 @@ module _ (d : List ℕ) where
       let g = run-got v d a m in
       let p = reads-got h q in
       let w : r ≡ archiveAnswer (readArchive s) = e ∙ ap (λ (n : ℕ). archiveAnswer (readArchive (take n (drop a d)))) k in
-      subst (λ (x : ReadArchive). HeldAnswer d (record { ok = x .ok; book = x .book })) (sym w)
+      subst (HeldAnswer d) (sym w)
       (held-as s (a + v) (every-take U8 v (drop a d) (every-drop a d t)) (then-got (number 8) run d 0 p ∙ g) (archive-exact d s v a (a + v) t p g) (readArchive s) refl)

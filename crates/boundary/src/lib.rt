@@ -1,8 +1,2 @@
-// The book in lent bytes: its archive behind 8 bytes of its length. A call reads the book, makes its answer, and puts both back.
-use book_data::BookData;
-
-// With a refusal the book is empty.
-pub struct HeldBook {
-    pub ok: bool,
-    pub book: BookData,
-}
+// The book in lent bytes: its archive behind 8 bytes of its length. A call reads the book, makes its answer, and puts both back. Definitions
+// and laws; the code stands in boundary_read, boundary_write and above.

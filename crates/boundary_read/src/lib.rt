@@ -1,9 +1,6 @@
 // The book that lent bytes hold.
+use archive_read::ReadArchive;
 use archive_read::read_archive;
-use book_data::SubmissionId;
-use book_data::Token;
-use boundary::HeldBook;
-use open_book::open;
 use wire_bytes::read::has;
 use wire_bytes::read::read_number;
 ghost use mathlib.Core.Path.{_≡_};
@@ -29,30 +26,29 @@ fn each_within(s: &[u8])
     }
 }
 
-fn absent() -> HeldBook
+// No bytes are no archive.
+fn absent(d: &[u8]) -> ReadArchive
     ensures { λ r. ⌜ r .ok ≡ false ⌝ }
 {
-    let book = open(Token(0), SubmissionId(0));
-    HeldBook { ok: false, book }
+    read_archive(&d[0..0])
 }
 
-pub fn held(d: &[u8]) -> HeldBook
+// The reader's own answer is handed on: a struct of its own would cost the stack two more books in every call.
+pub fn held(d: &[u8]) -> ReadArchive
     ensures { λ r. ⌜ HeldAnswer (now (d .entry)) r ⌝ }
 {
     let n = read_number(d, 0);
     let whole = n.ok;
     if !whole {
-        return absent();
+        return absent(d);
     }
     let at = n.at;
     let length = n.value as usize;
     let room = has(d, at, length);
     if !room {
-        return absent();
+        return absent(d);
     }
     each_within(d);
     let end = at + length;
-    let r = read_archive(&d[at..end]);
-    let book = r.book;
-    HeldBook { ok: r.ok, book }
+    read_archive(&d[at..end])
 }

@@ -15,7 +15,6 @@ pub extern "C" fn submission_book_drain(book: &mut [u8], answer: &mut [u8]) -> u
     if !ok {
         return 1;
     }
-    let b = h.book;
-    let r = drain_sound(b);
+    let r = drain_sound(h.book);
     settle_drain(r, book, answer)
 }

@@ -7,11 +7,15 @@ use Rattle.book_data.specs.declared.BookData.{BookData}
 use Rattle.book_data.specs.Model.{view, back}
 use Rattle.book_data.specs.Sound.{soundb}
 use Rattle.book_data.specs.SoundLaws.{sound-back}
-use Rattle.archive_form.specs.Encode.{encodeModel}
+use Rattle.book_data.specs.Typed.{Every, U64}
+use Rattle.archive_form.specs.Encode.{encodeModel, encodeBook}
+use Rattle.archive_form.specs.Parse.{readArchive, book}
 use Rattle.rules.specs.Books.{callBook, bookAfter}
 use Rattle.rules.specs.Call.{Call}
 use Rattle.rules.specs.Opened.{opened}
 use Rattle.rule_laws.specs.Sound.Run.{sound-call-data, sound-opened, sound-after}
+use Rattle.typed_laws.specs.Theorems.{restored-after}
+use Rattle.typed_laws.specs.Typing.{TypedCall}
 use Rattle.ledger.specs.Theorem.{Accounted, ledger-theorem}
 
 -- demand 3: one claim about every list of calls on a book opened with any two numbers
@@ -27,3 +31,8 @@ pub never-refused-1 : (token id : ℕ) (calls : List Call) → soundb (back (boo
 never-refused-1 token id calls =
     let k = sound-after encodeModel calls (opened token id) (sound-opened token id) in
     sound-back (bookAfter encodeModel calls (opened token id)) (k .fits) (k .lists)
+
+-- "Reading back the bytes just written from the book restores it", after every list of calls whose arguments are within their types
+pub read-back : (token id : ℕ) → U64 token → U64 id → (calls : List Call) → Every TypedCall calls
+    → readArchive (encodeModel (bookAfter encodeModel calls (opened token id))) ≡ book (back (bookAfter encodeModel calls (opened token id)))
+read-back = restored-after

@@ -42,7 +42,7 @@ read-archive-requires : tie.Need-read-archive-requires
 read-archive-requires c κs = search needs
 
 returns-3 : tie.Need-returns-3
-returns-3 c = held-read (c .before .before .before .before .before .before .before .before .before .args .d .now) (c .before .read-archive .result) (c .before .before .before .each-within .ensures) (c .before .before .before .before .before .before .before .read-number .ensures) (c .before .before .before .before .before .before .if1 .left) (has-long (c .before .before .before .before .before .before .before .read-number .result .value) (c .before .before .before .before .before .before .before .before .before .args .d .now) (c .before .before .before .before .before .before .before .read-number .result .at) (c .before .before .before .before .before .has .ensures) (c .before .before .before .before .if2 .left)) (c .before .read-archive .ensures)
+returns-3 c = held-read (c .before .before .before .before .before .before .before .before .args .d .now) (c .read-archive .result) (c .before .before .each-within .ensures) (c .before .before .before .before .before .before .read-number .ensures) (c .before .before .before .before .before .if1 .left) (has-long (c .before .before .before .before .before .before .read-number .result .value) (c .before .before .before .before .before .before .before .before .args .d .now) (c .before .before .before .before .before .before .read-number .result .at) (c .before .before .before .before .has .ensures) (c .before .before .before .if2 .left)) (c .read-archive .ensures)
 
 pub held-spec : {M : Type 1} → statement M
 held-spec =

@@ -1,0 +1,88 @@
+//! The functions of `src/ffi.rs` are those of the library's header: a declaration that differs from
+//! the library would not be noticed by the linker.
+
+use std::fs;
+use std::path::PathBuf;
+
+const FFI: &str = include_str!("../src/ffi.rs");
+
+/// The header of the repository, else that beside the library that is linked.
+fn header() -> String {
+    let repository = PathBuf::from(env!("CARGO_MANIFEST_DIR")).join("../../include");
+    let folders = [repository, PathBuf::from(env!("SUBMISSION_BOOK_FOLDER"))];
+    let mut read =
+        folders.iter().map(|folder| fs::read_to_string(folder.join("submission_book.h")));
+    read.find_map(Result::ok).expect("submission_book.h")
+}
+
+/// The header without comments, with single spaces.
+fn code(header: &str) -> String {
+    let mut parts = header.split("/*");
+    let first = parts.next().unwrap().to_string();
+    let code = parts.fold(first, |code, part| code + part.split_once("*/").unwrap().1);
+    code.split_whitespace().collect::<Vec<_>>().join(" ")
+}
+
+/// The declarations of the header, sorted.
+fn declared(header: &str) -> Vec<String> {
+    let code = code(header);
+    let declarations = code.split("uint8_t submission_book_").skip(1);
+    let mut all: Vec<String> = declarations
+        .map(|rest| format!("submission_book_{}", rest.split_once(';').unwrap().0))
+        .collect();
+    all.sort();
+    all
+}
+
+/// An argument of `src/ffi.rs` as the header writes it.
+fn in_c(argument: &str) -> String {
+    let (name, kind) = argument.trim().split_once(": ").unwrap();
+    let length = |pointer: &str| format!("{pointer} *{name}, size_t {name}_len");
+    match kind {
+        "&mut [u8]" => length("uint8_t"),
+        "&[u8]" => length("const uint8_t"),
+        "&[u64]" => length("const uint64_t"),
+        "&mut u64" => format!("uint64_t *{name}"),
+        "u64" => format!("uint64_t {name}"),
+        "u8" => format!("uint8_t {name}"),
+        other => panic!("{other}"),
+    }
+}
+
+/// The functions of `src/ffi.rs` as the header writes them, sorted.
+fn wrapped() -> Vec<String> {
+    let lines = FFI.lines().filter_map(|line| line.trim().strip_prefix("fn submission_book_"));
+    let mut all: Vec<String> = lines
+        .map(|line| {
+            let (name, rest) = line.split_once('(').unwrap();
+            let arguments: Vec<String> =
+                rest.strip_suffix(");").unwrap().split(", ").map(in_c).collect();
+            format!("submission_book_{name}({})", arguments.join(", "))
+        })
+        .collect();
+    all.sort();
+    all
+}
+
+#[test]
+fn every_function_of_the_header_is_declared_as_it_is_there() {
+    let wrapped = wrapped();
+    assert_eq!(wrapped.len(), 29);
+    assert_eq!(wrapped, declared(&header()));
+}
+
+/// The number behind `name`, in either language's way of writing it.
+fn number_behind(text: &str, name: &str) -> u64 {
+    let rest = text.split_once(name).unwrap_or_else(|| panic!("{name}")).1.trim_start();
+    let digits = rest.chars().filter(|c| *c != '_').take_while(char::is_ascii_digit);
+    digits.collect::<String>().parse().unwrap()
+}
+
+#[test]
+fn the_sizes_of_the_header() {
+    let header = header();
+    let book = number_behind(FFI, "pub const BOOK_BYTES: usize =");
+    assert_eq!(book, number_behind(&header, "#define SUBMISSION_BOOK_BYTES"));
+    let drain = number_behind(FFI, "pub const DRAIN_BYTES: usize =");
+    assert_eq!(drain, number_behind(&header, "#define SUBMISSION_BOOK_DRAIN_BYTES"));
+}

@@ -1,0 +1,109 @@
+-- Every call with arguments within their types leaves a book within the types; so the archive of every list of calls is read back.
+use Prim.Native.Nat.{ℕ, _≤_}
+use mathlib.Core.Bool.{Bool, true, false, _&&_}
+use mathlib.Core.List.{List, [], _∷_}
+use mathlib.Core.Path.{_≡_, sym, ap, _∙_}
+use native.Mathlib.Omega.{arith}
+use lib.ListN.{length}
+use Rattle.book_data.specs.Model.{Book, back}
+use Rattle.book_data.specs.SoundLaws.{view-back}
+use Rattle.book_data.specs.Typed.{Every, U64}
+use Rattle.archive_form.specs.Encode.{encodeModel, encodeBook}
+use Rattle.archive_form.specs.Parse.{readArchive, ArchiveRead, book}
+use Rattle.archive_laws.specs.Books.{TypedModel}
+use Rattle.archive_laws.specs.Back.{back-typed, back-sound}
+use Rattle.archive_laws.specs.Sizes.{archive-size}
+use Rattle.archive_laws.specs.Theorems.{restored}
+use Rattle.rules.specs.Books.{callBook, bookAfter}
+use Rattle.rules.specs.Call.{Call}
+use Rattle.rules.specs.Calls.{rules}
+use Rattle.rules.specs.Opened.{opened}
+use Rattle.rules.specs.Rule.{DrainedSubmission, done, undo, stop, look, act, turn, Rule, Outcome, ended, undone, stopped, logged, guarded, grows, full, run, left}
+use Rattle.rules.specs.Steps.{onBook, runBook}
+use Rattle.rule_laws.specs.Sound.Run.{SoundBook, sound-after, sound-opened}
+use Rattle.typed_laws.specs.Calls.{typed}
+use Rattle.typed_laws.specs.Steps.{typed-step}
+use Rattle.typed_laws.specs.Typing.{Within, TypedTo, TypedCall}
+
+abbrev Leaves : {A : Type 0} → Outcome Book A → Type 0
+Leaves (ended b xs a) = Within b
+Leaves (undone n) = Unit {0}
+Leaves (stopped b xs n) = Within b
+
+leaves-logged : {A : Type 0} (t : Bool) (xs : List DrainedSubmission) (k : Outcome Book A) → Leaves k → Leaves (guarded t (logged xs k))
+leaves-logged true xs k h = tt
+leaves-logged false xs (ended b ys a) h = h
+leaves-logged false xs (undone n) h = h
+leaves-logged false xs (stopped b ys n) h = h
+
+leaves : {A : Type 0} (P : A → Type 0) (r : Rule A) (b : Book) → Within b → TypedTo P b r → Leaves (runBook r b)
+unfolding run
+leaves P (done a) b w h = w
+leaves P (undo n) b w h = tt
+leaves P (stop n) b w h = w
+leaves P (look k) b w h = leaves P (k b) b w h
+leaves P (act p r) b w h =
+    let c = onBook p b .after in
+    let x = typed-step p b w (h .0) in
+    leaves-logged (grows p && full c) (onBook p b .out) (runBook r c) (leaves P r c x (h .1 c x))
+leaves P (turn r) b w h = leaves P r b w h
+
+-- the book that rules leave
+pub within-left : {A : Type 0} (P : A → Type 0) (r : Rule A) (b : Book) → Within b → TypedTo P b r → Within (left b (runBook r b))
+within-left {A} P r b w h = go (runBook r b) (leaves P r b w h)
+  where
+    go : (k : Outcome Book A) → Leaves k → Within (left b k)
+    go (ended c xs a) x = x
+    go (undone n) x = w
+    go (stopped c xs n) x = x
+
+pub within-call : (encode : Book → List ℕ) (c : Call) (b : Book) → TypedCall c → Within b → Within (callBook encode c b)
+unfolding callBook
+within-call encode c b h w = within-left _ (rules encode c) b w (typed encode c h b w)
+
+pub within-opened : (token id : ℕ) → U64 token → U64 id → Within (opened token id)
+unfolding opened
+within-opened token id t i = record { token = t; id = i; submitted = tt; pending = tt; retired = tt; rollback = tt; replayed = tt }
+
+pub within-after : (encode : Book → List ℕ) (cs : List Call) (b : Book) → Every TypedCall cs → Within b → Within (bookAfter encode cs b)
+unfolding bookAfter
+within-after encode [] b h w = w
+within-after encode (c ∷ cs) b h w = within-after encode cs (callBook encode c b) (h .1) (within-call encode c b (h .0) w)
+
+-- a sound book within the types, as the archive's theorems ask for it
+pub typed-model : (b : Book) → Within b → SoundBook b → TypedModel b
+typed-model b w s = record {
+  token = w .token;
+  id = w .id;
+  submitted = w .submitted;
+  submitted-few = s .fits .submitted;
+  pending = w .pending;
+  pending-few = s .fits .pending;
+  retired = w .retired;
+  retired-few = s .fits .retired;
+  rollback = w .rollback;
+  replayed = w .replayed;
+  replayed-few = s .fits .replayed;
+}
+
+-- "Reading back the bytes just written from the book restores it": after any list of calls on a newly opened book
+module _ (token id : ℕ) (t : U64 token) (i : U64 id) (calls : List Call) (h : Every TypedCall calls) where
+  reached : TypedModel (bookAfter encodeModel calls (opened token id))
+  reached =
+      typed-model (bookAfter encodeModel calls (opened token id)) (within-after encodeModel calls (opened token id) h (within-opened token id t i))
+      (sound-after encodeModel calls (opened token id) (sound-opened token id))
+
+  pub restored-after : readArchive (encodeModel (bookAfter encodeModel calls (opened token id))) ≡ book (back (bookAfter encodeModel calls (opened token id)))
+  unfolding encodeBook
+  restored-after =
+      let m = bookAfter encodeModel calls (opened token id) in
+      ap (λ (b : Book). readArchive (encodeModel b)) (sym (view-back m))
+      ∙ restored (back m) (back-typed m reached) (back-sound m reached (sound-after encodeModel calls (opened token id) (sound-opened token id) .lists))
+
+  -- and the archive has at most 57,694 bytes
+  pub fits-after : length (encodeModel (bookAfter encodeModel calls (opened token id))) ≤ 57694
+  unfolding encodeBook
+  fits-after =
+      let m = bookAfter encodeModel calls (opened token id) in
+      let k = archive-size (back m) (back-typed m reached) in
+      omega (arith, ap (λ (b : Book). length (encodeModel b)) (view-back m))

@@ -1,0 +1,528 @@
+/* The payments of a sample kitchen, played through the submission book. Every answer is held against what must come; the program
+ * ends with 1 and a message where one differs. Use: kitchen FILE, which gets the archive of the book at the end. */
+#include <inttypes.h>
+#include <stdarg.h>
+#include <stdio.h>
+#include <stdlib.h>
+#include <string.h>
+#include "account.h"
+#include "sha256.h"
+
+enum { OPENING_TOKEN = 101, OPENING_ID = 1 };
+
+typedef struct {
+    uint8_t book[SUBMISSION_BOOK_BYTES];
+    Account account;
+    unsigned calls;
+} Planner;
+
+typedef struct {
+    const char *name;
+    uint64_t amount; /* in cents, as every amount here */
+    Delivery delivery;
+} Payment;
+
+/* ---- what is printed, and what must hold */
+static void expect(bool holds, const char *what) {
+    if (!holds) {
+        fflush(stdout);
+        fprintf(stderr, "kitchen: not as expected: %s\n", what);
+        exit(1);
+    }
+}
+
+static const char *meaning(uint8_t number) {
+    static const char *const meanings[] = {
+        "done",
+        "there is no book in these bytes",
+        "a list out of form",
+        "an argument that stands for no value",
+        "this token was never issued",
+        "this attempt was finalised before",
+        "this attempt is not finalised yet",
+        "the submission contradicts itself",
+        "another variant is current",
+        "a fee source where no fee is open",
+        "the book is full",
+        "no token is left",
+        "a buffer is too short",
+        "no archive",
+    };
+    return number < sizeof meanings / sizeof meanings[0] ? meanings[number] : "unknown";
+}
+
+/* One line for a call: what was asked, and the number it answered. */
+static void told(Planner *p, uint8_t said, uint8_t wanted, const char *format, ...) {
+    va_list arguments;
+    printf("%3u  ", ++p->calls);
+    va_start(arguments, format);
+    vprintf(format, arguments);
+    va_end(arguments);
+    if (said == 0) {
+        puts(": done");
+    } else {
+        printf(": REFUSED %u, %s\n", said, meaning(said));
+    }
+    expect(said == wanted, "the number that the call answers");
+}
+
+static void chapter(const char *title) {
+    printf("\n%s\n", title);
+}
+
+static void print_ids(const char *what, const IdList *list) {
+    printf("       %s:", what);
+    for (size_t i = 0; i < list->count; i++) {
+        printf(" %" PRIu64, list->ids[i]);
+    }
+    puts(list->count == 0 ? " none" : "");
+}
+
+static void expect_ids(const IdList *list, const uint64_t *wanted, size_t count) {
+    expect(list->count == count, "how many ids are answered");
+    for (size_t i = 0; i < count; i++) {
+        expect(list->ids[i] == wanted[i], "an id that is answered");
+    }
+}
+
+/* ---- sample data */
+static void sample_hash(const char *label, const char *name, uint8_t hash[32]) {
+    char text[128];
+    int length = snprintf(text, sizeof text, "%s %s", label, name);
+    expect(length > 0 && (size_t)length < sizeof text, "a label of sample data");
+    sha256((const uint8_t *)text, (size_t)length, hash);
+}
+
+/* A spend of a coin of the customer's: `amount` to the receiver, the rest back. */
+static CoinSpend sample_spend(const char *name, const char *receiver, uint64_t coin_amount, uint64_t amount) {
+    CoinSpend spend = {.readable = true};
+    uint8_t parent[32], customer[32];
+    sample_hash("coin for the", name, parent);
+    sample_hash("puzzle of the", "customer", customer);
+    spend.coin = coin_from_parts(parent, customer, coin_amount);
+    sample_hash("puzzle, solution and signature of the", name, spend.digest);
+    if (amount > 0) {
+        sample_hash("puzzle of the", receiver, spend.outputs[spend.output_count].puzzle_hash);
+        spend.outputs[spend.output_count++].amount = amount;
+    }
+    if (coin_amount > amount) {
+        memcpy(spend.outputs[spend.output_count].puzzle_hash, customer, 32);
+        spend.outputs[spend.output_count++].amount = coin_amount - amount;
+    }
+    return spend;
+}
+
+static void coin_id_of(const CoinString *coin, uint8_t id[32]) {
+    sha256(coin->bytes, coin->length, id);
+}
+
+static Payment sample_payment(const char *name, uint64_t amount, uint64_t coin_amount, uint64_t fee) {
+    Payment payment = {.name = name, .amount = amount};
+    Delivery *delivery = &payment.delivery;
+    delivery->bundle.spend_count = 1;
+    delivery->bundle.spends[0] = sample_spend(name, "kitchen firm", coin_amount, amount);
+    delivery->fee_intent.kind = fee > 0 ? SUBMISSION_BOOK_FEE_ATTACH : SUBMISSION_BOOK_FEE_NONE_CONFIGURED;
+    if (fee > 0) {
+        coin_id_of(&delivery->bundle.spends[0].coin, delivery->fee_intent.target);
+        delivery->fee_intent.amount = fee;
+    }
+    delivery->trigger = SUBMISSION_BOOK_TRIGGER_PROTOCOL;
+    delivery->goal = SUBMISSION_BOOK_GOAL_ENSURE_BROADCAST;
+    return payment;
+}
+
+/* The payment's bundle with the wallet's fee spend behind it: what leaves the fee coin is the fee less than what comes in. */
+static SpendBundle join_fee(const Payment *payment) {
+    SpendBundle joined = payment->delivery.bundle;
+    char name[96];
+    snprintf(name, sizeof name, "fee of the %s", payment->name);
+    CoinSpend spend = sample_spend(name, "nobody", 100, 0);
+    spend.outputs[0].amount = 100 - payment->delivery.fee_intent.amount;
+    joined.spends[joined.spend_count++] = spend;
+    return joined;
+}
+
+/* ---- calls */
+static void open_book(Planner *p) {
+    uint8_t said = submission_book_open(p->book, sizeof p->book, OPENING_TOKEN, OPENING_ID);
+    told(p, said, 0, "open a book, first token %d, first submission %d", OPENING_TOKEN, OPENING_ID);
+    p->account.opening_token = OPENING_TOKEN;
+}
+
+static void queue_payment(Planner *p, const Payment *payment) {
+    uint8_t bytes[SUBMISSION_BOOK_DELIVERY_BYTES];
+    size_t length = write_delivery(bytes, &payment->delivery);
+    uint8_t said = submission_book_queue(p->book, sizeof p->book, bytes, length);
+    told(p, said, 0, "queue the %s, %" PRIu64 ".%02" PRIu64 ", fee %s", payment->name, payment->amount / 100, payment->amount % 100,
+         payment->delivery.fee_intent.kind == SUBMISSION_BOOK_FEE_ATTACH ? "to be attached" : "none");
+}
+
+static void print_drained(const DrainedSubmission *drained) {
+    static const char *const relationships[] = {"initial", "exact", "newer, fee-bearing", "other"};
+    printf("       submission %" PRIu64 " gets token %" PRIu64 ", ", drained->id, drained->token);
+    if (drained->predecessor.present) {
+        printf("predecessor %" PRIu64 " (%s), ", drained->predecessor.value, relationships[drained->relationship]);
+    } else {
+        printf("no predecessor (%s), ", relationships[drained->relationship]);
+    }
+    if (drained->fee_intent.kind == SUBMISSION_BOOK_FEE_ATTACH) {
+        printf("a fee of %" PRIu64 " cents is open\n", drained->fee_intent.amount);
+    } else {
+        puts("no fee is open");
+    }
+}
+
+/* Drains a queue from which one submission is to be delivered, and answers its token. */
+static uint64_t drain_one(Planner *p, uint64_t id, uint8_t relationship) {
+    static uint8_t answer[SUBMISSION_BOOK_DRAIN_BYTES];
+    static DrainResult result;
+    uint8_t said = submission_book_drain(p->book, sizeof p->book, answer, sizeof answer);
+    told(p, said, 0, "drain the queue");
+    expect(read_drain(answer, sizeof answer, &result) != 0, "the form of a drain's answer");
+    for (size_t i = 0; i < result.submission_count; i++) {
+        print_drained(&result.submissions[i]);
+        expect(account_issued(&p->account, &result.submissions[i]), "a token and its predecessor");
+    }
+    expect(result.submission_count == 1 && result.failure_count == 0, "one submission and no failure");
+    expect(result.submissions[0].id == id, "the drained submission");
+    expect(result.submissions[0].relationship == relationship, "the relationship to the predecessor");
+    return result.submissions[0].token;
+}
+
+static void expect_bundle(const FinalizedSubmission *finalized, const SpendBundle *bundle) {
+    uint8_t got[SUBMISSION_BOOK_BUNDLE_BYTES], wanted[SUBMISSION_BOOK_BUNDLE_BYTES], fingerprint[32];
+    size_t length = write_bundle(wanted, bundle);
+    expect(write_bundle(got, &finalized->bundle) == length && memcmp(got, wanted, length) == 0, "the bundle to broadcast");
+    sha256(wanted, length, fingerprint);
+    expect(memcmp(finalized->variant_fingerprint, fingerprint, 32) == 0, "the fingerprint of the bundle to broadcast");
+}
+
+/* Finalises a live attempt. `bundle` is what must be broadcast; it is handed in where the fee was joined. */
+static void finalize(Planner *p, uint64_t token, uint8_t source, const SpendBundle *bundle, uint8_t disposition, uint64_t fee) {
+    static const char *const sources[] = {"no fee asked for", "the wallet's fee is joined", "the join failed", "the wallet has no fee coin"};
+    static const char *const dispositions[] = {"attached", "unused", "not requested"};
+    uint8_t joined[SUBMISSION_BOOK_BUNDLE_BYTES], answer[SUBMISSION_BOOK_FINALIZED_BYTES];
+    static FinalizedSubmission finalized;
+    size_t length = source == SUBMISSION_BOOK_SOURCE_JOINED ? write_bundle(joined, bundle) : 0;
+    uint8_t said = submission_book_finalize_attempt(p->book, sizeof p->book, token, source, joined, length, answer, sizeof answer);
+    told(p, said, 0, "finalise attempt %" PRIu64 ", %s", token, sources[source]);
+    expect(read_finalized(answer, sizeof answer, &finalized) != 0 && finalized.present, "the form of a finalised submission");
+    printf("       broadcast %zu spend%s with a fee of %" PRIu64 " cents (fee source: %s)%s\n", finalized.bundle.spend_count,
+           finalized.bundle.spend_count == 1 ? "" : "s", finalized.applied_fee, dispositions[finalized.disposition],
+           finalized.warning ? "; warning: the fee that was asked for is missing" : "");
+    expect_bundle(&finalized, bundle);
+    expect(finalized.disposition == disposition && finalized.applied_fee == fee, "what became of the fee");
+    expect(finalized.warning == (disposition == SUBMISSION_BOOK_DISPOSITION_UNUSED), "the warning");
+    expect(finalized.should_broadcast, "that the bundle is to be broadcast");
+}
+
+static void expect_status(uint8_t status, uint8_t wanted) {
+    puts(status == SUBMISSION_BOOK_STATUS_APPLIED ? "       applied" : "       stale: the attempt is not live, and nothing changed");
+    expect(status == wanted, "applied or stale");
+}
+
+static void acknowledge(Planner *p, uint64_t token, uint8_t wanted) {
+    uint8_t status = 255;
+    uint8_t said = submission_book_acknowledge_attempt(p->book, sizeof p->book, token, &status, 1);
+    told(p, said, 0, "acknowledge attempt %" PRIu64 ": the wallet has taken it", token);
+    expect_status(status, wanted);
+    if (status == SUBMISSION_BOOK_STATUS_APPLIED) {
+        account_set_aside(&p->account, account_id_of(&p->account, token), "acknowledged");
+    }
+}
+
+static void stop(Planner *p, uint64_t token) {
+    uint8_t status = 255;
+    uint8_t said = submission_book_stop_attempt(p->book, sizeof p->book, token, &status, 1);
+    told(p, said, 0, "stop attempt %" PRIu64 ": the wallet was closed", token);
+    expect_status(status, SUBMISSION_BOOK_STATUS_APPLIED);
+    account_set_aside(&p->account, account_id_of(&p->account, token), "stopped");
+}
+
+static void abandon(Planner *p, uint64_t token) {
+    uint8_t status = 255;
+    uint8_t said = submission_book_abandon_attempt(p->book, sizeof p->book, token, &status, 1);
+    told(p, said, 0, "abandon attempt %" PRIu64 ": the amount was wrong", token);
+    expect_status(status, SUBMISSION_BOOK_STATUS_APPLIED);
+    account_removed(&p->account, account_id_of(&p->account, token), "abandoned");
+}
+
+/* A report of the chain answers no ids. It retires those that it settles, and that is how the planner hears of an attempt that was set aside. */
+static void collect_retirements(Planner *p, const uint64_t *wanted, size_t count, const char *reason) {
+    uint8_t answer[SUBMISSION_BOOK_IDS_BYTES];
+    IdList retired;
+    uint8_t said = submission_book_drain_retirements(p->book, sizeof p->book, answer, sizeof answer);
+    told(p, said, 0, "collect the retired submissions");
+    expect(read_ids(answer, sizeof answer, &retired) != 0, "the form of a list of ids");
+    print_ids("retired", &retired);
+    expect_ids(&retired, wanted, count);
+    for (size_t i = 0; i < retired.count; i++) {
+        account_set_aside(&p->account, retired.ids[i], reason);
+    }
+}
+
+/* The chain shows the outputs of these payments; a reorganisation says which submissions it has undone. */
+static void report_landed(Planner *p, const Payment *const *landed, size_t count, bool reorg, const IdList *undone) {
+    CoinString coins[4] = {{{0}, 0}};
+    uint8_t observed[2 + 4 * (1 + SUBMISSION_BOOK_COIN_BYTES)];
+    expect(count <= 4, "at most four payments in a report");
+    for (size_t i = 0; i < count; i++) {
+        coins[i] = output_coin(&landed[i]->delivery.bundle.spends[0], 0);
+    }
+    size_t length = write_coin_list(observed, coins, count);
+    uint8_t said = submission_book_reconcile_chain_terminality(p->book, sizeof p->book, observed, length, NULL, 0, reorg ? 1 : 0,
+                                                               undone->ids, undone->count);
+    told(p, said, 0, "report of the chain%s: %zu payment%s observed, %zu undone", reorg ? " after a reorganisation" : "", count,
+         count == 1 ? "" : "s", undone->count);
+}
+
+/* ---- the story */
+static void deposit(Planner *p, const Payment *payment) {
+    chapter("The deposit");
+    queue_payment(p, payment);
+    uint64_t token = drain_one(p, 1, SUBMISSION_BOOK_RELATIONSHIP_INITIAL);
+    finalize(p, token, SUBMISSION_BOOK_SOURCE_NOT_REQUESTED, &payment->delivery.bundle, SUBMISSION_BOOK_DISPOSITION_NOT_REQUESTED, 0);
+    acknowledge(p, token, SUBMISSION_BOOK_STATUS_APPLIED);
+}
+
+static void delivery(Planner *p, const Payment *payment, const SpendBundle *joined) {
+    chapter("The delivery, with a fee");
+    queue_payment(p, payment);
+    uint64_t token = drain_one(p, 2, SUBMISSION_BOOK_RELATIONSHIP_INITIAL);
+    finalize(p, token, SUBMISSION_BOOK_SOURCE_JOINED, joined, SUBMISSION_BOOK_DISPOSITION_ATTACHED, payment->delivery.fee_intent.amount);
+    acknowledge(p, token, SUBMISSION_BOOK_STATUS_APPLIED);
+}
+
+/* Which submissions the new chain has undone: the output of the payment is absent, and its coin can be spent again. */
+static void find_undone(Planner *p, const Payment *payment, IdList *undone) {
+    uint8_t absent[2 + 1 + SUBMISSION_BOOK_COIN_BYTES], input[32], answer[SUBMISSION_BOOK_IDS_BYTES];
+    uint8_t outputs[SUBMISSION_BOOK_ABSENT_OUTPUTS_BYTES];
+    uint64_t count = 0;
+    CoinString coin = output_coin(&payment->delivery.bundle.spends[0], 0);
+    size_t length = write_coin_list(absent, &coin, 1);
+    coin_id_of(&payment->delivery.bundle.spends[0].coin, input);
+    uint8_t said = submission_book_causally_rolled_back_ids(p->book, sizeof p->book, absent, length, input, 32, answer, sizeof answer);
+    told(p, said, 0, "which submissions are undone: the %s's output is absent, its coin unspent", payment->name);
+    expect(read_ids(answer, sizeof answer, undone) != 0, "the form of a list of ids");
+    print_ids("undone", undone);
+    expect_ids(undone, (const uint64_t[]){2}, 1);
+    said = submission_book_absent_outputs_for_ids(p->book, sizeof p->book, undone->ids, undone->count, absent, length, outputs, sizeof outputs,
+                                                  &count);
+    told(p, said, 0, "which of their outputs are absent");
+    printf("       a coin list of %" PRIu64 " bytes\n", count);
+    expect(count == length && memcmp(outputs, absent, length) == 0, "the absent outputs");
+}
+
+static void begin_replay(Planner *p, uint64_t height, uint8_t wanted) {
+    uint8_t began = 255;
+    uint8_t said = submission_book_begin_replay(p->book, sizeof p->book, height, &began, 1);
+    told(p, said, 0, "begin the replay at height %" PRIu64, height);
+    puts(began == 1 ? "       begun" : "       it runs already");
+    expect(began == wanted, "whether the replay began");
+}
+
+static void finish_replay(Planner *p, uint64_t height, bool over) {
+    uint8_t answer[SUBMISSION_BOOK_HEIGHT_BYTES];
+    uint8_t said = submission_book_finish_replay_if_advanced(p->book, sizeof p->book, height);
+    told(p, said, 0, "finish the replay if height %" PRIu64 " is beyond it", height);
+    said = submission_book_replay_rollback_height(p->book, sizeof p->book, answer, sizeof answer);
+    told(p, said, 0, "ask for the height of the replay");
+    if (answer[0] == 1) {
+        printf("       %" PRIu64 "\n", number_at(answer + 1));
+    } else {
+        puts("       none: the replay is over");
+    }
+    expect(answer[0] == (over ? 0 : 1), "whether the replay is over");
+}
+
+static void reorganisation(Planner *p, const Payment *paid, const Payment *undone, const SpendBundle *joined) {
+    static const IdList none;
+    const Payment *both[] = {paid, undone};
+    IdList ids;
+    chapter("Both payments land; then a reorganisation undoes the delivery");
+    report_landed(p, both, 2, false, &none);
+    collect_retirements(p, (const uint64_t[]){1, 2}, 2, "settled by the chain");
+    find_undone(p, undone, &ids);
+    report_landed(p, both, 1, true, &ids);
+    begin_replay(p, 5200, 1);
+    begin_replay(p, 5200, 0);
+    uint8_t said = submission_book_collect_rollback_replay_ids(p->book, sizeof p->book, ids.ids, ids.count);
+    told(p, said, 0, "offer what was undone for delivery again");
+    uint64_t token = drain_one(p, 2, SUBMISSION_BOOK_RELATIONSHIP_EXACT);
+    finalize(p, token, SUBMISSION_BOOK_SOURCE_NOT_REQUESTED, joined, SUBMISSION_BOOK_DISPOSITION_NOT_REQUESTED, 25);
+    finish_replay(p, 5200, false);
+    finish_replay(p, 5201, true);
+    report_landed(p, both, 2, false, &none);
+    collect_retirements(p, (const uint64_t[]){1, 2}, 2, "settled by the chain");
+    acknowledge(p, token, SUBMISSION_BOOK_STATUS_STALE);
+}
+
+static void fitting(Planner *p, const Payment *payment, const SpendBundle *joined) {
+    uint64_t fee = payment->delivery.fee_intent.amount;
+    chapter("The fitting: the fee comes later, as a fee upgrade");
+    queue_payment(p, payment);
+    uint64_t first = drain_one(p, 3, SUBMISSION_BOOK_RELATIONSHIP_INITIAL);
+    finalize(p, first, SUBMISSION_BOOK_SOURCE_FAILED, &payment->delivery.bundle, SUBMISSION_BOOK_DISPOSITION_UNUSED, 0);
+    acknowledge(p, first, SUBMISSION_BOOK_STATUS_APPLIED);
+    uint8_t said = submission_book_queue_retained_delivery(p->book, sizeof p->book, 3, SUBMISSION_BOOK_TRIGGER_PROVIDER_READINESS,
+                                                           SUBMISSION_BOOK_GOAL_FEE_UPGRADE);
+    told(p, said, 0, "queue submission 3 again for a fee upgrade: the wallet is ready");
+    uint64_t second = drain_one(p, 3, SUBMISSION_BOOK_RELATIONSHIP_NEWER_FEE_BEARING);
+    finalize(p, second, SUBMISSION_BOOK_SOURCE_JOINED, joined, SUBMISSION_BOOK_DISPOSITION_ATTACHED, fee);
+    acknowledge(p, second, SUBMISSION_BOOK_STATUS_APPLIED);
+}
+
+/* Calls that are turned away: the number says why, and no byte of the book or of the answer changes. */
+static void refusals(Planner *p, uint64_t token) {
+    static uint8_t before[SUBMISSION_BOOK_BYTES];
+    uint8_t answer[SUBMISSION_BOOK_FINALIZED_BYTES] = {0}, untouched[sizeof answer] = {0}, empty[1] = {0};
+    memcpy(before, p->book, sizeof before);
+    uint8_t said = submission_book_acknowledge_attempt(p->book, sizeof p->book, token, answer, sizeof answer);
+    told(p, said, SUBMISSION_BOOK_NOT_FINALIZED, "acknowledge attempt %" PRIu64 " too early", token);
+    said = submission_book_stop_attempt(p->book, sizeof p->book, 999, answer, sizeof answer);
+    told(p, said, SUBMISSION_BOOK_UNKNOWN_TOKEN, "stop attempt 999");
+    said = submission_book_finalize_attempt(p->book, sizeof p->book, token, SUBMISSION_BOOK_SOURCE_JOINED, empty, 1, answer, sizeof answer);
+    told(p, said, SUBMISSION_BOOK_UNREQUESTED_FEE, "finalise attempt %" PRIu64 " with a fee that nobody asked for", token);
+    expect(memcmp(before, p->book, sizeof before) == 0, "that refused calls leave every byte of the book");
+    expect(memcmp(untouched, answer, sizeof answer) == 0, "that refused calls leave every byte of the answer");
+}
+
+static void final_payment(Planner *p, const Payment *wrong, const Payment *right) {
+    chapter("The final payment: the first attempt is abandoned, the second goes through");
+    queue_payment(p, wrong);
+    abandon(p, drain_one(p, 4, SUBMISSION_BOOK_RELATIONSHIP_INITIAL));
+    queue_payment(p, right);
+    uint64_t token = drain_one(p, 5, SUBMISSION_BOOK_RELATIONSHIP_INITIAL);
+    refusals(p, token);
+    finalize(p, token, SUBMISSION_BOOK_SOURCE_NOT_REQUESTED, &right->delivery.bundle, SUBMISSION_BOOK_DISPOSITION_NOT_REQUESTED, 0);
+    acknowledge(p, token, SUBMISSION_BOOK_STATUS_APPLIED);
+}
+
+static void withdraw(Planner *p, uint64_t id) {
+    uint8_t answer[SUBMISSION_BOOK_IDS_BYTES];
+    IdList removed;
+    uint8_t said = submission_book_retain_submitted(p->book, sizeof p->book, &id, 1, answer, sizeof answer);
+    told(p, said, 0, "remove submission %" PRIu64 ": the customer does not want it", id);
+    expect(read_ids(answer, sizeof answer, &removed) != 0, "the form of a list of ids");
+    print_ids("removed", &removed);
+    expect_ids(&removed, &id, 1);
+    for (size_t i = 0; i < removed.count; i++) {
+        account_removed(&p->account, removed.ids[i], "removed");
+    }
+}
+
+static void extras(Planner *p, const Payment *sockets, const Payment *lights, const Payment *handles) {
+    uint8_t answer[SUBMISSION_BOOK_IDS_BYTES];
+    IdList active;
+    chapter("Extras: one is removed, one is under way, one is queued");
+    queue_payment(p, sockets);
+    drain_one(p, 6, SUBMISSION_BOOK_RELATIONSHIP_INITIAL);
+    withdraw(p, 6);
+    queue_payment(p, lights);
+    stop(p, drain_one(p, 7, SUBMISSION_BOOK_RELATIONSHIP_INITIAL));
+    uint8_t said = submission_book_active_ids(p->book, sizeof p->book, answer, sizeof answer);
+    told(p, said, 0, "ask for the active submissions");
+    expect(read_ids(answer, sizeof answer, &active) != 0, "the form of a list of ids");
+    print_ids("active", &active);
+    expect_ids(&active, (const uint64_t[]){3, 5, 7}, 3);
+    said = submission_book_queue_rebroadcast_epoch(p->book, sizeof p->book, active.ids, active.count, SUBMISSION_BOOK_TRIGGER_FRESH_CHAIN);
+    told(p, said, 0, "offer them for delivery again: the wallet is open");
+    drain_one(p, 7, SUBMISSION_BOOK_RELATIONSHIP_EXACT);
+    queue_payment(p, handles);
+}
+
+/* ---- the account, held against the book */
+static void compare_row(Planner *p, const Row *row) {
+    uint8_t attempt[SUBMISSION_BOOK_ATTEMPT_BYTES], status = 255;
+    expect(submission_book_attempt(p->book, sizeof p->book, row->token, attempt, sizeof attempt) == 0, "the look at an attempt");
+    expect(submission_book_relinquish_completed_attempt(p->book, sizeof p->book, row->token, &status, 1) == 0, "the look at a set-aside attempt");
+    expect((attempt[0] == 1) == (row->fate == LIVE), "which tokens are live");
+    expect((status == SUBMISSION_BOOK_STATUS_APPLIED) == (row->fate == SET_ASIDE), "which tokens are set aside");
+}
+
+static void print_account(Planner *p, uint64_t next_token) {
+    const Account *account = &p->account;
+    size_t sum = 0;
+    chapter("Every token and its fate, from the answers above");
+    puts("       live: the attempt that may still act; set aside: over, and the next attempt's predecessor;\n"
+         "       displaced: a later attempt took its place; struck out: gone with its submission");
+    for (size_t i = 0; i < account->count; i++) {
+        const Row *row = &account->rows[i];
+        printf("       token %" PRIu64 "  submission %" PRIu64 "  %-10s  %s\n", row->token, row->id, fate_name(row->fate), row->reason);
+        compare_row(p, row);
+    }
+    printf("       ");
+    for (Fate fate = LIVE; fate <= STRUCK_OUT; fate++) {
+        printf("%s%s %zu", fate == LIVE ? "" : ", ", fate_name(fate), account_count(account, fate));
+        sum += account_count(account, fate);
+    }
+    printf("; sum %zu = next token %" PRIu64 " less opening token %" PRIu64 "\n", sum, next_token, account->opening_token);
+    expect(sum == next_token - account->opening_token, "that every token has a fate");
+}
+
+/* ---- the archive */
+static void save(const char *name, const uint8_t *bytes, size_t length) {
+    FILE *file = fopen(name, "wb");
+    expect(file != NULL, "that the archive's file can be written");
+    size_t written = fwrite(bytes, 1, length, file);
+    expect(fclose(file) == 0 && written == length, "that the archive is written whole");
+}
+
+static size_t load(const char *name, uint8_t *bytes, size_t room) {
+    FILE *file = fopen(name, "rb");
+    expect(file != NULL, "that the archive's file can be read");
+    size_t length = fread(bytes, 1, room, file);
+    expect(fclose(file) == 0, "that the archive is read whole");
+    return length;
+}
+
+static void keep_archive(Planner *p, const char *name) {
+    static uint8_t archive[SUBMISSION_BOOK_ARCHIVE_BYTES], loaded[SUBMISSION_BOOK_ARCHIVE_BYTES], second[SUBMISSION_BOOK_BYTES];
+    uint64_t length = 0, place = 0;
+    chapter("The archive");
+    uint8_t said = submission_book_write(p->book, sizeof p->book, archive, sizeof archive, &length);
+    told(p, said, 0, "write the archive");
+    save(name, archive, (size_t)length);
+    printf("       %" PRIu64 " bytes, saved as %s\n", length, name);
+    size_t read = load(name, loaded, sizeof loaded);
+    said = submission_book_read(second, sizeof second, loaded, read, &place);
+    told(p, said, 0, "read the %zu bytes of that file into a second book", read);
+    memset(loaded, 0, sizeof loaded);
+    said = submission_book_write(second, sizeof second, loaded, sizeof loaded, &place);
+    told(p, said, 0, "write the archive of the second book");
+    expect(place == length && memcmp(loaded, archive, (size_t)length) == 0, "that both archives are the same bytes");
+    puts("       the same bytes");
+    said = submission_book_read(second, sizeof second, archive, (size_t)length - 1, &place);
+    told(p, said, SUBMISSION_BOOK_NO_ARCHIVE, "read all but the last byte");
+    printf("       the archive breaks off at byte %" PRIu64 "\n", place);
+    expect(place == length - 1, "the place of the refusal");
+    print_account(p, number_at(archive + 1));
+}
+
+int main(int argc, char **argv) {
+    static Planner planner;
+    if (argc != 2) {
+        fprintf(stderr, "use: %s FILE\n", argv[0]);
+        return 2;
+    }
+    Payment first = sample_payment("deposit", 450000, 500000, 0);
+    Payment second = sample_payment("delivery", 750000, 800000, 25);
+    Payment third = sample_payment("fitting", 225000, 225000, 25);
+    Payment wrong = sample_payment("final payment with a slip", 7500, 100000, 0);
+    Payment right = sample_payment("final payment", 75000, 100000, 0);
+    Payment sockets = sample_payment("worktop sockets", 18000, 20000, 0);
+    Payment lights = sample_payment("cupboard lights", 32000, 32000, 25);
+    Payment handles = sample_payment("drawer handles", 9500, 10000, 0);
+    SpendBundle second_joined = join_fee(&second), third_joined = join_fee(&third);
+
+    puts("A sample kitchen: its payments, and what became of each attempt to deliver them");
+    open_book(&planner);
+    deposit(&planner, &first);
+    delivery(&planner, &second, &second_joined);
+    reorganisation(&planner, &first, &second, &second_joined);
+    fitting(&planner, &third, &third_joined);
+    final_payment(&planner, &wrong, &right);
+    extras(&planner, &sockets, &lights, &handles);
+    keep_archive(&planner, argv[1]);
+    return 0;
+}
