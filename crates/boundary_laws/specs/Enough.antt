@@ -20,7 +20,12 @@ use Rattle.book_data.specs.Zero.{noAttempt}
 use Rattle.book_data.specs.Typed.{Every, TypedBundle, TypedFeeIntent, TypedAttempt}
 use Rattle.book_data.specs.declared.DeliveryAttempt.{DeliveryAttempt}
 use Rattle.book_data.specs.declared.SubmissionFeeIntent.{SubmissionFeeIntent}
-use Rattle.rules.specs.Call.{Value, Failure, FinalizedSubmission, stageOf, retainedId, failures, finalized, feeIntentIs, idsAre, attemptIs}
+use Rattle.rules.specs.Books.{callBook}
+use Rattle.rules.specs.Calls.{rules}
+use Rattle.rule_laws.specs.Sound.Run.{SoundBook, sound-call}
+use Rattle.typed_laws.specs.Theorems.{within-call, typed-model}
+use Rattle.typed_laws.specs.Typing.{Within, TypedCall}
+use Rattle.rules.specs.Call.{Call, Value, Failure, FinalizedSubmission, stageOf, retainedId, failures, finalized, feeIntentIs, idsAre, attemptIs}
 use Rattle.rules.specs.Rule.{Rule, DrainedSubmission, Outcome, ended, undone, stopped, left}
 use Rattle.rules.specs.Steps.{runBook}
 use Rattle.replies.specs.Values.{statusBy, flagBy, heightBy, finalOf}
@@ -42,22 +47,29 @@ numberBy (undone n) = n
 numberBy (stopped m xs n) = n
 
 -- the answer has at most k bytes
-abbrev pub Within : Form → ℕ → Outcome Book Value → Type 0
-Within form k (ended m xs v) = length (form xs v) ≤ k
-Within form k (undone n) = Unit {0}
-Within form k (stopped m xs n) = Unit {0}
+abbrev pub AnswerFits : Form → ℕ → Outcome Book Value → Type 0
+AnswerFits form k (ended m xs v) = length (form xs v) ≤ k
+AnswerFits form k (undone n) = Unit {0}
+AnswerFits form k (stopped m xs n) = Unit {0}
 
 module _ (form : Form) (d a : List ℕ) (h : 57702 ≤ length d) where
-  settled-enough : (m : Book) (o : Outcome Book Value) → TypedModel (left m o) → Within form (length a) o → settled form d a o .number ≡ numberBy o
+  settled-enough : (m : Book) (o : Outcome Book Value) → TypedModel (left m o) → AnswerFits form (length a) o → settled form d a o .number ≡ numberBy o
   unfolding settled
   settled-enough m (ended k xs v) t w = ap (λ (l : Left). l .number) (written-fits 0 (encodeModel k) (form xs v) d a (omega (arith, enough k t)) w)
   settled-enough m (undone n) t w = refl
   settled-enough m (stopped k xs n) t w = ap (λ (l : Left). l .number) (written-fits n (encodeModel k) [] d a (omega (arith, enough k t)) (omega arith))
 
   -- the number is the rules' own
-  pub call-enough : (m : Book) (r : Rule Value) → heldIn d ≡ some m → TypedModel (left m (runBook r m)) → Within form (length a) (runBook r m) → boundary form r d a .number ≡ numberBy (runBook r m)
+  pub call-enough : (m : Book) (r : Rule Value) → heldIn d ≡ some m → TypedModel (left m (runBook r m)) → AnswerFits form (length a) (runBook r m) → boundary form r d a .number ≡ numberBy (runBook r m)
   unfolding boundary
   call-enough m r e t w = ap (λ (x : Option Book). ruled form r d a x .number) e ∙ settled-enough m (runBook r m) t w
+
+-- the same for a call with arguments within their types, on a sound book within the types: the book that it leaves is one, too
+pub typed-call-enough : (form : Form) (d a : List ℕ) → 57702 ≤ length d → (c : Call) (m : Book) → heldIn d ≡ some m → SoundBook m → Within m → TypedCall c → AnswerFits form (length a) (runBook (rules encodeModel c) m)
+    → boundary form (rules encodeModel c) d a .number ≡ numberBy (runBook (rules encodeModel c) m)
+unfolding callBook
+typed-call-enough form d a h c m e s w t f =
+    call-enough form d a h m (rules encodeModel c) e (typed-model (callBook encodeModel c m) (within-call encodeModel c m t w) (sound-call encodeModel c m s)) f
 
 -- ---- the answers
 abbrev pub OnSome : {A : Type 0} → (A → Type 0) → Option A → Type 0
