@@ -310,7 +310,7 @@ impl SubmissionBook {
         ensures { λ r. ⌜ r ≡ feeIntentAnswer self (FeeIntentForAttempt (token .0)) ⌝ }
     {
         let parts = self.parts;
-        let r = attempt_calls::fee_intent_for_attempt(parts, token);
+        let r = fee_intent_call::fee_intent_for_attempt(parts, token);
         fee_intent_answer(r)
     }
 
@@ -318,7 +318,7 @@ impl SubmissionBook {
         ensures { λ r. ⌜ r ≡ statusAnswer self (AcknowledgeAttempt (token .0)) ⌝ }
     {
         let parts = self.parts;
-        let r = attempt_calls::acknowledge_attempt(parts, token);
+        let r = acknowledge_call::acknowledge_attempt(parts, token);
         status_answer(r)
     }
 
@@ -326,7 +326,7 @@ impl SubmissionBook {
         ensures { λ r. ⌜ r ≡ statusAnswer self (StopAttempt (token .0)) ⌝ }
     {
         let parts = self.parts;
-        let r = attempt_calls::stop_attempt(parts, token);
+        let r = stop_call::stop_attempt(parts, token);
         status_answer(r)
     }
 
@@ -334,7 +334,7 @@ impl SubmissionBook {
         ensures { λ r. ⌜ r ≡ statusAnswer self (AbandonAttempt (token .0)) ⌝ }
     {
         let parts = self.parts;
-        let r = attempt_calls::abandon_attempt(parts, token);
+        let r = abandon_call::abandon_attempt(parts, token);
         status_answer(r)
     }
 
@@ -342,7 +342,7 @@ impl SubmissionBook {
         ensures { λ r. ⌜ r ≡ statusAnswer self (RelinquishCompletedAttempt (token .0)) ⌝ }
     {
         let parts = self.parts;
-        let r = attempt_calls::relinquish_completed_attempt(parts, token);
+        let r = relinquish_call::relinquish_completed_attempt(parts, token);
         status_answer(r)
     }
 
@@ -350,7 +350,7 @@ impl SubmissionBook {
         ensures { λ r. ⌜ r ≡ attemptAnswer self (Attempt (token .0)) ⌝ }
     {
         let parts = self.parts;
-        let r = attempt_calls::attempt(parts, token);
+        let r = attempt_call::attempt(parts, token);
         attempt_answer(r)
     }
 
