@@ -260,7 +260,7 @@ impl SubmissionBook {
         ensures { λ r. ⌜ r ≡ doneAnswer self (QueueRebroadcastEpoch (now (ids .entry)) trigger) ⌝ }
     {
         let parts = self.parts;
-        let r = queue_calls::queue_rebroadcast_epoch(parts, ids, trigger);
+        let r = rebroadcast_call::queue_rebroadcast_epoch(parts, ids, trigger);
         done_answer(r)
     }
 
@@ -268,7 +268,7 @@ impl SubmissionBook {
         ensures { λ r. ⌜ r ≡ doneAnswer self QueueFeeReadiness ⌝ }
     {
         let parts = self.parts;
-        let r = queue_calls::queue_fee_readiness(parts);
+        let r = fee_readiness_call::queue_fee_readiness(parts);
         done_answer(r)
     }
 
