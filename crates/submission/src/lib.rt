@@ -358,7 +358,7 @@ impl SubmissionBook {
         ensures { λ r. ⌜ r ≡ idsAnswer self (RetainSubmitted (now (ids .entry))) ⌝ }
     {
         let parts = self.parts;
-        let r = retained_calls::retain_submitted(parts, ids);
+        let r = retain_call::retain_submitted(parts, ids);
         ids_answer(r)
     }
 
@@ -382,7 +382,7 @@ impl SubmissionBook {
         ensures { λ r. ⌜ r ≡ idsAnswer self ActiveIds ⌝ }
     {
         let parts = self.parts;
-        let r = retained_calls::active_ids(parts);
+        let r = active_ids_call::active_ids(parts);
         ids_answer(r)
     }
 
@@ -450,7 +450,7 @@ impl SubmissionBook {
         ensures { λ r. ⌜ r ≡ doneAnswer self ClearLocalArtifacts ⌝ }
     {
         let parts = self.parts;
-        let r = retained_calls::clear_local_artifacts(parts);
+        let r = clear_call::clear_local_artifacts(parts);
         done_answer(r)
     }
 
@@ -458,7 +458,7 @@ impl SubmissionBook {
         ensures { λ r. ⌜ r ≡ doneAnswer self RestoreRuntime ⌝ }
     {
         let parts = self.parts;
-        let r = retained_calls::restore_runtime(parts);
+        let r = restore_call::restore_runtime(parts);
         done_answer(r)
     }
 
