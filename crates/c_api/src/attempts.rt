@@ -1,11 +1,8 @@
 // Calls by an attempt's token.
 use crate::JoinedBundle;
-use attempt_calls::abandon_attempt_sound;
-use attempt_calls::acknowledge_attempt_sound;
-use attempt_calls::attempt_sound;
-use attempt_calls::fee_intent_for_attempt_sound;
-use attempt_calls::relinquish_completed_attempt_sound;
-use attempt_calls::stop_attempt_sound;
+use abandon_call::abandon_attempt_sound;
+use acknowledge_call::acknowledge_attempt_sound;
+use attempt_call::attempt_sound;
 use book_data::SpendBundle;
 use book_data::Token;
 use boundary_attempts::settle_attempt;
@@ -13,9 +10,12 @@ use boundary_attempts::settle_fee_intent;
 use boundary_attempts::settle_final;
 use boundary_read::held;
 use boundary_replies::settle_status;
+use fee_intent_call::fee_intent_for_attempt_sound;
 use finalize_call::finalize_attempt_sound;
+use relinquish_call::relinquish_completed_attempt_sound;
 use replies::SubmissionFeeSource;
 use spend_read::bundle::read_bundle;
+use stop_call::stop_attempt_sound;
 ghost use mathlib.Core.Path.{_≡_};
 ghost use Rattle.rules.specs.Calls.AcknowledgeAttempt.{acknowledgeAttempt};
 ghost use Rattle.rules.specs.Calls.StopAttempt.{stopAttempt};

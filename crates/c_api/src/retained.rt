@@ -1,11 +1,11 @@
 // Calls on all retained submissions.
+use active_ids_call::active_ids_sound;
 use boundary_read::held;
 use boundary_replies::settle_ids;
 use boundary_write::settle_done;
-use retained_calls::active_ids_sound;
-use retained_calls::clear_local_artifacts_sound;
-use retained_calls::restore_runtime_sound;
-use retained_calls::retain_submitted_sound;
+use clear_call::clear_local_artifacts_sound;
+use restore_call::restore_runtime_sound;
+use retain_call::retain_submitted_sound;
 ghost use mathlib.Core.List.{[]};
 ghost use Rattle.rules.specs.Calls.ActiveIds.{activeIds};
 ghost use Rattle.rules.specs.Calls.RetainSubmitted.{retainSubmitted};

@@ -26,8 +26,8 @@ use Rattle.book_cells.specs.Normal.{Normal}
 use Rattle.book_change.specs.Changes.{storedAt}
 use Rattle.book_change.specs.ChangeLaws.{mark-at}
 use Rattle.sound_steps.specs.Holds.{holds-sound, holds-lists}
-use Rattle.attempt_calls.specs.Live.{at}
-use Rattle.attempt_calls.specs.Stored.{revise-mark}
+use Rattle.attempt_answers.specs.Live.{at}
+use Rattle.attempt_answers.specs.Stored.{revise-mark}
 use Rattle.finalize_call.specs.Ready.{Standing}
 
 -- what the code answers where s is stored at k with the final fingerprint of r

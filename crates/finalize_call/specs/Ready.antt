@@ -9,7 +9,7 @@ use Rattle.book_data.specs.Sound.{soundb}
 use Rattle.book_data.specs.declared.BookData.{BookData}
 use Rattle.book_data.specs.declared.SubmittedTx.{SubmittedTx}
 use Rattle.rules.specs.Parts.{currentFingerprint}
-use Rattle.attempt_calls.specs.Live.{at}
+use Rattle.attempt_answers.specs.Live.{at}
 
 -- s stands at place k of the sound book b
 pub record Standing (b : BookData) (k : ℕ) (s : SubmittedTx) : Type 0 where

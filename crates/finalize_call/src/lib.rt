@@ -1,6 +1,6 @@
 // `finalize_attempt`, on a book by value: the live attempt of a token gets its final variant, with the fee attached or without it.
-use attempt_calls::is_never_issued;
-use attempt_calls::live_place;
+use attempt_answers::is_never_issued;
+use attempt_answers::live_place;
 use book_cells::AttemptPlace;
 use book_cells::Place;
 use book_cells::find_attempt;
@@ -46,7 +46,7 @@ ghost use Rattle.rules.specs.Calls.FinalizeAttempt.{isJoined, isNoSource, sound
 ghost use Rattle.replies.specs.Reply.{outcomeOf, finalizeReply};
 ghost use Rattle.replies.specs.Values.{sourceOf, finalOf, zeroFinal};
 ghost use Rattle.book_cells.specs.Normal.{Normal};
-ghost use Rattle.attempt_calls.specs.Live.{inactive, at};
+ghost use Rattle.attempt_answers.specs.Live.{inactive, at};
 ghost use Rattle.finalize_call.specs.Ready.{Standing, Hashed};
 ghost use Rattle.finalize_call.specs.Finalizing.{finalizedReply, attaching};
 

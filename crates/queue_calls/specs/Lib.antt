@@ -1,4 +1,1 @@
-pub mod Ends
-pub mod OfferLaws
-pub mod Each
-pub mod CallLaws
+pub mod Queueing

@@ -22,8 +22,8 @@ use Rattle.rules.specs.Calls.Offer.{offer}
 use Rattle.rules.specs.Calls.CollectRollbackReplayIds.{markEach, offerAgain, collectRollbackReplayIds}
 use Rattle.ids.specs.Ids.{withoutIds}
 use Rattle.book_cells.specs.Normal.{sound-normal}
-use Rattle.queue_calls.specs.Ends.{Reached, Ends, ends-as, bind-on, bind-turn}
-use Rattle.queue_calls.specs.Each.{Each}
+use Rattle.offering.specs.Ends.{Reached, Ends, ends-as, bind-on, bind-turn}
+use Rattle.offering.specs.Each.{Each}
 use Rattle.replay_queue.specs.Marking.{markOne}
 
 -- "all named ones": the retained ids that the list has, in retained order

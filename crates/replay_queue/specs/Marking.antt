@@ -31,7 +31,7 @@ use Rattle.book_change.specs.Changes.{storedAt, withEpochOf}
 use Rattle.book_change.specs.ChangeLaws.{revise-at}
 use Rattle.sound_steps.specs.Acts.{act-silent}
 use Rattle.sound_steps.specs.Holds.{Holds, holds-sound, holds-view, holds-soundb, holds-quiet, sound-stepped}
-use Rattle.queue_calls.specs.Ends.{Reached}
+use Rattle.offering.specs.Ends.{Reached}
 
 -- `markEach` of one id that was not marked before
 abbrev pub markOne : ℕ → Rule (Unit {0})

@@ -260,7 +260,7 @@ impl SubmissionBook {
         ensures { λ r. ⌜ r ≡ doneAnswer self (QueueRebroadcastEpoch (now (ids .entry)) trigger) ⌝ }
     {
         let parts = self.parts;
-        let r = queue_calls::queue_rebroadcast_epoch(parts, ids, trigger);
+        let r = rebroadcast_call::queue_rebroadcast_epoch(parts, ids, trigger);
         done_answer(r)
     }
 
@@ -268,7 +268,7 @@ impl SubmissionBook {
         ensures { λ r. ⌜ r ≡ doneAnswer self QueueFeeReadiness ⌝ }
     {
         let parts = self.parts;
-        let r = queue_calls::queue_fee_readiness(parts);
+        let r = fee_readiness_call::queue_fee_readiness(parts);
         done_answer(r)
     }
 
@@ -310,7 +310,7 @@ impl SubmissionBook {
         ensures { λ r. ⌜ r ≡ feeIntentAnswer self (FeeIntentForAttempt (token .0)) ⌝ }
     {
         let parts = self.parts;
-        let r = attempt_calls::fee_intent_for_attempt(parts, token);
+        let r = fee_intent_call::fee_intent_for_attempt(parts, token);
         fee_intent_answer(r)
     }
 
@@ -318,7 +318,7 @@ impl SubmissionBook {
         ensures { λ r. ⌜ r ≡ statusAnswer self (AcknowledgeAttempt (token .0)) ⌝ }
     {
         let parts = self.parts;
-        let r = attempt_calls::acknowledge_attempt(parts, token);
+        let r = acknowledge_call::acknowledge_attempt(parts, token);
         status_answer(r)
     }
 
@@ -326,7 +326,7 @@ impl SubmissionBook {
         ensures { λ r. ⌜ r ≡ statusAnswer self (StopAttempt (token .0)) ⌝ }
     {
         let parts = self.parts;
-        let r = attempt_calls::stop_attempt(parts, token);
+        let r = stop_call::stop_attempt(parts, token);
         status_answer(r)
     }
 
@@ -334,7 +334,7 @@ impl SubmissionBook {
         ensures { λ r. ⌜ r ≡ statusAnswer self (AbandonAttempt (token .0)) ⌝ }
     {
         let parts = self.parts;
-        let r = attempt_calls::abandon_attempt(parts, token);
+        let r = abandon_call::abandon_attempt(parts, token);
         status_answer(r)
     }
 
@@ -342,7 +342,7 @@ impl SubmissionBook {
         ensures { λ r. ⌜ r ≡ statusAnswer self (RelinquishCompletedAttempt (token .0)) ⌝ }
     {
         let parts = self.parts;
-        let r = attempt_calls::relinquish_completed_attempt(parts, token);
+        let r = relinquish_call::relinquish_completed_attempt(parts, token);
         status_answer(r)
     }
 
@@ -350,7 +350,7 @@ impl SubmissionBook {
         ensures { λ r. ⌜ r ≡ attemptAnswer self (Attempt (token .0)) ⌝ }
     {
         let parts = self.parts;
-        let r = attempt_calls::attempt(parts, token);
+        let r = attempt_call::attempt(parts, token);
         attempt_answer(r)
     }
 
@@ -358,7 +358,7 @@ impl SubmissionBook {
         ensures { λ r. ⌜ r ≡ idsAnswer self (RetainSubmitted (now (ids .entry))) ⌝ }
     {
         let parts = self.parts;
-        let r = retained_calls::retain_submitted(parts, ids);
+        let r = retain_call::retain_submitted(parts, ids);
         ids_answer(r)
     }
 
@@ -382,7 +382,7 @@ impl SubmissionBook {
         ensures { λ r. ⌜ r ≡ idsAnswer self ActiveIds ⌝ }
     {
         let parts = self.parts;
-        let r = retained_calls::active_ids(parts);
+        let r = active_ids_call::active_ids(parts);
         ids_answer(r)
     }
 
@@ -450,7 +450,7 @@ impl SubmissionBook {
         ensures { λ r. ⌜ r ≡ doneAnswer self ClearLocalArtifacts ⌝ }
     {
         let parts = self.parts;
-        let r = retained_calls::clear_local_artifacts(parts);
+        let r = clear_call::clear_local_artifacts(parts);
         done_answer(r)
     }
 
@@ -458,7 +458,7 @@ impl SubmissionBook {
         ensures { λ r. ⌜ r ≡ doneAnswer self RestoreRuntime ⌝ }
     {
         let parts = self.parts;
-        let r = retained_calls::restore_runtime(parts);
+        let r = restore_call::restore_runtime(parts);
         done_answer(r)
     }
 

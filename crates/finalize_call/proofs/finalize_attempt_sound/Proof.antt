@@ -8,7 +8,7 @@ use Rattle.rules.specs.Calls.FinalizeAttempt.{finalizeLive}
 use Rattle.replies.specs.Reply.{finalizeReply}
 use Rattle.replies.specs.Values.{sourceOf}
 use Rattle.book_cells.specs.Normal.{sound-normal}
-use Rattle.attempt_calls.specs.Live.{live-within, with-live, with-inactive}
+use Rattle.attempt_answers.specs.Live.{live-within, with-live, with-inactive}
 use Rattle.finalize_call.specs.Tests.{source-unsound, source-sound}
 use Rattle.finalize_call.proofs.finalize_attempt_sound.Statement.{statement}
 use Rattle.finalize_call.proofs.finalize_attempt_sound.Tie as tie

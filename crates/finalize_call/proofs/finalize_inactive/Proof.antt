@@ -4,7 +4,7 @@ use mathlib.Core.Path.{ap, _∙_}
 use Rattle.book_data.specs.Model.{view}
 use Rattle.rules.specs.Call.{finalized}
 use Rattle.replies.specs.Reply.{finalizeReply}
-use Rattle.attempt_calls.specs.Live.{inactive-never, inactive-issued}
+use Rattle.attempt_answers.specs.Live.{inactive-never, inactive-issued}
 use Rattle.finalize_call.specs.Finalizing.{none-ended}
 use Rattle.finalize_call.proofs.finalize_inactive.Statement.{statement}
 use Rattle.finalize_call.proofs.finalize_inactive.Tie as tie

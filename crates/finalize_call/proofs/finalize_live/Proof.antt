@@ -6,7 +6,7 @@ use Rattle.rules.specs.Calls.FinalizeAttempt.{finalizeLive}
 use Rattle.replies.specs.Reply.{finalizeReply}
 use Rattle.replies.specs.Values.{sourceOf}
 use Rattle.book_cells.specs.Normal.{sound-normal}
-use Rattle.attempt_calls.specs.Answers.{compared, of-read}
+use Rattle.attempt_answers.specs.Answers.{compared, of-read}
 use Rattle.finalize_call.specs.Tests.{live-finalised, live-invalid, live-other, live-on}
 use Rattle.finalize_call.proofs.finalize_live.Statement.{statement}
 use Rattle.finalize_call.proofs.finalize_live.Tie as tie

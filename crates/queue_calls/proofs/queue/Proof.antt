@@ -1,7 +1,7 @@
 use mathlib.Core.Path.{sym, _∙_}
 use borrow.Author.Tests.{not-true, not-false}
 use Rattle.rules.specs.Calls.Queue as rules
-use Rattle.queue_calls.specs.Ends.{shut-is, open-is}
+use Rattle.offering.specs.Ends.{shut-is, open-is}
 use borrow.Author.Needs.{needs}
 use Rattle.queue_calls.proofs.queue.Statement.{statement}
 use Rattle.queue_calls.proofs.queue.Tie as tie

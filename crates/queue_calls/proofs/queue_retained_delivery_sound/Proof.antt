@@ -2,8 +2,8 @@ use mathlib.Core.Path.{_∙_}
 use Rattle.book_data.specs.Model.{view}
 use Rattle.rules.specs.Steps.{runBook}
 use Rattle.rules.specs.Calls.QueueRetainedDelivery.{queueRetainedDelivery}
-use Rattle.queue_calls.specs.Ends.{settled-is}
-use Rattle.queue_calls.specs.CallLaws.{retained-taken}
+use Rattle.offering.specs.Ends.{settled-is}
+use Rattle.queue_calls.specs.Queueing.{retained-taken}
 use borrow.Author.Needs.{needs}
 use Rattle.queue_calls.proofs.queue_retained_delivery_sound.Statement.{statement}
 use Rattle.queue_calls.proofs.queue_retained_delivery_sound.Tie as tie

@@ -3,8 +3,8 @@ use borrow.Author.Tests.{not-true, not-false}
 use Rattle.book_data.specs.Model.{view}
 use Rattle.rules.specs.Steps.{runBook}
 use Rattle.rules.specs.Calls.Queue as rules
-use Rattle.queue_calls.specs.Ends.{refused-is, settled-is}
-use Rattle.queue_calls.specs.CallLaws.{queue-damaged, queue-taken}
+use Rattle.offering.specs.Ends.{refused-is, settled-is}
+use Rattle.queue_calls.specs.Queueing.{queue-damaged, queue-taken}
 use borrow.Author.Needs.{needs}
 use Rattle.queue_calls.proofs.queue_sound.Statement.{statement}
 use Rattle.queue_calls.proofs.queue_sound.Tie as tie

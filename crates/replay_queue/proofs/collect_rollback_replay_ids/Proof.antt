@@ -2,7 +2,7 @@ use borrow.Author.Needs.{needs}
 use mathlib.Core.Path.{sym, _∙_}
 use borrow.Author.Tests.{not-true, not-false}
 use Rattle.rules.specs.Calls.CollectRollbackReplayIds.{collectRollbackReplayIds}
-use Rattle.queue_calls.specs.Ends.{shut-is, open-is}
+use Rattle.offering.specs.Ends.{shut-is, open-is}
 use Rattle.replay_queue.proofs.collect_rollback_replay_ids.Statement.{statement}
 use Rattle.replay_queue.proofs.collect_rollback_replay_ids.Tie as tie
 

@@ -4,7 +4,7 @@ use Rattle.book_data.specs.Model.{view, list16}
 use Rattle.ids.specs.Ids.{withoutIds}
 use Rattle.rules.specs.Steps.{runBook}
 use Rattle.rules.specs.Calls.CollectRollbackReplayIds.{collectRollbackReplayIds}
-use Rattle.queue_calls.specs.Ends.{refused-is, settled-is}
+use Rattle.offering.specs.Ends.{refused-is, settled-is}
 use Rattle.replay_queue.specs.Collecting.{namedIn, cells-of, count-of, named-fit, fresh-fit, collect-long, collect-taken}
 use Rattle.replay_queue.proofs.collect_rollback_replay_ids_sound.Statement.{statement}
 use Rattle.replay_queue.proofs.collect_rollback_replay_ids_sound.Tie as tie

@@ -6,7 +6,7 @@ use lib.ListN.{length, take, drop}
 use Rattle.lists.specs.Laws.{counted-step, counted-end}
 use Rattle.book_data.specs.Model.{view, list16}
 use Rattle.rules.specs.Steps.{runBook}
-use Rattle.queue_calls.specs.Each.{Left, left-start, each-on, each-done}
+use Rattle.offering.specs.Each.{Left, left-start, each-on, each-done}
 use Rattle.replay_queue.specs.Collecting.{markAll, mark-each}
 use Rattle.replay_queue.proofs.mark_each.Statement.{statement}
 use Rattle.replay_queue.proofs.mark_each.Tie as tie

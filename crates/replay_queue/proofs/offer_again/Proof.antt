@@ -8,8 +8,8 @@ use Rattle.book_data.specs.Model.{view, list16}
 use Rattle.rules.specs.Call.{noValue}
 use Rattle.rules.specs.Steps.{runBook}
 use Rattle.rules.specs.Calls.CollectRollbackReplayIds.{offerAgain}
-use Rattle.queue_calls.specs.Ends.{full-ends}
-use Rattle.queue_calls.specs.Each.{Left, left-start, each-full, each-turn, each-done}
+use Rattle.offering.specs.Ends.{full-ends}
+use Rattle.offering.specs.Each.{Left, left-start, each-full, each-turn, each-done}
 use Rattle.replay_queue.specs.Collecting.{offer-each}
 use Rattle.replay_queue.proofs.offer_again.Statement.{statement}
 use Rattle.replay_queue.proofs.offer_again.Tie as tie

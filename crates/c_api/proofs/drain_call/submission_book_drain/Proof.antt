@@ -15,7 +15,7 @@ returns : tie.Need-returns
 returns c = gives-absent drainForm drain (c .before .before .before .before .before .args .book .now) (c .before .before .before .before .before .args .answer .now) (c .before .held .ensures .absent (not-true _ (c .if1 .taken)))
 
 drain-sound-requires : tie.Need-drain-sound-requires
-drain-sound-requires c κs = c .before .before .held .ensures .present (not-false _ (c .before .if1 .left)) .sound
+drain-sound-requires c κs = c .before .held .ensures .present (not-false _ (c .if1 .left)) .sound
 
 settle-drain-requires : tie.Need-settle-drain-requires
 settle-drain-requires c κs = search needs
@@ -27,7 +27,7 @@ same-length-3 : tie.Need-same-length-3
 same-length-3 c = search needs
 
 returns-2 : tie.Need-returns-2
-returns-2 c = drain-given (c .before .before .before .before .before .before .before .before .before .before .before .before .before .before .args .book .now) (c .before .before .before .before .before .before .before .before .before .before .before .before .before .before .args .answer .now) (c .before .before .before .before .before .before .before .before .before .before .held .result .book) (c .before .before .before .before .before .before .before .before .before .before .held .ensures .present (not-false _ (c .before .before .before .before .before .before .before .before .before .if1 .left))) drain (c .before .before .before .before .before .before .before .drain-sound .result) (c .before .before .before .before .before .before .before .drain-sound .ensures) (c .before .before .before .before .settle-drain .ensures)
+returns-2 c = drain-given (c .before .before .before .before .before .before .before .before .before .before .before .before .before .args .book .now) (c .before .before .before .before .before .before .before .before .before .before .before .before .before .args .answer .now) (c .before .before .before .before .before .before .before .before .before .held .result .book) (c .before .before .before .before .before .before .before .before .before .held .ensures .present (not-false _ (c .before .before .before .before .before .before .before .before .if1 .left))) drain (c .before .before .before .before .before .before .before .drain-sound .result) (c .before .before .before .before .before .before .before .drain-sound .ensures) (c .before .before .before .before .settle-drain .ensures)
 
 pub submission-book-drain-spec : {M : Type 1} → statement M
 submission-book-drain-spec =

@@ -1,0 +1,62 @@
+// `abandon_attempt`: the submission of a live attempt is removed and retired.
+use attempt_answers::live_place;
+use attempt_answers::status_done;
+use attempt_answers::status_inactive;
+use attempt_answers::status_refused;
+use book_cells::Place;
+use book_cells::find_attempt;
+use book_cells::submitted_at;
+use book_change::remove_submitted;
+use book_change::retire;
+use book_data::BookData;
+use book_data::Token;
+use book_sound::is_sound;
+use replies::StatusReply;
+use replies::SubmissionAttemptStatus;
+ghost use Prim.Native.Nat.{_<_};
+ghost use mathlib.Core.Bool.{true};
+ghost use mathlib.Core.Path.{_≡_};
+ghost use lib.ListN.{length};
+ghost use Rattle.book_data.specs.Model.{view};
+ghost use Rattle.book_data.specs.Sound.{soundb};
+ghost use Rattle.rules.specs.Steps.{runBook};
+ghost use Rattle.rules.specs.Calls.AbandonAttempt.{abandonLive, abandonAttempt};
+ghost use Rattle.replies.specs.Reply.{outcomeOf, statusReply};
+ghost use Rattle.attempt_answers.specs.Live.{at};
+
+pub fn abandon_attempt(b: BookData, t: Token) -> StatusReply
+    ensures { λ r. ⌜ r ≡ statusReply b (outcomeOf b (abandonAttempt (t .0))) ⌝ }
+{
+    let sound = is_sound(b);
+    if !sound {
+        return status_refused(b, 1);
+    }
+    abandon_attempt_sound(b, t)
+}
+
+pub fn abandon_attempt_sound(b: BookData, t: Token) -> StatusReply
+    requires { ⌜ soundb b ≡ true ⌝ }
+    ensures { λ r. ⌜ r ≡ statusReply b (runBook (abandonAttempt (t .0)) (view b)) ⌝ }
+{
+    let place = find_attempt(b, t);
+    let live = live_place(place);
+    let Place::At(k) = live else {
+        return status_inactive(b, place);
+    };
+    abandon_live(b, k)
+}
+
+fn abandon_live(b: BookData, k: usize) -> StatusReply
+    requires { ⌜ (soundb b ≡ true) × (k < length (view b .submitted)) ⌝ }
+    ensures { λ r. ⌜ r ≡ statusReply b (runBook (abandonLive (at (view b) k)) (view b)) ⌝ }
+{
+    let s = submitted_at(b, k);
+    let id = s.entry.id;
+    let rest = remove_submitted(b, id);
+    let retired = retire(rest, id);
+    if retired.full {
+        return status_refused(b, 10);
+    }
+    let left = retired.book;
+    status_done(left, SubmissionAttemptStatus::Applied)
+}

@@ -1,0 +1,65 @@
+// `active_ids`: the ids of the Active submissions, in their order. Nothing changes.
+use book_data::BookData;
+use book_data::Ids16;
+use book_sound::is_sound;
+use ids::empty16;
+use ids::push16;
+use replies::CallAnswer;
+use replies::IdsReply;
+use retained_answers::refused_ids;
+use retained_answers::widened;
+use submitted::entry::active_entry;
+ghost use mathlib.Core.Path.{_≡_};
+ghost use mathlib.Core.Bool.{true};
+ghost use Rattle.book_data.specs.Model.{view, ids16};
+ghost use Rattle.book_data.specs.Sound.{soundb};
+ghost use Rattle.rules.specs.Steps.{runBook};
+ghost use Rattle.rules.specs.Calls.ActiveIds.{activeIds};
+ghost use Rattle.replies.specs.Reply.{outcomeOf, idsReply};
+ghost use Rattle.book_cells.specs.Normal.{Normal};
+ghost use Rattle.active_ids_call.specs.Active.{activeIn};
+
+// The ids of the Active submissions, in their order.
+fn active_in(b: BookData) -> Ids16
+    requires { ⌜ Normal b ⌝ }
+    ensures { λ r. ⌜ r ≡ ids16 (activeIn (view b .submitted)) ⌝ }
+{
+    let n = b.submitted_count;
+    let mut out = empty16();
+    let mut i = 0;
+    while i < n {
+        let t = b.submitted[i];
+        let e = t.entry;
+        if active_entry(e) {
+            let id = e.id;
+            out = push16(out, id);
+            i += 1;
+        } else {
+            i += 1;
+        }
+    }
+    out
+}
+
+pub fn active_ids(b: BookData) -> IdsReply
+    ensures { λ r. ⌜ r ≡ idsReply b (outcomeOf b activeIds) ⌝ }
+{
+    let sound = is_sound(b);
+    if !sound {
+        return refused_ids(b, 1);
+    }
+    active_ids_sound(b)
+}
+
+pub fn active_ids_sound(b: BookData) -> IdsReply
+    requires { ⌜ soundb b ≡ true ⌝ }
+    ensures { λ r. ⌜ r ≡ idsReply b (runBook activeIds (view b)) ⌝ }
+{
+    let found = active_in(b);
+    let ids = widened(found);
+    IdsReply {
+        answer: CallAnswer::Done,
+        ids: ids,
+        book: b,
+    }
+}

@@ -1,0 +1,56 @@
+-- Two changes of one submission, by id, are one store at its place.
+use Prim.Native.Nat.{ℕ, _<_}
+use mathlib.Core.Bool.{Bool, true, false}
+use mathlib.Core.List.{List, [], _∷_, map}
+use mathlib.Core.Path.{_≡_, refl, ap, _∙_}
+use lib.Dec.{eqb}
+use lib.ListN.{length, length-set}
+use Rattle.lists.specs.Lists.{distinctb}
+use Rattle.book_data.specs.Zero.{zeroSubmitted}
+use Rattle.book_data.specs.Model.{Book, view, back}
+use Rattle.book_data.specs.Sound.{idOf}
+use Rattle.book_data.specs.SoundLaws.{Fits}
+use Rattle.book_data.specs.declared.AttemptSlots.{AttemptSlots}
+use Rattle.book_data.specs.declared.SubmittedTx.{SubmittedTx}
+use Rattle.book_data.specs.declared.BookData.{BookData}
+use Rattle.rules.specs.Keyed.{change}
+use Rattle.rules.specs.Rule.{Revision}
+use Rattle.rules.specs.Steps.{withSubmitted, withEntry, withSlots, reviseBook, markBook}
+use Rattle.rules.specs.Steps.Entry.{revised}
+use Rattle.rule_laws.specs.Sound.Parts.{revised-id}
+use Rattle.book_cells.specs.Normal.{Normal, normal-of}
+use Rattle.book_cells.specs.PlaceLaws.{change-at}
+use Rattle.book_change.specs.Changes.{storedAt}
+use Rattle.attempt_answers.specs.Live.{at}
+
+-- two changes of the elements of one key are one
+module _ {A : Type 0} (key : A → ℕ) (f g : A → A) (keeps : (x : A) → key (f x) ≡ key x) where
+  pub change-twice : (i : ℕ) (xs : List A) → change key i g (change key i f xs) ≡ change key i (λ x. g (f x)) xs
+  unfolding change
+  change-twice i [] = refl
+  change-twice i (x ∷ xs) = go (eqb (key x) i) refl (change-twice i xs)
+    where
+      go : (t : Bool) → eqb (key x) i ≡ t → change key i g (change key i f xs) ≡ change key i (λ y. g (f y)) xs → change key i g (change key i f (x ∷ xs)) ≡ change key i (λ y. g (f y)) (x ∷ xs)
+      go true e ih = simp (e, keeps x, ih)
+      go false e ih = simp (e, ih)
+
+module _ (m : Book) (k : ℕ) where
+  -- facts and slots of the submission at k
+  pub revise-mark : distinctb (map idOf (m .submitted)) ≡ true → k < length (m .submitted) → (r : Revision) (g : AttemptSlots → AttemptSlots)
+      → markBook g (idOf (at m k)) (reviseBook (idOf (at m k)) r m) ≡ storedAt k (withSlots g (withEntry (revised r) (at m k))) m
+  unfolding markBook reviseBook
+  revise-mark distinct within r g =
+      ap (λ (ts : List SubmittedTx). withSubmitted ts m)
+      (change-twice idOf (withEntry (revised r)) (withSlots g) (λ t. ap (λ x. x .0) (revised-id r (t .entry))) (idOf (at m k)) (m .submitted)
+      ∙ change-at idOf (m .submitted) distinct (idOf (at m k)) k zeroSubmitted within refl (λ t. withSlots g (withEntry (revised r) t)))
+
+  stored-fits : (t : SubmittedTx) → Fits m → Fits (storedAt k t m)
+  stored-fits t f = record {
+    submitted = rw (length-set (m .submitted) k t) (f .submitted);
+    pending = f .pending;
+    retired = f .retired;
+    replayed = f .replayed;
+  }
+
+pub stored-normal : {b out : BookData} (k : ℕ) (t : SubmittedTx) → Normal b → out ≡ back (storedAt k t (view b)) → Normal out
+stored-normal {b} k t n e = normal-of (storedAt k t (view b)) e (stored-fits (view b) k t (n .fits))

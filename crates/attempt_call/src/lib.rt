@@ -1,0 +1,55 @@
+// `attempt`: the live attempt itself; a token that is not live has none.
+use attempt_answers::live_place;
+use book_cells::Place;
+use book_cells::find_attempt;
+use book_cells::submitted_at;
+use book_data::BookData;
+use book_data::OptionalAttempt;
+use book_data::Token;
+use book_sound::is_sound;
+use replies::AttemptReply;
+use replies::CallAnswer;
+use slots::filled;
+ghost use mathlib.Core.Bool.{true};
+ghost use mathlib.Core.Path.{_≡_};
+ghost use Rattle.book_data.specs.Model.{view};
+ghost use Rattle.book_data.specs.Sound.{soundb};
+ghost use Rattle.rules.specs.Steps.{runBook};
+ghost use Rattle.rules.specs.Calls.Attempt.{attempt as attemptRule};
+ghost use Rattle.replies.specs.Reply.{outcomeOf, attemptReply};
+
+pub fn attempt(b: BookData, t: Token) -> AttemptReply
+    ensures { λ r. ⌜ r ≡ attemptReply b (outcomeOf b (attemptRule (t .0))) ⌝ }
+{
+    let sound = is_sound(b);
+    if !sound {
+        return AttemptReply {
+            answer: CallAnswer::Refused(1),
+            attempt: OptionalAttempt::zero(),
+            book: b,
+        };
+    }
+    attempt_sound(b, t)
+}
+
+pub fn attempt_sound(b: BookData, t: Token) -> AttemptReply
+    requires { ⌜ soundb b ≡ true ⌝ }
+    ensures { λ r. ⌜ r ≡ attemptReply b (runBook (attemptRule (t .0)) (view b)) ⌝ }
+{
+    let place = find_attempt(b, t);
+    let live = live_place(place);
+    let Place::At(k) = live else {
+        return AttemptReply {
+            answer: CallAnswer::Done,
+            attempt: OptionalAttempt::zero(),
+            book: b,
+        };
+    };
+    let s = submitted_at(b, k);
+    let held = s.slots.active_attempt.attempt;
+    AttemptReply {
+        answer: CallAnswer::Done,
+        attempt: filled(held),
+        book: b,
+    }
+}

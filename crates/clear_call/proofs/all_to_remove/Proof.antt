@@ -1,0 +1,17 @@
+use borrow.Author.Needs.{needs}
+use mathlib.Core.List.{map}
+use Rattle.book_data.specs.Model.{view}
+use Rattle.book_data.specs.Sound.{idOf}
+use Rattle.retained_answers.specs.IdLaws.{count-is, ids-fit, rising-is}
+use Rattle.clear_call.proofs.all_to_remove.Statement.{statement}
+use Rattle.clear_call.proofs.all_to_remove.Tie as tie
+
+rising16-requires : tie.Need-rising16-requires
+rising16-requires c κs = let m = view (c .before .args .b) in
+    count-is (map idOf (m .submitted)) (c .submitted-ids .ensures) (ids-fit m (c .before .pre .fits))
+
+returns : tie.Need-returns
+returns c = rising-is (map idOf (view (c .before .before .args .b) .submitted)) (c .before .submitted-ids .ensures) (c .rising16 .ensures)
+
+pub all-to-remove-spec : {M : Type 1} → statement M
+all-to-remove-spec = tie.close (tie.spec (λ c κs. search needs) rising16-requires returns)

@@ -1,0 +1,61 @@
+// `clear_local_artifacts`: all submissions are withdrawn, the queue is emptied and the replay epoch ended.
+use book_cells::submitted_ids;
+use book_change::clear_pending;
+use book_change::set_epoch;
+use book_data::BookData;
+use book_data::Ids16;
+use book_sound::is_sound;
+use ids::rising16;
+use replay::clear;
+use replies::CallAnswer;
+use replies::DoneReply;
+use retained_answers::refused_done;
+use retained_answers::withdraw_each;
+ghost use mathlib.Core.Path.{_≡_};
+ghost use mathlib.Core.Bool.{true};
+ghost use mathlib.Core.List.{map};
+ghost use Rattle.lists.specs.Lists.{rising};
+ghost use Rattle.book_data.specs.Model.{view, ids16};
+ghost use Rattle.book_data.specs.Sound.{idOf, soundb};
+ghost use Rattle.rules.specs.Steps.{runBook};
+ghost use Rattle.rules.specs.Calls.ClearLocalArtifacts.{clearLocalArtifacts};
+ghost use Rattle.replies.specs.Reply.{outcomeOf, doneReply};
+ghost use Rattle.book_cells.specs.Normal.{Normal};
+
+// The ids of all submissions, rising.
+fn all_to_remove(b: BookData) -> Ids16
+    requires { ⌜ Normal b ⌝ }
+    ensures { λ r. ⌜ r ≡ ids16 (rising (map idOf (view b .submitted))) ⌝ }
+{
+    let held = submitted_ids(b);
+    rising16(held)
+}
+
+pub fn clear_local_artifacts(b: BookData) -> DoneReply
+    ensures { λ r. ⌜ r ≡ doneReply b (outcomeOf b clearLocalArtifacts) ⌝ }
+{
+    let sound = is_sound(b);
+    if !sound {
+        return refused_done(b, 1);
+    }
+    clear_local_artifacts_sound(b)
+}
+
+pub fn clear_local_artifacts_sound(b: BookData) -> DoneReply
+    requires { ⌜ soundb b ≡ true ⌝ }
+    ensures { λ r. ⌜ r ≡ doneReply b (runBook clearLocalArtifacts (view b)) ⌝ }
+{
+    let gone = all_to_remove(b);
+    let left = withdraw_each(b, gone);
+    let kept = left.book;
+    if left.full {
+        return refused_done(b, 10);
+    }
+    let unqueued = clear_pending(kept);
+    let none = clear();
+    let cleared = set_epoch(unqueued, none);
+    DoneReply {
+        answer: CallAnswer::Done,
+        book: cleared,
+    }
+}

@@ -1,0 +1,82 @@
+// `queue_fee_readiness`: the submissions that are Active and whose fee is unresolved are offered again.
+use book_cells::submitted_at;
+use book_data::BookData;
+use book_data::DeliveryTrigger;
+use book_data::SubmittedTx;
+use book_sound::is_sound;
+use offering::Offered;
+use offering::goal_for;
+use offering::offer;
+use offering::refused;
+use offering::settled;
+use replies::DoneReply;
+use submitted::entry::active_entry;
+use submitted::entry::fee_unresolved;
+ghost use mathlib.Core.Bool.{true};
+ghost use mathlib.Core.Path.{_≡_};
+ghost use Rattle.book_data.specs.Model.{view};
+ghost use Rattle.book_data.specs.Sound.{soundb};
+ghost use Rattle.rules.specs.Call.{noValue};
+ghost use Rattle.rules.specs.Steps.{runBook};
+ghost use Rattle.rules.specs.Calls.QueueFeeReadiness.{queueFeeReadiness};
+ghost use Rattle.replies.specs.Reply.{outcomeOf, doneReply};
+ghost use Rattle.offering.specs.Ends.{Ends};
+ghost use Rattle.fee_readiness_call.specs.Readiness.{readyOne};
+
+// One submission: Active and with an unresolved fee, or left alone.
+fn offer_ready(b: BookData, t: SubmittedTx) -> Offered
+    requires { ⌜ soundb b ≡ true ⌝ }
+    ensures { λ r. ⌜ Ends tt (r .full) (r .book) (runBook (readyOne t) (view b)) ⌝ }
+{
+    let e = t.entry;
+    let active = active_entry(e);
+    let unresolved = fee_unresolved(e);
+    if active & unresolved {
+        let id = e.id;
+        return offer(b, id, DeliveryTrigger::ProviderReadiness, goal_for(e));
+    }
+    Offered {
+        full: false,
+        book: b,
+    }
+}
+
+// The submissions of b in their order.
+fn offer_all_ready(b: BookData) -> Offered
+    requires { ⌜ soundb b ≡ true ⌝ }
+    ensures { λ r. ⌜ Ends noValue (r .full) (r .book) (runBook queueFeeReadiness (view b)) ⌝ }
+{
+    let n = b.submitted_count;
+    let mut out = b;
+    let mut i = 0;
+    while i < n {
+        let next = offer_ready(out, submitted_at(b, i));
+        if next.full {
+            return next;
+        }
+        let left = next.book;
+        out = left;
+        i += 1;
+    }
+    Offered {
+        full: false,
+        book: out,
+    }
+}
+
+pub fn queue_fee_readiness(b: BookData) -> DoneReply
+    ensures { λ r. ⌜ r ≡ doneReply b (outcomeOf b queueFeeReadiness) ⌝ }
+{
+    let sound = is_sound(b);
+    if !sound {
+        return refused(b, 1);
+    }
+    queue_fee_readiness_sound(b)
+}
+
+pub fn queue_fee_readiness_sound(b: BookData) -> DoneReply
+    requires { ⌜ soundb b ≡ true ⌝ }
+    ensures { λ r. ⌜ r ≡ doneReply b (runBook queueFeeReadiness (view b)) ⌝ }
+{
+    settled(b, offer_all_ready(b))
+}

@@ -1,0 +1,3 @@
+pub mod Ends
+pub mod OfferLaws
+pub mod Each

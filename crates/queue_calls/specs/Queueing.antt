@@ -1,0 +1,36 @@
+-- What the rules of the two calls come to, by the tests of the code.
+use Prim.Native.Nat.{ℕ}
+use mathlib.Core.Bool.{Bool, true, false, cond}
+use mathlib.Core.Path.{_≡_, ap}
+use Rattle.book_data.specs.declared.BookData.{BookData}
+use Rattle.book_data.specs.declared.DeliveryTrigger.{DeliveryTrigger}
+use Rattle.book_data.specs.declared.PendingDelivery.{PendingDelivery}
+use Rattle.book_data.specs.declared.SubmissionDeliveryGoal.{SubmissionDeliveryGoal}
+use Rattle.book_data.specs.Model.{Book}
+use Rattle.book_data.specs.Sound.{soundDelivery}
+use Rattle.rules.specs.Call.{noValue}
+use Rattle.rules.specs.Rule.{done, undo, enqueue, note, step, turn, _>>=_, undone, run}
+use Rattle.rules.specs.Steps.{runBook}
+use Rattle.rules.specs.Calls.Offer.{offer}
+use Rattle.rules.specs.Calls.Queue.{queue}
+use Rattle.rules.specs.Calls.QueueRetainedDelivery.{queueRetainedDelivery}
+use Rattle.offering.specs.Ends.{Ends, ends-as, ends-then}
+
+-- ---- queue
+module _ (d : PendingDelivery) (m : Book) where
+  pub queue-damaged : soundDelivery d ≡ false → runBook (queue d) m ≡ undone 3
+  unfolding queue run
+  queue-damaged e = ap (λ (t : Bool). runBook (cond t (step (note (enqueue d)) >>= (λ _. turn (done noValue))) (undo 3)) m) e
+
+  pub queue-taken : (t : Bool) (q : BookData) → soundDelivery d ≡ true → Ends tt t q (runBook (step (note (enqueue d))) m) → Ends noValue t q (runBook (queue d) m)
+  unfolding queue
+  queue-taken t q e h =
+      ends-as noValue q (runBook (step (note (enqueue d)) >>= (λ _. turn (done noValue))) m) t
+      (ap (λ (t : Bool). runBook (cond t (step (note (enqueue d)) >>= (λ _. turn (done noValue))) (undo 3)) m) e)
+      (ends-then tt noValue t q (step (note (enqueue d))) m h)
+
+-- ---- queue_retained_delivery
+pub retained-taken : (i : ℕ) (trigger : DeliveryTrigger) (g : SubmissionDeliveryGoal) (m : Book) (t : Bool) (q : BookData)
+    → Ends tt t q (runBook (offer i trigger g) m) → Ends noValue t q (runBook (queueRetainedDelivery i trigger g) m)
+unfolding queueRetainedDelivery
+retained-taken i trigger g m t q h = ends-then tt noValue t q (offer i trigger g) m h

@@ -1,0 +1,56 @@
+// `relinquish_completed_attempt`: nothing changes.
+use attempt_answers::is_never_issued;
+use attempt_answers::status_done;
+use attempt_answers::status_refused;
+use book_cells::AttemptPlace;
+use book_cells::find_attempt;
+use book_data::BookData;
+use book_data::Token;
+use book_sound::is_sound;
+use replies::StatusReply;
+use replies::SubmissionAttemptStatus;
+ghost use mathlib.Core.Bool.{true};
+ghost use mathlib.Core.Path.{_≡_};
+ghost use Rattle.book_data.specs.Model.{view};
+ghost use Rattle.book_data.specs.Sound.{soundb};
+ghost use Rattle.rules.specs.Steps.{runBook};
+ghost use Rattle.rules.specs.Calls.RelinquishCompletedAttempt.{relinquishCompletedAttempt};
+ghost use Rattle.replies.specs.Reply.{outcomeOf, statusReply};
+ghost use Rattle.relinquish_call.specs.Relinquishing.{isSetAside};
+
+pub fn relinquish_completed_attempt(b: BookData, t: Token) -> StatusReply
+    ensures { λ r. ⌜ r ≡ statusReply b (outcomeOf b (relinquishCompletedAttempt (t .0))) ⌝ }
+{
+    let sound = is_sound(b);
+    if !sound {
+        return status_refused(b, 1);
+    }
+    relinquish_completed_attempt_sound(b, t)
+}
+
+pub fn relinquish_completed_attempt_sound(b: BookData, t: Token) -> StatusReply
+    requires { ⌜ soundb b ≡ true ⌝ }
+    ensures { λ r. ⌜ r ≡ statusReply b (runBook (relinquishCompletedAttempt (t .0)) (view b)) ⌝ }
+{
+    let place = find_attempt(b, t);
+    let unknown = is_never_issued(place);
+    if unknown {
+        return status_refused(b, 4);
+    }
+    let aside = is_set_aside(place);
+    if aside {
+        return status_done(b, SubmissionAttemptStatus::Applied);
+    }
+    status_done(b, SubmissionAttemptStatus::Stale)
+}
+
+fn is_set_aside(p: AttemptPlace) -> bool
+    ensures { λ r. ⌜ r ≡ isSetAside p ⌝ }
+{
+    match p {
+        AttemptPlace::Live(_) => false,
+        AttemptPlace::SetAside(_) => true,
+        AttemptPlace::Gone => false,
+        AttemptPlace::NeverIssued => false,
+    }
+}

@@ -1,0 +1,61 @@
+// `retain_submitted`: the submissions whose ids are named are withdrawn, and their ids answered, rising.
+use book_cells::submitted_ids;
+use book_data::BookData;
+use book_data::Ids16;
+use book_sound::is_sound;
+use ids::among16;
+use ids::rising16;
+use replies::CallAnswer;
+use replies::IdsReply;
+use retained_answers::refused_ids;
+use retained_answers::widened;
+use retained_answers::withdraw_each;
+ghost use mathlib.Core.Path.{_≡_};
+ghost use mathlib.Core.Bool.{true};
+ghost use Rattle.book_data.specs.Model.{view, ids16};
+ghost use Rattle.book_data.specs.Sound.{soundb};
+ghost use Rattle.rules.specs.Steps.{runBook};
+ghost use Rattle.rules.specs.Calls.RetainSubmitted.{toRemove, retainSubmitted};
+ghost use Rattle.replies.specs.Reply.{outcomeOf, idsReply};
+ghost use Rattle.book_cells.specs.Normal.{Normal};
+
+// The ids of the submissions that are among those of a list, rising.
+fn to_remove(b: BookData, ids: &[u64]) -> Ids16
+    requires { ⌜ Normal b ⌝ }
+    ensures { λ r. ⌜ r ≡ ids16 (toRemove (now (ids .entry)) (view b)) ⌝ }
+{
+    let held = submitted_ids(b);
+    let gone = among16(held, ids);
+    rising16(gone)
+}
+
+pub fn retain_submitted(b: BookData, ids: &[u64]) -> IdsReply
+    ensures { λ r. ⌜ r ≡ idsReply b (outcomeOf b (retainSubmitted (now (ids .entry)))) ⌝ }
+{
+    let sound = is_sound(b);
+    if !sound {
+        return refused_ids(b, 1);
+    }
+    retain_submitted_sound(b, ids)
+}
+
+pub fn retain_submitted_sound(b: BookData, ids: &[u64]) -> IdsReply
+    requires { ⌜ soundb b ≡ true ⌝ }
+    ensures { λ r. ⌜ r ≡ idsReply b (runBook (retainSubmitted (now (ids .entry))) (view b)) ⌝ }
+{
+    if 64 < ids.len() {
+        return refused_ids(b, 2);
+    }
+    let gone = to_remove(b, ids);
+    let left = withdraw_each(b, gone);
+    let out = left.book;
+    if left.full {
+        return refused_ids(b, 10);
+    }
+    let answered = widened(gone);
+    IdsReply {
+        answer: CallAnswer::Done,
+        ids: answered,
+        book: out,
+    }
+}

@@ -1,0 +1,4 @@
+pub mod Withdrawal
+pub mod IdLaws
+pub mod WithdrawLaws
+pub mod After

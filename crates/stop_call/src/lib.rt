@@ -1,0 +1,60 @@
+// `stop_attempt`: the live attempt is set aside.
+use attempt_answers::live_place;
+use attempt_answers::status_done;
+use attempt_answers::status_inactive;
+use attempt_answers::status_refused;
+use book_cells::Place;
+use book_cells::find_attempt;
+use book_cells::submitted_at;
+use book_change::store_submitted;
+use book_data::BookData;
+use book_data::Token;
+use book_sound::is_sound;
+use replies::StatusReply;
+use replies::SubmissionAttemptStatus;
+use slots::stopped;
+ghost use Prim.Native.Nat.{_<_};
+ghost use mathlib.Core.Bool.{true};
+ghost use mathlib.Core.Path.{_≡_};
+ghost use lib.ListN.{length};
+ghost use Rattle.book_data.specs.Model.{view};
+ghost use Rattle.book_data.specs.Sound.{soundb};
+ghost use Rattle.rules.specs.Steps.{runBook};
+ghost use Rattle.rules.specs.Calls.StopAttempt.{stopLive, stopAttempt};
+ghost use Rattle.replies.specs.Reply.{outcomeOf, statusReply};
+ghost use Rattle.attempt_answers.specs.Live.{at};
+
+pub fn stop_attempt(b: BookData, t: Token) -> StatusReply
+    ensures { λ r. ⌜ r ≡ statusReply b (outcomeOf b (stopAttempt (t .0))) ⌝ }
+{
+    let sound = is_sound(b);
+    if !sound {
+        return status_refused(b, 1);
+    }
+    stop_attempt_sound(b, t)
+}
+
+pub fn stop_attempt_sound(b: BookData, t: Token) -> StatusReply
+    requires { ⌜ soundb b ≡ true ⌝ }
+    ensures { λ r. ⌜ r ≡ statusReply b (runBook (stopAttempt (t .0)) (view b)) ⌝ }
+{
+    let place = find_attempt(b, t);
+    let live = live_place(place);
+    let Place::At(k) = live else {
+        return status_inactive(b, place);
+    };
+    stop_live(b, k)
+}
+
+fn stop_live(b: BookData, k: usize) -> StatusReply
+    requires { ⌜ (soundb b ≡ true) × (k < length (view b .submitted)) ⌝ }
+    ensures { λ r. ⌜ r ≡ statusReply b (runBook (stopLive (at (view b) k)) (view b)) ⌝ }
+{
+    let s = submitted_at(b, k);
+    let old = s.slots;
+    let slots = stopped(old);
+    let mut next = s;
+    next.slots = slots;
+    let out = store_submitted(b, k, next);
+    status_done(out, SubmissionAttemptStatus::Applied)
+}
