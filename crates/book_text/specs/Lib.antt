@@ -1,0 +1,4 @@
+pub mod Words
+pub mod Coins
+pub mod Bundles
+pub mod Entries
