@@ -67,7 +67,7 @@
 #define SUBMISSION_BOOK_INPUT_COINS_BYTES 4738
 #define SUBMISSION_BOOK_ABSENT_OUTPUTS_BYTES 18946
 
-/* stack of one call; the largest measured (tests/c_api/stack.c) is about 967,000 */
+/* stack of one call; the largest measured (tests/c_api/stack.c) is 908,375 */
 #define SUBMISSION_BOOK_STACK_BYTES 1000000
 
 /* ---- limits */
