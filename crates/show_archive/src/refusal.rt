@@ -1,5 +1,4 @@
 // Why bytes are no archive: the reader's place, what is expected there, and what stands there.
-use crate::dump::say;
 use answers::part::append_bytes;
 use archive_items::Item;
 use archive_items::Position;
@@ -10,6 +9,7 @@ use archive_items::words::append_form;
 use archive_items::words::append_rule;
 use archive_items::words::append_where;
 use archive_items::words::form_of;
+use book_report::say;
 use text::append_decimal;
 use text::append_number_line;
 use wire_bytes::read::read_number;
