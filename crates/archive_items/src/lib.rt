@@ -1,6 +1,5 @@
 // The items of an archive in their order (docs/ARCHIVE.md), and which of them starts at a place.
 pub mod order;
-pub mod words;
 
 pub enum Item {
     NumbersCount,

@@ -1,15 +1,8 @@
 // The bytes in hexadecimal, 16 to a line.
 use answers::part::append_bytes;
+use book_report::say;
 use libc::STDOUT_FILENO;
 use text::append_spaced_hex;
-
-// Writes the first n bytes.
-pub fn say(out: &[u8], n: usize) {
-    if out.len() < n {
-        return;
-    }
-    io::write_all(STDOUT_FILENO, &out[0..n]);
-}
 
 // The last five digits of an offset.
 fn append_offset(out: &mut [u8], at: usize, n: usize) -> usize {

@@ -3,7 +3,6 @@
 mod dump;
 mod input;
 mod refusal;
-mod report;
 
 use libc::STDOUT_FILENO;
 
@@ -13,7 +12,7 @@ fn show(s: &[u8], more: bool, hex: bool) {
     let ok = r.ok;
     if ok {
         let book = r.book;
-        report::show_book(s.len(), book);
+        book_report::show_book(s.len(), book);
     } else {
         refusal::show_refusal(s, r.place, more);
     }

@@ -1,15 +1,15 @@
 // Why bytes are no archive: the reader's place, what is expected there, and what stands there.
-use crate::dump::say;
 use answers::part::append_bytes;
 use archive_items::Item;
 use archive_items::Position;
 use archive_items::order::item_at;
 use archive_items::order::size;
-use archive_items::words::Form;
-use archive_items::words::append_form;
-use archive_items::words::append_rule;
-use archive_items::words::append_where;
-use archive_items::words::form_of;
+use book_report::say;
+use item_words::Form;
+use item_words::append_form;
+use item_words::append_rule;
+use item_words::append_where;
+use item_words::form_of;
 use text::append_decimal;
 use text::append_number_line;
 use wire_bytes::read::read_number;

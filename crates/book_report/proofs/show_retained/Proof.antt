@@ -4,11 +4,11 @@ use mathlib.Core.Path.{_≡_, refl, sym, ap, _∙_, subst}
 use mathlib.Core.List.{List, [], _∷_, _++_}
 use Prim.Native.Nat.{ℕ, zero, suc, _+_, _-_, _*_, _/_, _%_, _^_, _≤_, _<_}
 use lib.ListN.{length, getD, take, drop, set}
-use Rattle.show_archive.proofs.report.show_retained.Statement.{statement}
-use Rattle.show_archive.proofs.report.show_retained.Tie as tie
-use Rattle.show_archive.proofs.report.show_retained.Reads as reads
-use Rattle.show_archive.proofs.report.show_retained.Lts as lts
-use Rattle.show_archive.proofs.report.show_submission.Reads as show-submission-reads
+use Rattle.book_report.proofs.show_retained.Statement.{statement}
+use Rattle.book_report.proofs.show_retained.Tie as tie
+use Rattle.book_report.proofs.show_retained.Reads as reads
+use Rattle.book_report.proofs.show_retained.Lts as lts
+use Rattle.book_report.proofs.show_submission.Reads as show-submission-reads
 use Rattle.spend_write.proofs.write.at_most.Reads as at-most-reads
 
 abbrev Inv-loop : tie.InvT-loop

@@ -1,8 +1,8 @@
 // An item in words: what is expected of it, where it is, and its form.
-use crate::Item;
-use crate::Position;
-use crate::Within;
 use answers::part::append_bytes;
+use archive_items::Item;
+use archive_items::Position;
+use archive_items::Within;
 use text::append_decimal;
 
 // What a count, kind or mark must be.

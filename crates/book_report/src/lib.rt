@@ -1,6 +1,5 @@
-// The book as text, section by section.
+// A book as text on standard output, section by section.
 ghost use Prim.Native.Nat.{_≤_};
-use crate::dump::say;
 use answers::part::append_bytes;
 use book_data::BookData;
 use book_data::Ids64;
@@ -16,7 +15,15 @@ use libc::STDOUT_FILENO;
 use spend_write::write::at_most;
 use text::append_number_line;
 
-pub fn show_number(label: &[u8], n: u64) {
+// Writes the first n bytes.
+pub fn say(out: &[u8], n: usize) {
+    if out.len() < n {
+        return;
+    }
+    io::write_all(STDOUT_FILENO, &out[0..n]);
+}
+
+fn show_number(label: &[u8], n: u64) {
     let mut out = [0u8; 256];
     let e = append_number_line(&mut out, 0, label, n);
     say(&out, e);
