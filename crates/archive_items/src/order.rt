@@ -153,6 +153,14 @@ fn after_bundle_byte(p: Position, v: u8) -> Position {
     }
 }
 
+// Behind a fee intent's kind.
+fn after_kind(w: Within, v: u8) -> Position {
+    if v == 2 {
+        return at_item(Item::FeeTarget, w);
+    }
+    after_fee_intent(w)
+}
+
 // Behind the mark of an optional part of an entry, or a fee intent's kind.
 fn after_mark(p: Position, v: u8) -> Position {
     let item = p.item;
@@ -189,11 +197,7 @@ fn after_mark(p: Position, v: u8) -> Position {
         } else {
             at_item(Item::QueueId, w)
         },
-        _ => if v == 2 {
-            at_item(Item::FeeTarget, w)
-        } else {
-            after_fee_intent(w)
-        },
+        _ => after_kind(w, v),
     }
 }
 

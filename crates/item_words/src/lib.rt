@@ -5,8 +5,8 @@ use archive_items::Position;
 use archive_items::Within;
 use text::append_decimal;
 
-// What a count, kind or mark must be.
-fn append_byte_rule(out: &mut [u8], at: usize, item: Item) -> usize {
+// What a count must be.
+fn append_count_rule(out: &mut [u8], at: usize, item: Item) -> usize {
     match item {
         Item::NumbersCount => append_bytes(out, at, b"the count of numbers must be 2"),
         Item::RetainedCount => append_bytes(
@@ -14,28 +14,61 @@ fn append_byte_rule(out: &mut [u8], at: usize, item: Item) -> usize {
             at,
             b"the count of retained submissions must be 0 to 16",
         ),
+        Item::BundleCount => append_bytes(out, at, b"the count of spends must be 0 to 4"),
+        Item::CoinLength => append_bytes(out, at, b"the length of the coin string must be 0 to 73"),
+        Item::OutputCount => append_bytes(out, at, b"the count of outputs must be 0 to 4"),
+        Item::QueueCount => append_bytes(out, at, b"the count of queue entries must be 0 to 16"),
+        Item::RetirementCount => append_bytes(out, at, b"the count of retirements must be 0 to 64"),
+        Item::RollbackMark => append_bytes(
+            out,
+            at,
+            b"the count of rollback heights must be 0 or 1",
+        ),
+        _ => append_bytes(out, at, b"the count of replayed ids must be 0 to 16"),
+    }
+}
+
+// What the mark of an optional part must be, or else a count.
+fn append_mark_rule(out: &mut [u8], at: usize, item: Item) -> usize {
+    match item {
         Item::AttemptMark => append_bytes(
             out,
             at,
             b"the mark of the attempt must be 0 (none) or 1",
-        ),
-        Item::AttemptGoal => append_bytes(
-            out,
-            at,
-            b"the goal must be 0 (EnsureBroadcast) or 1 (FeeUpgrade)",
         ),
         Item::FinalizedMark => append_bytes(
             out,
             at,
             b"the mark of the finalised fingerprint must be 0 (none) or 1",
         ),
-        Item::BundleCount => append_bytes(out, at, b"the count of spends must be 0 to 4"),
-        Item::CoinLength => append_bytes(out, at, b"the length of the coin string must be 0 to 73"),
-        Item::OutputCount => append_bytes(out, at, b"the count of outputs must be 0 to 4"),
         Item::FeeBundleMark => append_bytes(
             out,
             at,
             b"the mark of the fee bundle must be 0 (none) or 1",
+        ),
+        Item::AcknowledgedMark => append_bytes(
+            out,
+            at,
+            b"the mark of the acknowledged fingerprint must be 0 (none) or 1",
+        ),
+        Item::ExpiryMark => append_bytes(out, at, b"the mark of the expiry must be 0 (none) or 1"),
+        Item::QueueIdMark => append_bytes(out, at, b"the mark of the id must be 0 (none) or 1"),
+        _ => append_count_rule(out, at, item),
+    }
+}
+
+// What a kind must be, or else a mark or a count.
+fn append_byte_rule(out: &mut [u8], at: usize, item: Item) -> usize {
+    match item {
+        Item::AttemptGoal => append_bytes(
+            out,
+            at,
+            b"the goal must be 0 (EnsureBroadcast) or 1 (FeeUpgrade)",
+        ),
+        Item::QueueGoal => append_bytes(
+            out,
+            at,
+            b"the goal must be 0 (EnsureBroadcast) or 1 (FeeUpgrade)",
         ),
         Item::DurableMark => append_bytes(
             out,
@@ -47,36 +80,17 @@ fn append_byte_rule(out: &mut [u8], at: usize, item: Item) -> usize {
             at,
             b"the kind of the fee intent must be 0 (AlreadyPaid), 1 (NoFeeConfigured) or 2 (Attach)",
         ),
-        Item::AcknowledgedMark => append_bytes(
-            out,
-            at,
-            b"the mark of the acknowledged fingerprint must be 0 (none) or 1",
-        ),
         Item::Chain => append_bytes(
             out,
             at,
             b"the chain state must be 0 (Active), 1 (InputSpent) or 2 (Landed)",
         ),
-        Item::ExpiryMark => append_bytes(out, at, b"the mark of the expiry must be 0 (none) or 1"),
-        Item::QueueCount => append_bytes(out, at, b"the count of queue entries must be 0 to 16"),
-        Item::QueueIdMark => append_bytes(out, at, b"the mark of the id must be 0 (none) or 1"),
         Item::Trigger => append_bytes(
             out,
             at,
             b"the trigger must be 0 (Protocol), 1 (FreshChain), 2 (Rollback) or 3 (ProviderReadiness)",
         ),
-        Item::QueueGoal => append_bytes(
-            out,
-            at,
-            b"the goal must be 0 (EnsureBroadcast) or 1 (FeeUpgrade)",
-        ),
-        Item::RetirementCount => append_bytes(out, at, b"the count of retirements must be 0 to 64"),
-        Item::RollbackMark => append_bytes(
-            out,
-            at,
-            b"the count of rollback heights must be 0 or 1",
-        ),
-        _ => append_bytes(out, at, b"the count of replayed ids must be 0 to 16"),
+        _ => append_mark_rule(out, at, item),
     }
 }
 
