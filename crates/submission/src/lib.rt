@@ -251,24 +251,21 @@ impl SubmissionBook {
     pub fn queue(self, d: PendingDelivery) -> DoneAnswer
         ensures { λ r. ⌜ r ≡ doneAnswer self (Queue d) ⌝ }
     {
-        let parts = self.parts;
-        let r = queue_calls::queue(parts, d);
+        let r = queue_calls::queue(self.parts, d);
         done_answer(r)
     }
 
     pub fn queue_rebroadcast_epoch(self, ids: &[u64], trigger: DeliveryTrigger) -> DoneAnswer
         ensures { λ r. ⌜ r ≡ doneAnswer self (QueueRebroadcastEpoch (now (ids .entry)) trigger) ⌝ }
     {
-        let parts = self.parts;
-        let r = rebroadcast_call::queue_rebroadcast_epoch(parts, ids, trigger);
+        let r = rebroadcast_call::queue_rebroadcast_epoch(self.parts, ids, trigger);
         done_answer(r)
     }
 
     pub fn queue_fee_readiness(self) -> DoneAnswer
         ensures { λ r. ⌜ r ≡ doneAnswer self QueueFeeReadiness ⌝ }
     {
-        let parts = self.parts;
-        let r = fee_readiness_call::queue_fee_readiness(parts);
+        let r = fee_readiness_call::queue_fee_readiness(self.parts);
         done_answer(r)
     }
 
@@ -280,16 +277,14 @@ impl SubmissionBook {
     ) -> DoneAnswer
         ensures { λ r. ⌜ r ≡ doneAnswer self (QueueRetainedDelivery (id .0) trigger goal) ⌝ }
     {
-        let parts = self.parts;
-        let r = queue_calls::queue_retained_delivery(parts, id, trigger, goal);
+        let r = queue_calls::queue_retained_delivery(self.parts, id, trigger, goal);
         done_answer(r)
     }
 
     pub fn drain(self) -> DrainAnswer
         ensures { λ r. ⌜ r ≡ drainAnswer self Drain ⌝ }
     {
-        let parts = self.parts;
-        let r = drain::drain(parts);
+        let r = drain::drain(self.parts);
         drain_answer(r)
     }
 
@@ -301,112 +296,98 @@ impl SubmissionBook {
     ) -> FinalizeAnswer
         ensures { λ r. ⌜ r ≡ finalizeAnswer self (FinalizeAttempt (token .0) (sourceOf source) joined) ⌝ }
     {
-        let parts = self.parts;
-        let r = finalize_call::finalize_attempt(parts, token, source, joined);
+        let r = finalize_call::finalize_attempt(self.parts, token, source, joined);
         finalize_answer(r)
     }
 
     pub fn fee_intent_for_attempt(self, token: Token) -> FeeIntentAnswer
         ensures { λ r. ⌜ r ≡ feeIntentAnswer self (FeeIntentForAttempt (token .0)) ⌝ }
     {
-        let parts = self.parts;
-        let r = fee_intent_call::fee_intent_for_attempt(parts, token);
+        let r = fee_intent_call::fee_intent_for_attempt(self.parts, token);
         fee_intent_answer(r)
     }
 
     pub fn acknowledge_attempt(self, token: Token) -> StatusAnswer
         ensures { λ r. ⌜ r ≡ statusAnswer self (AcknowledgeAttempt (token .0)) ⌝ }
     {
-        let parts = self.parts;
-        let r = acknowledge_call::acknowledge_attempt(parts, token);
+        let r = acknowledge_call::acknowledge_attempt(self.parts, token);
         status_answer(r)
     }
 
     pub fn stop_attempt(self, token: Token) -> StatusAnswer
         ensures { λ r. ⌜ r ≡ statusAnswer self (StopAttempt (token .0)) ⌝ }
     {
-        let parts = self.parts;
-        let r = stop_call::stop_attempt(parts, token);
+        let r = stop_call::stop_attempt(self.parts, token);
         status_answer(r)
     }
 
     pub fn abandon_attempt(self, token: Token) -> StatusAnswer
         ensures { λ r. ⌜ r ≡ statusAnswer self (AbandonAttempt (token .0)) ⌝ }
     {
-        let parts = self.parts;
-        let r = abandon_call::abandon_attempt(parts, token);
+        let r = abandon_call::abandon_attempt(self.parts, token);
         status_answer(r)
     }
 
     pub fn relinquish_completed_attempt(self, token: Token) -> StatusAnswer
         ensures { λ r. ⌜ r ≡ statusAnswer self (RelinquishCompletedAttempt (token .0)) ⌝ }
     {
-        let parts = self.parts;
-        let r = relinquish_call::relinquish_completed_attempt(parts, token);
+        let r = relinquish_call::relinquish_completed_attempt(self.parts, token);
         status_answer(r)
     }
 
     pub fn attempt(self, token: Token) -> AttemptAnswer
         ensures { λ r. ⌜ r ≡ attemptAnswer self (Attempt (token .0)) ⌝ }
     {
-        let parts = self.parts;
-        let r = attempt_call::attempt(parts, token);
+        let r = attempt_call::attempt(self.parts, token);
         attempt_answer(r)
     }
 
     pub fn retain_submitted(self, ids: &[u64]) -> IdsAnswer
         ensures { λ r. ⌜ r ≡ idsAnswer self (RetainSubmitted (now (ids .entry))) ⌝ }
     {
-        let parts = self.parts;
-        let r = retain_call::retain_submitted(parts, ids);
+        let r = retain_call::retain_submitted(self.parts, ids);
         ids_answer(r)
     }
 
     pub fn emit_retirement(self, id: SubmissionId) -> DoneAnswer
         ensures { λ r. ⌜ r ≡ doneAnswer self (EmitRetirement (id .0)) ⌝ }
     {
-        let parts = self.parts;
-        let r = replay_calls::emit_retirement(parts, id);
+        let r = replay_calls::emit_retirement(self.parts, id);
         done_answer(r)
     }
 
     pub fn drain_retirements(self) -> IdsAnswer
         ensures { λ r. ⌜ r ≡ idsAnswer self DrainRetirements ⌝ }
     {
-        let parts = self.parts;
-        let r = replay_calls::drain_retirements(parts);
+        let r = replay_calls::drain_retirements(self.parts);
         ids_answer(r)
     }
 
     pub fn active_ids(self) -> IdsAnswer
         ensures { λ r. ⌜ r ≡ idsAnswer self ActiveIds ⌝ }
     {
-        let parts = self.parts;
-        let r = active_ids_call::active_ids(parts);
+        let r = active_ids_call::active_ids(self.parts);
         ids_answer(r)
     }
 
     pub fn begin_replay(self, height: Height) -> FlagAnswer
         ensures { λ r. ⌜ r ≡ flagAnswer self (BeginReplay height) ⌝ }
     {
-        let parts = self.parts;
-        let r = replay_calls::begin_replay(parts, height);
+        let r = replay_calls::begin_replay(self.parts, height);
         flag_answer(r)
     }
 
     pub fn finish_replay_if_advanced(self, height: Height) -> DoneAnswer
         ensures { λ r. ⌜ r ≡ doneAnswer self (FinishReplayIfAdvanced height) ⌝ }
     {
-        let parts = self.parts;
-        let r = replay_calls::finish_replay_if_advanced(parts, height);
+        let r = replay_calls::finish_replay_if_advanced(self.parts, height);
         done_answer(r)
     }
 
     pub fn replay_rollback_height(self) -> HeightAnswer
         ensures { λ r. ⌜ r ≡ heightAnswer self ReplayRollbackHeight ⌝ }
     {
-        let parts = self.parts;
-        let r = replay_calls::replay_rollback_height(parts);
+        let r = replay_calls::replay_rollback_height(self.parts);
         height_answer(r)
     }
 
@@ -419,9 +400,8 @@ impl SubmissionBook {
     ) -> DoneAnswer
         ensures { λ r. ⌜ r ≡ doneAnswer self (ReconcileChainTerminality (now (observed .entry)) (now (spent .entry)) reorg (now («rolled_back» .entry))) ⌝ }
     {
-        let parts = self.parts;
         let r = chain_calls::reconcile_chain_terminality(
-            parts,
+            self.parts,
             observed,
             spent,
             reorg,
@@ -433,56 +413,49 @@ impl SubmissionBook {
     pub fn causally_rolled_back_ids(self, absent: &[u8], inputs: &[u8]) -> IdsAnswer
         ensures { λ r. ⌜ r ≡ idsAnswer self (CausallyRolledBackIds (now (absent .entry)) (now (inputs .entry))) ⌝ }
     {
-        let parts = self.parts;
-        let r = chain_calls::causally_rolled_back_ids(parts, absent, inputs);
+        let r = chain_calls::causally_rolled_back_ids(self.parts, absent, inputs);
         ids_answer(r)
     }
 
     pub fn collect_rollback_replay_ids(self, ids: &[u64]) -> DoneAnswer
         ensures { λ r. ⌜ r ≡ doneAnswer self (CollectRollbackReplayIds (now (ids .entry))) ⌝ }
     {
-        let parts = self.parts;
-        let r = replay_queue::collect_rollback_replay_ids(parts, ids);
+        let r = replay_queue::collect_rollback_replay_ids(self.parts, ids);
         done_answer(r)
     }
 
     pub fn clear_local_artifacts(self) -> DoneAnswer
         ensures { λ r. ⌜ r ≡ doneAnswer self ClearLocalArtifacts ⌝ }
     {
-        let parts = self.parts;
-        let r = clear_call::clear_local_artifacts(parts);
+        let r = clear_call::clear_local_artifacts(self.parts);
         done_answer(r)
     }
 
     pub fn restore_runtime(self) -> DoneAnswer
         ensures { λ r. ⌜ r ≡ doneAnswer self RestoreRuntime ⌝ }
     {
-        let parts = self.parts;
-        let r = restore_call::restore_runtime(parts);
+        let r = restore_call::restore_runtime(self.parts);
         done_answer(r)
     }
 
     pub fn reconciliation_input_coins(self, outputs: &[u8], out: &mut [u8]) -> WrittenAnswer
         ensures { λ r. ⌜ (r ≡ writtenAnswer self (ReconciliationInputCoins (now (outputs .entry)) (length (now (out .entry))))) × (now (out .exit) ≡ bufferAfter self (ReconciliationInputCoins (now (outputs .entry)) (length (now (out .entry)))) (now (out .entry))) ⌝ }
     {
-        let parts = self.parts;
-        let r = coin_calls::reconciliation_input_coins(parts, outputs, out);
+        let r = coin_calls::reconciliation_input_coins(self.parts, outputs, out);
         written_answer(r)
     }
 
     pub fn absent_outputs_for_ids(self, ids: &[u64], absent: &[u8], out: &mut [u8]) -> WrittenAnswer
         ensures { λ r. ⌜ (r ≡ writtenAnswer self (AbsentOutputsForIds (now (ids .entry)) (now (absent .entry)) (length (now (out .entry))))) × (now (out .exit) ≡ bufferAfter self (AbsentOutputsForIds (now (ids .entry)) (now (absent .entry)) (length (now (out .entry)))) (now (out .entry))) ⌝ }
     {
-        let parts = self.parts;
-        let r = coin_calls::absent_outputs_for_ids(parts, ids, absent, out);
+        let r = coin_calls::absent_outputs_for_ids(self.parts, ids, absent, out);
         written_answer(r)
     }
 
     pub fn write_archive(self, out: &mut [u8]) -> WrittenAnswer
         ensures { λ r. ⌜ (r ≡ writtenAnswer self (WriteArchive (length (now (out .entry))))) × (now (out .exit) ≡ bufferAfter self (WriteArchive (length (now (out .entry)))) (now (out .entry))) ⌝ }
     {
-        let parts = self.parts;
-        let r = coin_calls::write_archive(parts, out);
+        let r = coin_calls::write_archive(self.parts, out);
         written_answer(r)
     }
 }
