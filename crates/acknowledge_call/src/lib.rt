@@ -5,7 +5,6 @@ use attempt_answers::status_inactive;
 use attempt_answers::status_refused;
 use book_cells::Place;
 use book_cells::find_attempt;
-use book_cells::submitted_at;
 use book_change::store_submitted;
 use book_change::unqueue;
 use book_data::BookData;
@@ -59,7 +58,7 @@ fn acknowledge_live(b: BookData, k: usize) -> StatusReply
     requires { ⌜ (soundb b ≡ true) × (k < length (view b .submitted)) ⌝ }
     ensures { λ r. ⌜ r ≡ statusReply b (runBook (acknowledgeLive (at (view b) k)) (view b)) ⌝ }
 {
-    let s = submitted_at(b, k);
+    let s = b.submitted[k];
     let a = s.slots.active_attempt.attempt;
     if !a.finalized_variant_fingerprint.present {
         return status_refused(b, 6);

@@ -47,9 +47,6 @@ abbrev pub notIs : ℕ → SubmittedTx → Bool
 notIs i t = not (eqb (idOf t) i)
 
 -- ---- loops over the book's own cells: nothing but these cells has changed
-pub same-pending : (b out : BookData) {n k : ℕ} {cs : List PendingDelivery} (ds : List PendingDelivery) → out ≡ putPending n cs b → putPending k ds out ≡ putPending k ds b
-same-pending b out {k = k} ds e = ap (putPending k ds) e
-
 pub same-cells : (b out : BookData) {n k : ℕ} {cs : List SubmittedTx} (ts : List SubmittedTx) → out ≡ putCells n cs b → putCells k ts out ≡ putCells k ts b
 same-cells b out {k = k} ts e = ap (putCells k ts) e
 

@@ -1,13 +1,16 @@
 // Changes of a book by value. The book is held in one local and its cells are changed in place.
 ghost use mathlib.Core.Path.{_≡_};
 ghost use mathlib.Core.Bool.{true};
-ghost use Prim.Native.Nat.{_+_, _<_};
-ghost use lib.ListN.{length};
+ghost use Prim.Native.Nat.{_+_, _≤_, _<_};
+ghost use lib.ListN.{length, take};
+ghost use Rattle.book_data.specs.Zero.{zeroDelivery};
 ghost use Rattle.book_data.specs.Model.{view, back};
 ghost use Rattle.book_data.specs.Sound.{idOf, soundDelivery};
+ghost use Rattle.book_data.specs.SoundLaws.{Counted};
 ghost use Rattle.rules.specs.Keyed.{without};
 ghost use Rattle.rules.specs.Rule.{enqueue, unqueue, unqueueAll, unretireAll};
 ghost use Rattle.rules.specs.Steps.{withSubmitted, noteBook, removeBook};
+ghost use Rattle.rules.specs.Steps.Notes.{unqueued};
 ghost use Rattle.rules.specs.Calls.Plan.{last64};
 ghost use Rattle.replay.specs.Epoch.{replayedOf};
 ghost use Rattle.book_cells.specs.Normal.{Normal};
@@ -26,6 +29,12 @@ use ids::push_new64;
 pub struct Retired {
     pub full: bool,
     pub book: BookData,
+}
+
+// Up to 16 queue entries.
+struct Deliveries {
+    count: usize,
+    items: [PendingDelivery; 16],
 }
 
 // ---- submissions
@@ -126,30 +135,49 @@ pub fn clear_pending(b: BookData) -> BookData
     out
 }
 
+// The entries of other ids, in front. Those before the first that goes stay where they are: a cell is 1 KB.
+fn keep_others(a: [PendingDelivery; 16], n: usize, id: SubmissionId) -> Deliveries
+    requires { ⌜ (n ≤ 16) × Counted 16 zeroDelivery n a (take n a) ⌝ }
+    ensures { λ r. ⌜ Counted 16 zeroDelivery (r .count) (r .items) (unqueued (id .0) (take n a)) ⌝ }
+{
+    let z = PendingDelivery::zero();
+    let mut out = a;
+    let mut w: usize = 0;
+    let mut i = 0;
+    while i < n {
+        let d = out[i];
+        let intent = d.intent;
+        let of = intent.id;
+        if is_id(of, id) {
+            out[i] = z;
+            i += 1;
+        } else if w == i {
+            w += 1;
+            i += 1;
+        } else {
+            out[i] = z;
+            out[w] = d;
+            w += 1;
+            i += 1;
+        }
+    }
+    Deliveries {
+        count: w,
+        items: out,
+    }
+}
+
 // The queue entries of the id go.
 pub fn unqueue(b: BookData, id: SubmissionId) -> BookData
     requires { ⌜ Normal b ⌝ }
     ensures { λ r. ⌜ r ≡ back (noteBook (unqueue (id .0)) (view b)) ⌝ }
 {
-    let n = b.pending_count;
-    let z = PendingDelivery::zero();
+    let cells = b.pending_deliveries;
+    let kept = keep_others(cells, b.pending_count, id);
+    let items = kept.items;
     let mut out = b;
-    let mut w: usize = 0;
-    let mut i = 0;
-    while i < n {
-        let d = out.pending_deliveries[i];
-        out.pending_deliveries[i] = z;
-        let intent = d.intent;
-        let of = intent.id;
-        if is_id(of, id) {
-            i += 1;
-        } else {
-            out.pending_deliveries[w] = d;
-            w += 1;
-            i += 1;
-        }
-    }
-    out.pending_count = w;
+    out.pending_deliveries = items;
+    out.pending_count = kept.count;
     out
 }
 

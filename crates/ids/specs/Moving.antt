@@ -122,6 +122,27 @@ module _ {A : Type 0} (N : ℕ) (z : A) (p : A → Bool) (xs : List A) where
           same : i - w ≡ (i + 1) - (w + 1)
           same = omega arith
 
+      -- nothing was left out so far: the element is where it belongs
+      pub move-stay : w ≡ i → p (getD cs i d) ≡ true → Moving N z p xs cs (w + 1) (i + 1)
+      move-stay e t = record {
+        kept = m .kept ++ (getD xs i d ∷ []);
+        count = let l = length-append (m .kept) (getD xs i d ∷ []) in let c = m .count in omega arith;
+        fewer = omega arith;
+        within = omega arith;
+        held =
+            around ∙ append-assoc (m .kept) (replicate (i - w) z) (getD xs i d ∷ behind)
+            ∙ ap (λ (k : ℕ). m .kept ++ (replicate k z ++ (getD xs i d ∷ behind))) none
+            ∙ sym (append-assoc (m .kept) (getD xs i d ∷ []) behind)
+            ∙ ap (λ (k : ℕ). (m .kept ++ (getD xs i d ∷ [])) ++ (replicate k z ++ behind)) (sym none-more);
+        rest = filter-keep p (m .kept) (rest-step xs i d h) (ap p (sym move-get) ∙ t) (m .rest);
+      }
+        where
+          none : i - w ≡ 0
+          none = omega arith
+
+          none-more : (i + 1) - (w + 1) ≡ 0
+          none-more = omega arith
+
       -- the same where y is the z that a call answered
       module _ {y : A} (e : y ≡ z) where
         pub skip-by : p (getD cs i d) ≡ false → Moving N z p xs (set cs i y) w (i + 1)
