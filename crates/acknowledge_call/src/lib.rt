@@ -5,7 +5,6 @@ use attempt_answers::status_inactive;
 use attempt_answers::status_refused;
 use book_cells::Place;
 use book_cells::find_attempt;
-use book_change::store_submitted;
 use book_change::unqueue;
 use book_data::BookData;
 use book_data::SubmittedTx;
@@ -54,7 +53,7 @@ pub fn acknowledge_attempt_sound(b: BookData, t: Token) -> StatusReply
     acknowledge_live(b, k)
 }
 
-fn acknowledge_live(b: BookData, k: usize) -> StatusReply
+fn acknowledge_live(mut b: BookData, k: usize) -> StatusReply
     requires { ⌜ (soundb b ≡ true) × (k < length (view b .submitted)) ⌝ }
     ensures { λ r. ⌜ r ≡ statusReply b (runBook (acknowledgeLive (at (view b) k)) (view b)) ⌝ }
 {
@@ -72,8 +71,8 @@ fn acknowledge_live(b: BookData, k: usize) -> StatusReply
     }
     let id = e.id;
     let next = acknowledged_aside(s, f);
-    let stored = store_submitted(b, k, next);
-    let left = unqueue(stored, id);
+    b.submitted[k] = next;
+    let left = unqueue(b, id);
     status_done(left, SubmissionAttemptStatus::Applied)
 }
 
