@@ -73,7 +73,7 @@ pub fn push_submitted(b: BookData, t: SubmittedTx) -> BookData
     out
 }
 
-// The submission of the id goes.
+// The submission of the id goes. Those before it stay where they are.
 fn drop_submitted(b: BookData, id: SubmissionId) -> BookData
     requires { ⌜ Normal b ⌝ }
     ensures { λ r. ⌜ r ≡ back (withSubmitted (without idOf (id .0) (view b .submitted)) (view b)) ⌝ }
@@ -85,10 +85,14 @@ fn drop_submitted(b: BookData, id: SubmissionId) -> BookData
     let mut i = 0;
     while i < n {
         let t = out.submitted[i];
-        out.submitted[i] = z;
         if t.entry.id.0 == id.0 {
+            out.submitted[i] = z;
+            i += 1;
+        } else if w == i {
+            w += 1;
             i += 1;
         } else {
+            out.submitted[i] = z;
             out.submitted[w] = t;
             w += 1;
             i += 1;

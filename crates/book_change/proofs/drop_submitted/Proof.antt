@@ -8,7 +8,7 @@ use Prim.Native.Nat.{zero, _-_, _≤_}
 use Rattle.book_data.specs.Zero.{zeroSubmitted}
 use Rattle.book_data.specs.Model.{view}
 use Rattle.rules.specs.Keyed.{without}
-use Rattle.ids.specs.Moving.{Moving, move-start, move-done, skip-by, keep-by}
+use Rattle.ids.specs.Moving.{Moving, move-start, move-done, move-stay, skip-by, keep-by}
 use Rattle.book_cells.specs.Normal.{sizes, submitted-are}
 use Rattle.book_change.specs.Parts.{putCells}
 use Rattle.book_change.specs.ChangeLaws.{same-cells, notIs, drop-is}
@@ -41,8 +41,22 @@ loop-again c = let v = c .before .before .before .before .before .loop .inv in
     )
 
 loop-again-2 : tie.Need-loop-again-2 Inv-loop μ-loop
-loop-again-2 c = let v = c .before .before .before .before .before .loop .inv in
-    let t = c .before .before .before .before .loop-test .taken in
+loop-again-2 c = let v = c .before .before .before .before .before .before .loop .inv in
+    let t = c .before .before .before .before .before .loop-test .taken in
+    let n = v .5 in (
+      search needs,
+      v .1,
+      omega arith,
+      v .3,
+      v .4,
+      n,
+      v .6,
+      move-stay 16 zeroSubmitted (notIs (c .before .before .before .before .before .before .before .before .args .id .0)) (view (c .before .before .before .before .before .before .before .before .args .b) .submitted) (c .before .before .before .before .before .before .loop .out .submitted) (c .before .before .before .before .before .before .loop .w) (c .before .before .before .before .before .before .loop .i) (v .7) _ (omega arith) (let e = c .if2 .taken in omega arith) (ap not (ne-eqb _ _ (c .before .if1 .left))),
+    )
+
+loop-again-3 : tie.Need-loop-again-3 Inv-loop μ-loop
+loop-again-3 c = let v = c .before .before .before .before .before .before .loop .inv in
+    let t = c .before .before .before .before .before .loop-test .taken in
     let n = v .5 in (
       search needs,
       v .1,
@@ -50,8 +64,8 @@ loop-again-2 c = let v = c .before .before .before .before .before .loop .inv in
       v .3,
       simp length-set (v .4),
       n,
-      same-cells (c .before .before .before .before .before .before .before .args .b) (c .before .before .before .before .before .loop .out) _ (v .6),
-      keep-by 16 zeroSubmitted (notIs (c .before .before .before .before .before .before .before .args .id .0)) (view (c .before .before .before .before .before .before .before .args .b) .submitted) (c .before .before .before .before .before .loop .out .submitted) (c .before .before .before .before .before .loop .w) (c .before .before .before .before .before .loop .i) (v .7) _ (omega arith) (v .3) (ap not (ne-eqb _ _ (c .if1 .left))),
+      same-cells (c .before .before .before .before .before .before .before .before .args .b) (c .before .before .before .before .before .before .loop .out) _ (v .6),
+      keep-by 16 zeroSubmitted (notIs (c .before .before .before .before .before .before .before .before .args .id .0)) (view (c .before .before .before .before .before .before .before .before .args .b) .submitted) (c .before .before .before .before .before .before .loop .out .submitted) (c .before .before .before .before .before .before .loop .w) (c .before .before .before .before .before .before .loop .i) (v .7) _ (omega arith) (v .3) (ap not (ne-eqb _ _ (c .before .if1 .left))),
     )
 
 returns : tie.Need-returns Inv-loop μ-loop
@@ -81,7 +95,13 @@ drop-submitted-spec =
     (λ c. search needs)
     (λ c. search needs)
     (λ c. search needs)
-    (λ c. search needs)
-    (λ c. search needs)
     loop-again-2
+    (λ c. search needs)
+    (λ c. search needs)
+    (λ c. search needs)
+    (λ c. search needs)
+    (λ c. search needs)
+    (λ c. search needs)
+    (λ c. search needs)
+    loop-again-3
     returns)
