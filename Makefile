@@ -14,15 +14,15 @@ INCLUDE = -I include -I examples/c -I tests/c_api
 HEADERS = include/submission_book.h $(wildcard examples/c/*.h tests/c_api/*.h)
 
 help:
-	@echo "make run      play a sample kitchen through the library, write its archive and show it"
-	@echo "make test     the gate: every proof, must-fail edit and program, the Rust comparison, the library's own tests (.ci/run)"
-	@echo "make lib      target/lib/libsubmission_book.a and target/lib/submission_book.h"
-	@echo "make library  the library's tests alone: C, sanitizers, the Rust crate, archives shown"
-	@echo "make compare N=6000 SEED=1  so many scripts, played by the driver and by the Rust"
-	@echo "make bench    every call, archives and SHA-256 against Rust, in one run"
-	@echo "make fuzz     ten minutes of coverage-guided fuzzing of the C boundary (SECONDS=30 for less)"
-	@echo "make archives damaged archives, read here and by the Rust side's decoder"
-	@echo "make fmt      the layout of every source, specification and proof"
+	@echo "make run       play a sample kitchen through the library, write its archive and show it"
+	@echo "make test      the gate: every proof, must-fail edit and program, the Rust comparison, the library's own tests (.ci/run)"
+	@echo "make lib       target/lib/libsubmission_book.a, proved as it is built, and target/lib/submission_book.h"
+	@echo "make library   the library's tests alone: C, C++, stack, sanitizers, the Rust crate, archives shown"
+	@echo "make compare   call scripts, played by the driver and by the Rust (N=6000 SEED=1: so many, of this seed)"
+	@echo "make bench     every call, archives and SHA-256 against Rust, in one run"
+	@echo "make fuzz      ten minutes of coverage-guided fuzzing of the C boundary (SECONDS=30 for less), after building it for that"
+	@echo "make archives  damaged archives, read here and by the Rust side's decoder"
+	@echo "make fmt       the layout of every source, specification and proof"
 
 # The first run proves what it links, about ten minutes on two cores; later ones take seconds.
 run: lib target/bin/show_archive target/kitchen
