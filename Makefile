@@ -9,6 +9,7 @@ CFLAGS = -std=c11 -Wall -Wextra -Werror -pedantic -O2
 SOURCES = crates.txt $(shell find crates -name '*.rt' -o -name '*.antt')
 LIBRARY = target/lib/libsubmission_book.a
 EXAMPLE = examples/c/kitchen.c examples/c/account.c examples/c/wire.c examples/c/sha256.c
+CALLS = tests/c_api/calls.c tests/c_api/buffers.c tests/c_api/sizes.c
 SAMPLE = tests/c_api/sample.c examples/c/wire.c examples/c/sha256.c
 INCLUDE = -I include -I examples/c -I tests/c_api
 HEADERS = include/submission_book.h $(wildcard examples/c/*.h tests/c_api/*.h)
@@ -55,8 +56,8 @@ target/first: examples/first.c $(LIBRARY) target/lib/submission_book.h
 target/kitchen: $(EXAMPLE) $(HEADERS) $(LIBRARY)
 	$(CC) $(CFLAGS) $(INCLUDE) $(EXAMPLE) $(LIBRARY) -o $@
 
-target/c_api_calls: tests/c_api/calls.c tests/c_api/buffers.c $(SAMPLE) $(HEADERS) $(LIBRARY)
-	$(CC) $(CFLAGS) $(INCLUDE) tests/c_api/calls.c tests/c_api/buffers.c $(SAMPLE) $(LIBRARY) -o $@
+target/c_api_calls: $(CALLS) $(SAMPLE) $(HEADERS) $(LIBRARY)
+	$(CC) $(CFLAGS) $(INCLUDE) $(CALLS) $(SAMPLE) $(LIBRARY) -o $@
 
 target/c_api_stack: tests/c_api/stack.c $(SAMPLE) $(HEADERS) $(LIBRARY)
 	$(CC) $(CFLAGS) $(INCLUDE) tests/c_api/stack.c $(SAMPLE) $(LIBRARY) -pthread -o $@
