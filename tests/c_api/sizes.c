@@ -107,6 +107,7 @@ static void test_lists(void) {
            submission_book_reconcile_chain_terminality(book, LEN, list, SUBMISSION_BOOK_COIN_LIST_BYTES, spent, sizeof spent - SUBMISSION_BOOK_COIN_ID_BYTES,
                                                        0, ids, IDS),
            0);
+    expect("one coin id", submission_book_reconcile_chain_terminality(book, LEN, no_coins, 2, spent, SUBMISSION_BOOK_COIN_ID_BYTES, 0, NULL, 0), 0);
     expect("one more coin id", submission_book_reconcile_chain_terminality(book, LEN, no_coins, 2, spent, sizeof spent, 0, ids, IDS), 2);
     expect("one more id", submission_book_reconcile_chain_terminality(book, LEN, no_coins, 2, NULL, 0, 0, ids, IDS + 1), 2);
     expect("one more coin",

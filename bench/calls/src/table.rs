@@ -104,7 +104,9 @@ struct Paid {
 
 impl Paid {
     fn note(&mut self, name: &str, times: Times) {
-        let ratio = times.rust.filter(|rust| *rust > 0.0).map(|rust| times.boundary / rust);
+        // Archives are no part of the upstream Rust.
+        let upstream = times.rust.filter(|rust| *rust > 0.0 && !matches!(name, "read" | "write"));
+        let ratio = upstream.map(|rust| times.boundary / rust);
         self.micros.push(times.boundary);
         self.ratios.extend(ratio);
         if name == "drain, new intents" {
@@ -150,8 +152,8 @@ impl Calls {
              | | {} |\n|---|---|---|---|\n{}{}{}\nThe largest stack of any call: {largest} bytes.\n\n",
             names.join(" | "),
             row("µs of a call", Paid::micros),
-            row("against the Rust", Paid::ratio),
-            row("a drain of new intents against the Rust", Paid::drain),
+            row("against the upstream Rust", Paid::ratio),
+            row("a drain of new intents against it", Paid::drain),
         )
     }
 }
