@@ -37,9 +37,10 @@
  * caller's, also those that only look (they write the same bytes again); only functions with a `const` book may run
  * at once on it.
  *
- * STACK. A call takes at most SUBMISSION_BOOK_STACK_BYTES (1 MB) of the calling thread's stack: enough room on
- * a main thread of 8 MB, but a thread that is made with less than that must be given more. A call ends for every
- * input, and calls nothing of the caller's. */
+ * STACK. A call takes at most SUBMISSION_BOOK_STACK_BYTES (1 MB) of the calling thread's stack. The usual main
+ * thread of 8 MB has room for it; a thread that is made with a smaller stack must have so much and what the caller
+ * itself needs, else the program ends with a stack overflow. A call ends for every input, and calls nothing of the
+ * caller's. */
 #ifndef SUBMISSION_BOOK_H
 #define SUBMISSION_BOOK_H
 #include <stddef.h>
