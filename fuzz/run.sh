@@ -118,6 +118,8 @@ fuzz_target() {
     echo "fuzz: $1: no crash and no failed check; $(find "$out/corpus/$1" "fuzz/corpus/$1" -type f | wc -l) inputs played on the delivered library too"
 }
 
+# The fuzzer takes 0 seconds for no end.
+[ "$seconds" -ge 2 ] 2>/dev/null || fail "the seconds are a number from 2 on, not '$seconds'"
 mkdir -p "$out"
 need_tools
 build_module

@@ -37,15 +37,17 @@
  * caller's, also those that only look (they write the same bytes again); only functions with a `const` book may run
  * at once on it.
  *
- * STACK. A call takes at most SUBMISSION_BOOK_STACK_BYTES (1 MB) of the calling thread's stack: enough room on
- * a main thread of 8 MB, but a thread that is made with less than that must be given more. A call ends for every
- * input, and calls nothing of the caller's. */
+ * STACK. A call takes at most SUBMISSION_BOOK_STACK_BYTES (1 MB) of the calling thread's stack. The usual main
+ * thread of 8 MB has room for it; a thread that is made with a smaller stack must have so much and what the caller
+ * itself needs, else the program ends with a stack overflow. A call ends for every input, and calls nothing of the
+ * caller's. */
 #ifndef SUBMISSION_BOOK_H
 #define SUBMISSION_BOOK_H
 #include <stddef.h>
 #include <stdint.h>
 
-/* ---- sizes in bytes, each the largest that can come up */
+/* ---- sizes in bytes: enough for every book, argument and answer, and none of them more than can come up but that of
+ * a drain */
 #define SUBMISSION_BOOK_ARCHIVE_BYTES 57694
 #define SUBMISSION_BOOK_BYTES 57702         /* the archive behind its length */
 #define SUBMISSION_BOOK_DELIVERY_BYTES 1134 /* argument of queue */
@@ -56,14 +58,14 @@
 #define SUBMISSION_BOOK_COIN_LIST_BYTES 59202 /* 800 coins of 73 bytes */
 
 /* answers */
-#define SUBMISSION_BOOK_DRAIN_BYTES 19330
+#define SUBMISSION_BOOK_DRAIN_BYTES 19330 /* 16 submissions and 16 failures; one drain has 16 of both together */
 #define SUBMISSION_BOOK_FINALIZED_BYTES 1117
 #define SUBMISSION_BOOK_FEE_INTENT_ANSWER_BYTES 42
 #define SUBMISSION_BOOK_ATTEMPT_BYTES 75
 #define SUBMISSION_BOOK_STATUS_BYTES 1
 #define SUBMISSION_BOOK_FLAG_BYTES 1
 #define SUBMISSION_BOOK_HEIGHT_BYTES 9
-#define SUBMISSION_BOOK_IDS_BYTES 513
+#define SUBMISSION_BOOK_IDS_BYTES 513 /* 64 ids */
 #define SUBMISSION_BOOK_INPUT_COINS_BYTES 4738
 #define SUBMISSION_BOOK_ABSENT_OUTPUTS_BYTES 18946
 
@@ -250,8 +252,8 @@ uint8_t submission_book_drain(uint8_t *book, size_t book_len, uint8_t *answer, s
  * live and not below the next token. */
 
 /* The open fee of a live attempt's submission.
- * Answer, at most 42 bytes: mark; if 1 the fee intent (2 attach where a fee is open, else 0). Mark 0: the token is
- * inactive. Refusals: 4. */
+ * Answer, at most SUBMISSION_BOOK_FEE_INTENT_ANSWER_BYTES (42): mark; if 1 the fee intent (2 attach where a fee is
+ * open, else 0). Mark 0: the token is inactive. Refusals: 4. */
 uint8_t submission_book_fee_intent_for_attempt(uint8_t *book, size_t book_len, uint64_t token,
     uint8_t *answer, size_t answer_len);
 
@@ -260,10 +262,10 @@ uint8_t submission_book_fee_intent_for_attempt(uint8_t *book, size_t book_len, u
  * the fee is the caller's to see to. With an open fee and any other source the base bundle goes without the fee,
  * and the fee stays open. With no open fee it is the current bundle, and `source` must be 0. `joined` is a bundle
  * for source 1, and has no bytes for any other.
- * Answer, at most 1117 bytes: mark; if 1 bundle, applied fee (8), warning (mark; 1 where an open fee was not
- * attached), disposition (1), variant fingerprint of the bundle (32), should-broadcast (mark; 0 where this bundle
- * is acknowledged already, or for goal 1 with no fee attached now). Mark 0: the token is inactive, and nothing
- * changed.
+ * Answer, at most SUBMISSION_BOOK_FINALIZED_BYTES (1117): mark; if 1 bundle, applied fee (8), warning (mark; 1 where
+ * an open fee was not attached), disposition (1), variant fingerprint of the bundle (32), should-broadcast (mark; 0
+ * where this bundle is acknowledged already, or for goal 1 with no fee attached now). Mark 0: the token is inactive,
+ * and nothing changed.
  * Refusals, in this order: 3 `source` over 3, or `joined` is not exactly one bundle (source 1) or not empty (any
  * other); 4; 5 finalised before; 7 the submission contradicts itself; 8 its current bundle is not the one that was
  * drained; 9 no fee is open and `source` is not 0. 7 and 8 are for books put together by hand: as far as we know
@@ -296,21 +298,22 @@ uint8_t submission_book_relinquish_completed_attempt(uint8_t *book, size_t book_
     uint8_t *answer, size_t answer_len);
 
 /* A live attempt. Changes nothing.
- * Answer, at most 75 bytes: mark; if 1 the attempt. Mark 0: the token is not live, or was never issued. No refusal
- * but 1 and 12. */
+ * Answer, at most SUBMISSION_BOOK_ATTEMPT_BYTES (75): mark; if 1 the attempt. Mark 0: the token is not live, or was
+ * never issued. No refusal but 1 and 12. */
 uint8_t submission_book_attempt(uint8_t *book, size_t book_len, uint64_t token, uint8_t *answer, size_t answer_len);
 
 /* ==== retained submissions and retirements ==== */
 
 /* Removes the listed submissions with their queue entries and replay marks, and retires their ids. Ids that are not
  * retained are passed over. (The Rust's function takes a test of what to keep; this one the ids to remove.)
- * Answer, at most 513 bytes: the ids that were removed, rising.
+ * Answer, at most SUBMISSION_BOOK_IDS_BYTES (513): the ids that were removed, rising.
  * Refusals: 2 over 64 ids; 10 more than 64 retirements would result. */
 uint8_t submission_book_retain_submitted(uint8_t *book, size_t book_len,
     const uint64_t *removed, size_t removed_len, uint8_t *answer, size_t answer_len);
 
-/* Answer, at most 513 bytes: the ids of the submissions that the chain has not settled, in the order in which they
- * were retained. Changes nothing. No refusal but 1 and 12. */
+/* The submissions that the chain has not settled. Changes nothing.
+ * Answer, at most SUBMISSION_BOOK_IDS_BYTES (513): their ids, in the order in which they were retained. No refusal
+ * but 1 and 12. */
 uint8_t submission_book_active_ids(uint8_t *book, size_t book_len, uint8_t *answer, size_t answer_len);
 
 /* Retires an id by hand: it is put behind the retirements, unless it is among them.
@@ -318,8 +321,8 @@ uint8_t submission_book_active_ids(uint8_t *book, size_t book_len, uint8_t *answ
 uint8_t submission_book_emit_retirement(uint8_t *book, size_t book_len, uint64_t id);
 
 /* Hands out the retired ids, which the wallet should forget, and empties their list.
- * Answer, at most 513 bytes: the ids, in the order in which they were retired. No refusal but 1 and 12; a 12 keeps
- * them. */
+ * Answer, at most SUBMISSION_BOOK_IDS_BYTES (513): the ids, in the order in which they were retired. No refusal but 1
+ * and 12; a 12 keeps them. */
 uint8_t submission_book_drain_retirements(uint8_t *book, size_t book_len, uint8_t *answer, size_t answer_len);
 
 /* Removes and retires every submission, rising, empties the queue and ends a replay. Earlier retirements and the
@@ -345,20 +348,21 @@ uint8_t submission_book_reconcile_chain_terminality(uint8_t *book, size_t book_l
  * is among the `absent` coins (coin list), if every input that the bundle does not itself create is among the coin
  * ids `inputs`, the coins that can be spent again. Changes nothing; hand the ids to the next report as
  * `rolled_back` and to submission_book_collect_rollback_replay_ids.
- * Answer, at most 513 bytes: ids, rising. Refusals: 2 a list out of form. */
+ * Answer, at most SUBMISSION_BOOK_IDS_BYTES (513): ids, rising. Refusals: 2 a list out of form. */
 uint8_t submission_book_causally_rolled_back_ids(uint8_t *book, size_t book_len,
     const uint8_t *absent, size_t absent_len, const uint8_t *inputs, size_t inputs_len,
     uint8_t *answer, size_t answer_len);
 
 /* The input coins to ask the chain about: those of every submission that has not Landed, and of those that have
  * where an output is among `outputs` (coin list). The coins stand in `answer` as a coin list, rising by bytes and
- * without repeats, at most 4738 bytes; *count is its length in bytes.
+ * without repeats, at most SUBMISSION_BOOK_INPUT_COINS_BYTES (4738); *count is its length in bytes.
  * Refusals: 2 `outputs` out of form. A refusal leaves *count. */
 uint8_t submission_book_reconciliation_input_coins(const uint8_t *book, size_t book_len,
     const uint8_t *outputs, size_t outputs_len, uint8_t *answer, size_t answer_len, uint64_t *count);
 
 /* Of the listed submissions the outputs that are among the `absent` coins (coin list). They stand in `answer` as a
- * coin list, in retained and output order and with repeats, at most 18946 bytes; *count is its length in bytes.
+ * coin list, in retained and output order and with repeats, at most SUBMISSION_BOOK_ABSENT_OUTPUTS_BYTES (18946);
+ * *count is its length in bytes.
  * Refusals: 2 `absent` out of form, or over 64 ids. A refusal leaves *count. */
 uint8_t submission_book_absent_outputs_for_ids(const uint8_t *book, size_t book_len,
     const uint64_t *ids, size_t ids_len, const uint8_t *absent, size_t absent_len,
@@ -383,8 +387,9 @@ uint8_t submission_book_collect_rollback_replay_ids(uint8_t *book, size_t book_l
  * 12. */
 uint8_t submission_book_finish_replay_if_advanced(uint8_t *book, size_t book_len, uint64_t height);
 
-/* Answer, at most 9 bytes: mark; if 1 the height (8) at which the running replay began. Changes nothing. No refusal
- * but 1 and 12. */
+/* The height of the running replay. Changes nothing.
+ * Answer, at most SUBMISSION_BOOK_HEIGHT_BYTES (9): mark; if 1 the height (8) at which it began. No refusal but 1 and
+ * 12. */
 uint8_t submission_book_replay_rollback_height(uint8_t *book, size_t book_len, uint8_t *answer, size_t answer_len);
 
 #ifdef __cplusplus

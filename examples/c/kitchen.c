@@ -8,19 +8,21 @@
 #include "account.h"
 #include "sha256.h"
 
-enum { OPENING_TOKEN = 101, OPENING_ID = 1 };
-
-typedef struct {
-    uint8_t book[SUBMISSION_BOOK_BYTES];
-    Account account;
-    unsigned calls;
-} Planner;
+enum { OPENING_TOKEN = 101, OPENING_ID = 1, SUBMISSIONS = 8 };
 
 typedef struct {
     const char *name;
     uint64_t amount; /* in cents, as every amount here */
     Delivery delivery;
 } Payment;
+
+typedef struct {
+    uint8_t book[SUBMISSION_BOOK_BYTES];
+    Account account;
+    unsigned calls;
+    const Payment *queued;                /* the payment that was queued last */
+    const Payment *payments[SUBMISSIONS]; /* by submission id */
+} Planner;
 
 /* ---- what is printed, and what must hold */
 static void expect(bool holds, const char *what) {
@@ -155,6 +157,10 @@ static void queue_payment(Planner *p, const Payment *payment) {
     uint8_t said = submission_book_queue(p->book, sizeof p->book, bytes, length);
     told(p, said, 0, "queue the %s, %" PRIu64 ".%02" PRIu64 ", fee %s", payment->name, payment->amount / 100, payment->amount % 100,
          payment->delivery.fee_intent.kind == SUBMISSION_BOOK_FEE_ATTACH ? "to be attached" : "none");
+    if (payment->delivery.expiry.present) {
+        printf("       it expires at height %" PRIu64 "\n", payment->delivery.expiry.value);
+    }
+    p->queued = payment;
 }
 
 static void print_drained(const DrainedSubmission *drained) {
@@ -180,6 +186,11 @@ static uint64_t drain_one(Planner *p, uint64_t id, uint8_t relationship) {
     told(p, said, 0, "drain the queue");
     expect(read_drain(answer, sizeof answer, &result) != 0, "the form of a drain's answer");
     for (size_t i = 0; i < result.submission_count; i++) {
+        uint64_t drained = result.submissions[i].id;
+        expect(drained < SUBMISSIONS, "at most seven submissions");
+        if (p->payments[drained] == NULL) {
+            p->payments[drained] = p->queued;
+        }
         print_drained(&result.submissions[i]);
         expect(account_issued(&p->account, &result.submissions[i]), "a token and its predecessor");
     }
@@ -197,19 +208,30 @@ static void expect_bundle(const FinalizedSubmission *finalized, const SpendBundl
     expect(memcmp(finalized->variant_fingerprint, fingerprint, 32) == 0, "the fingerprint of the bundle to broadcast");
 }
 
+static const char *fee_words(const FinalizedSubmission *finalized) {
+    static char words[64];
+    const char *when = finalized->disposition == SUBMISSION_BOOK_DISPOSITION_ATTACHED ? "attached now" : "attached before";
+    if (finalized->disposition == SUBMISSION_BOOK_DISPOSITION_UNUSED) {
+        return "without a fee; warning: one was asked for";
+    }
+    if (finalized->applied_fee == 0) {
+        return "without a fee, as asked";
+    }
+    snprintf(words, sizeof words, "with a fee of %" PRIu64 " cents, %s", finalized->applied_fee, when);
+    return words;
+}
+
 /* Finalises a live attempt. `bundle` is what must be broadcast; it is handed in where the fee was joined. */
 static void finalize(Planner *p, uint64_t token, uint8_t source, const SpendBundle *bundle, uint8_t disposition, uint64_t fee) {
-    static const char *const sources[] = {"no fee asked for", "the wallet's fee is joined", "the join failed", "the wallet has no fee coin"};
-    static const char *const dispositions[] = {"attached", "unused", "not requested"};
+    static const char *const sources[] = {"the wallet is asked for no fee", "the wallet's fee is joined", "the join failed", "the wallet has no fee coin"};
     uint8_t joined[SUBMISSION_BOOK_BUNDLE_BYTES], answer[SUBMISSION_BOOK_FINALIZED_BYTES];
     static FinalizedSubmission finalized;
     size_t length = source == SUBMISSION_BOOK_SOURCE_JOINED ? write_bundle(joined, bundle) : 0;
     uint8_t said = submission_book_finalize_attempt(p->book, sizeof p->book, token, source, joined, length, answer, sizeof answer);
     told(p, said, 0, "finalise attempt %" PRIu64 ", %s", token, sources[source]);
     expect(read_finalized(answer, sizeof answer, &finalized) != 0 && finalized.present, "the form of a finalised submission");
-    printf("       broadcast %zu spend%s with a fee of %" PRIu64 " cents (fee source: %s)%s\n", finalized.bundle.spend_count,
-           finalized.bundle.spend_count == 1 ? "" : "s", finalized.applied_fee, dispositions[finalized.disposition],
-           finalized.warning ? "; warning: the fee that was asked for is missing" : "");
+    printf("       broadcast %zu spend%s, %s\n", finalized.bundle.spend_count, finalized.bundle.spend_count == 1 ? "" : "s",
+           fee_words(&finalized));
     expect_bundle(&finalized, bundle);
     expect(finalized.disposition == disposition && finalized.applied_fee == fee, "what became of the fee");
     expect(finalized.warning == (disposition == SUBMISSION_BOOK_DISPOSITION_UNUSED), "the warning");
@@ -309,7 +331,7 @@ static void find_undone(Planner *p, const Payment *payment, IdList *undone) {
     said = submission_book_absent_outputs_for_ids(p->book, sizeof p->book, undone->ids, undone->count, absent, length, outputs, sizeof outputs,
                                                   &count);
     told(p, said, 0, "which of their outputs are absent");
-    printf("       a coin list of %" PRIu64 " bytes\n", count);
+    printf("       coins: %d\n", outputs[0] << 8 | outputs[1]);
     expect(count == length && memcmp(outputs, absent, length) == 0, "the absent outputs");
 }
 
@@ -448,7 +470,9 @@ static void print_account(Planner *p, uint64_t next_token) {
          "       displaced: a later attempt took its place; struck out: gone with its submission");
     for (size_t i = 0; i < account->count; i++) {
         const Row *row = &account->rows[i];
-        printf("       token %" PRIu64 "  submission %" PRIu64 "  %-10s  %s\n", row->token, row->id, fate_name(row->fate), row->reason);
+        const Payment *payment = p->payments[row->id];
+        printf("       token %" PRIu64 "  submission %" PRIu64 "  %-10s  %-20s  %s, %" PRIu64 ".%02" PRIu64 "\n", row->token, row->id,
+               fate_name(row->fate), row->reason, payment->name, payment->amount / 100, payment->amount % 100);
         compare_row(p, row);
     }
     printf("       ");
@@ -515,7 +539,14 @@ int main(int argc, char **argv) {
     Payment handles = sample_payment("drawer handles", 9500, 10000, 0);
     SpendBundle second_joined = join_fee(&second), third_joined = join_fee(&third);
 
-    puts("A sample kitchen: its payments, and what became of each attempt to deliver them");
+    third.delivery.expiry = (OptionalNumber){true, 9000};
+
+    puts("A sample kitchen: its payments, and what became of each attempt to deliver them\n"
+         "\n"
+         "Each numbered line is a call of the library with its answer. A payment is queued. Draining the queue makes it a submission with an\n"
+         "id, and gives the attempt to deliver it a token. The attempt is finalised (what is broadcast, with which fee) and acknowledged (the\n"
+         "wallet has taken it), or stopped, or abandoned. The chain shows that a payment has landed, or in a reorganisation that it has not\n"
+         "after all, and then it is delivered again (replay). All names and amounts are made up.\n");
     open_book(&planner);
     deposit(&planner, &first);
     delivery(&planner, &second, &second_joined);

@@ -429,6 +429,7 @@ int main(void) {
     test_full();
     test_last_token();
     test_archives();
+    test_sizes();
     test_buffers();
     printf("%u of %u as expected\n", held - failed, held);
     return failed == 0 ? 0 : 1;

@@ -9,5 +9,7 @@ void expect_for(const char *call, const char *what, uint64_t got, uint64_t wante
 
 /* buffers.c: every function in lent bytes of every length */
 void test_buffers(void);
+/* sizes.c: every size and limit of the header */
+void test_sizes(void);
 
 #endif

@@ -1,8 +1,9 @@
 #!/bin/sh
 # Runs show_archive on files that are made here and compares what it writes with the files in expected/.
 # usage: tests/show_archive/run.sh [PROGRAM]      (PROGRAM: target/bin/show_archive)
-cd "$(dirname "$0")/../.." || exit 2
-show=$(realpath "${1:-target/bin/show_archive}") || exit 2
+root=$(realpath "$(dirname "$0")/../..") || exit 2
+show=$(realpath "${1:-$root/target/bin/show_archive}") || exit 2
+cd "$root" || exit 2
 here=$(pwd)/tests/show_archive
 full=$(pwd)/crates/show_archive/stdin
 work=$(mktemp -d) || exit 2

@@ -54,7 +54,8 @@ fn keep_memory() {
 
 fn main() {
     keep_memory();
-    table::print_calls();
-    table::print_drain();
-    table::print_stack();
+    let calls = table::calls();
+    let drain = table::drain();
+    let (stack, largest) = table::stack();
+    print!("{}{}{drain}{stack}", calls.in_short(largest), calls.table);
 }

@@ -1,9 +1,10 @@
-//! The tables, in Markdown, and the goals under them.
+//! The tables, in Markdown, and the goals under them. They are made first and printed then, since the summary stands in front.
 
 use std::fs;
 
 use crate::by_value::ByValue;
 use crate::case::Case;
+use crate::clock::median;
 use crate::inputs::{cases, new_intents, Size, EMPTY, FULL, TYPICAL};
 use crate::port::{self, lent};
 use crate::stack;
@@ -44,15 +45,14 @@ fn processor() -> String {
     model.map_or("unknown".to_string(), |(_, name)| name.to_string())
 }
 
-fn print_head() {
-    let head = include_str!("head.md");
-    print!("{}", head.replace("PROCESSOR", &processor()).replace("ROUNDS", &ROUNDS.to_string()));
+fn head() -> String {
+    let mut out = include_str!("head.md").replace("PROCESSOR", &processor()).replace("ROUNDS", &ROUNDS.to_string());
     if cfg!(not(feature = "rust")) {
-        println!("The upstream text or cargo is not at hand, so there is no Rust side in this run.\n");
+        out += "The upstream text or cargo is not at hand, so there is no Rust side in this run.\n\n";
     }
-    print!("| call |");
-    SIZES.iter().for_each(|size| print!(" {}: Rust | C | by value |", size.name));
-    println!("\n|---|{}", "---|".repeat(9));
+    out += "| call |";
+    SIZES.iter().for_each(|size| out += &format!(" {}: Rust | C | by value |", size.name));
+    out + &format!("\n|---|{}\n", "---|".repeat(9))
 }
 
 /// The name in the table; the two drains differ by their books.
@@ -82,39 +82,108 @@ impl Slowest {
         }
     }
 
-    fn print(&self) {
+    fn text(&self) -> String {
         let ((by_value, method), (boundary, call)) = (self.by_value, self.boundary);
-        println!(
+        format!(
             "\nGoal: a call by token within {TOKEN_CALL} µs by value. On the full book the slowest, `{method}`, takes {} µs: {}. \
-             Through the C boundary, where the call also reads the whole book and writes it back, the slowest, `{call}`, takes {} µs.\n",
+             Through the C boundary, where the call also reads the whole book and writes it back, the slowest, `{call}`, takes {} µs.\n\n",
             figure(by_value),
             verdict(by_value <= TOKEN_CALL),
             figure(boundary),
-        );
+        )
     }
 }
 
-pub fn print_calls() {
-    print_head();
+/// What a caller through C pays on the books of one size, of all calls together.
+#[derive(Default)]
+struct Paid {
+    micros: Vec<f64>,
+    ratios: Vec<f64>,
+    drain: Option<f64>,
+}
+
+impl Paid {
+    fn note(&mut self, name: &str, times: Times) {
+        // Archives are no part of the upstream Rust.
+        let upstream = times.rust.filter(|rust| *rust > 0.0 && !matches!(name, "read" | "write"));
+        let ratio = upstream.map(|rust| times.boundary / rust);
+        self.micros.push(times.boundary);
+        self.ratios.extend(ratio);
+        if name == "drain, new intents" {
+            self.drain = ratio;
+        }
+    }
+
+    fn micros(&self) -> String {
+        let quickest = self.micros.iter().copied().fold(f64::INFINITY, f64::min);
+        let slowest = self.micros.iter().copied().fold(0.0, f64::max);
+        format!("{}, {}, {}", figure(quickest), figure(median(self.micros.clone())), figure(slowest))
+    }
+
+    fn ratio(&self) -> String {
+        let (low, high) = self.ratios.iter().fold((f64::INFINITY, 0.0f64), |(low, high), r| (low.min(*r), high.max(*r)));
+        if self.ratios.is_empty() {
+            return "-".to_string();
+        }
+        format!("×{}, ×{}, ×{}", figure(low), figure(median(self.ratios.clone())), figure(high))
+    }
+
+    fn drain(&self) -> String {
+        self.drain.map_or("-".to_string(), |ratio| format!("×{}", figure(ratio)))
+    }
+}
+
+/// What was measured of every call: the table, and what the summary takes from it.
+pub struct Calls {
+    pub table: String,
+    paid: [Paid; 3],
+}
+
+impl Calls {
+    /// The summary, with the largest stack.
+    pub fn in_short(&self, largest: usize) -> String {
+        let row = |what: &str, cell: fn(&Paid) -> String| {
+            let cells: Vec<String> = self.paid.iter().map(cell).collect();
+            format!("| {what} | {} |\n", cells.join(" | "))
+        };
+        let names: Vec<&str> = SIZES.iter().map(|size| size.name).collect();
+        format!(
+            "## In short\n\nAll calls together, through C, on the three books below: the least, the middle one and the most.\n\n\
+             | | {} |\n|---|---|---|---|\n{}{}{}\nThe largest stack of any call: {largest} bytes.\n\n",
+            names.join(" | "),
+            row("µs of a call", Paid::micros),
+            row("against the upstream Rust", Paid::ratio),
+            row("a drain of new intents against it", Paid::drain),
+        )
+    }
+}
+
+pub fn calls() -> Calls {
+    let mut table = head();
+    let mut paid: [Paid; 3] = Default::default();
     let columns = SIZES.map(cases);
     let mut slowest = Slowest::default();
     for row in 0..columns[0].len() {
-        print!("| {} |", row_name(&columns[2], row));
-        for (size, column) in SIZES.iter().zip(&columns) {
+        let name = row_name(&columns[2], row);
+        eprintln!("timing {name}");
+        table += &format!("| {name} |");
+        for (place, (size, column)) in SIZES.iter().zip(&columns).enumerate() {
             let case = &column[row];
             if case.call == "open" && size.name != EMPTY.name {
-                print!(" - | - | - |");
+                table += " - | - | - |";
                 continue;
             }
             let times = times(case);
-            print!("{}", cells(times));
+            table += &cells(times);
+            paid[place].note(&name, times);
             if size.name == FULL.name {
                 slowest.note(case.call, times);
             }
         }
-        println!();
+        table += "\n";
     }
-    slowest.print();
+    table += &slowest.text();
+    Calls { table, paid }
 }
 
 fn verdict(met: bool) -> &'static str {
@@ -125,22 +194,22 @@ fn verdict(met: bool) -> &'static str {
     }
 }
 
-pub fn print_drain() {
+pub fn drain() -> String {
     let times = times(&new_intents(16, TYPICAL));
-    println!("## A drain of 16 new intents of two spends and two outputs each, in µs\n");
-    println!("| Rust | C | by value |\n|---|---|---|\n|{}", cells(times));
     let value = times.by_value.expect("a method of call_bench");
-    match times.rust {
+    let goal = match times.rust {
         Some(rust) => {
             let ratio = value / rust;
-            println!(
-                "\nGoal: by value within {DRAIN_RATIO} times the Rust. Measured: {} times: {}.\n",
-                figure(ratio),
-                verdict(ratio <= DRAIN_RATIO)
-            );
+            format!(". Measured: {} times: {}", figure(ratio), verdict(ratio <= DRAIN_RATIO))
         }
-        None => println!("\nGoal: by value within {DRAIN_RATIO} times the Rust, which is not at hand.\n"),
-    }
+        None => ", which is not at hand".to_string(),
+    };
+    format!(
+        "## A drain of 16 new intents of two spends and two outputs each, in µs\n\n\
+         | Rust | C | by value |\n|---|---|---|\n|{}\n\n\
+         Goal: by value within {DRAIN_RATIO} times the Rust{goal}.\n\n",
+        cells(times)
+    )
 }
 
 fn boundary_stack(case: &Case) -> usize {
@@ -168,13 +237,13 @@ fn by_value_stack(case: &Case) -> Option<usize> {
     }))
 }
 
-pub fn print_stack() {
-    println!("## Stack, in bytes, on the full book\n");
-    println!(
-        "A thread's stack is painted before the call and looked at after it. *C, refused*: the book's archive is cut short \
-         by a byte. *by value*: with `call_bench`'s function around the method, which reads, holds and writes the book.\n"
-    );
-    println!("| call | C | C, refused | by value |\n|---|---|---|---|");
+/// The table, and the largest of it.
+pub fn stack() -> (String, usize) {
+    let mut table = "## Stack, in bytes, on the full book\n\n\
+        A thread's stack is painted before the call and looked at after it. *C, refused*: the book's archive is cut short \
+        by a byte. *by value*: with `call_bench`'s function around the method, which reads, holds and writes the book.\n\n\
+        | call | C | C, refused | by value |\n|---|---|---|---|\n"
+        .to_string();
     let full = cases(FULL);
     let mut largest = (0, String::new());
     for (row, case) in full.iter().enumerate() {
@@ -184,19 +253,20 @@ pub fn print_stack() {
             ("C, refused", Some(refused_stack(case))),
             ("by value", by_value_stack(case)),
         ];
-        print!("| {name} |");
+        table += &format!("| {name} |");
         for (way, bytes) in ways {
-            print!(" {} |", bytes.map_or("-".to_string(), |bytes| bytes.to_string()));
+            table += &format!(" {} |", bytes.map_or("-".to_string(), |bytes| bytes.to_string()));
             if bytes.is_some_and(|bytes| bytes > largest.0) {
                 largest = (bytes.unwrap_or(0), format!("`{name}`, {way}"));
             }
         }
-        println!();
+        table += "\n";
     }
-    println!(
-        "\nGoal: at most {STACK} bytes. The largest is {} ({}): {}.\n",
+    table += &format!(
+        "\nGoal: at most {STACK} bytes. The largest is {} ({}): {}.\n\n",
         largest.0,
         largest.1,
         verdict(largest.0 <= STACK)
     );
+    (table, largest.0)
 }

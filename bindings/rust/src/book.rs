@@ -494,9 +494,11 @@ impl SubmissionBook {
 
 /// What the chain shows.
 impl SubmissionBook {
-    /// Takes a look at the chain into the book: a submission one of whose outputs was observed has
-    /// landed; else one whose input is spent is stopped too; else one that was rolled back is
-    /// active again. What is stopped loses its live attempt and queue entries, and is retired.
+    /// Takes a report of the chain into the book. A submission one of whose outputs was observed has
+    /// landed; else one of whose inputs is spent counts as spent, but a landed one stays landed
+    /// unless `reorg`; else one that was rolled back is active again. In the first two cases it is
+    /// settled: its live attempt is set aside, its queue entries and replay mark go, and it is
+    /// retired.
     ///
     /// # Errors
     ///
@@ -520,8 +522,8 @@ impl SubmissionBook {
         ))
     }
 
-    /// The submissions that a rollback made possible again, rising: stopped, an output absent (or
-    /// only an input spent), and every input from outside of the bundle live.
+    /// The settled submissions that a rollback made possible again, rising: an output is absent (or
+    /// only an input was spent), and every input from outside of the bundle is live.
     ///
     /// # Errors
     ///

@@ -11,7 +11,7 @@
 pub const BOOK_BYTES: usize = 57_702;
 /// The longest archive.
 pub const ARCHIVE_BYTES: usize = 57_694;
-/// The longest answer of a drain.
+/// Enough for every answer of a drain.
 pub const DRAIN_BYTES: usize = 19_330;
 /// The longest finalised submission, with its mark.
 pub const FINALIZED_BYTES: usize = 1_117;

@@ -2,7 +2,7 @@
 
 use std::fmt;
 
-/// Why a call was refused. The numbers are those of the library and of the papers.
+/// Why a call was refused. The numbers are those of the library (`submission_book.h`).
 ///
 /// A refused call leaves the book as it was, with one exception: [`TokensExhausted`], which a
 /// [`drain`](crate::SubmissionBook::drain) can meet halfway, keeps the book that it reached.

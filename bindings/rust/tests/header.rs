@@ -78,11 +78,26 @@ fn number_behind(text: &str, name: &str) -> u64 {
     digits.collect::<String>().parse().unwrap()
 }
 
+/// Each size of `src/ffi.rs` and its name in the header, where that is another one.
+fn sizes() -> Vec<(&'static str, String)> {
+    let lines = FFI.lines().filter_map(|line| line.strip_prefix("pub const "));
+    let names = lines.map(|line| line.split_once(':').unwrap().0);
+    names
+        .map(|name| match name {
+            "BOOK_BYTES" => (name, "SUBMISSION_BOOK_BYTES".to_string()),
+            "FEE_INTENT_BYTES" => (name, "SUBMISSION_BOOK_FEE_INTENT_ANSWER_BYTES".to_string()),
+            _ => (name, format!("SUBMISSION_BOOK_{name}")),
+        })
+        .collect()
+}
+
 #[test]
-fn the_sizes_of_the_header() {
+fn the_sizes_are_those_of_the_header() {
     let header = header();
-    let book = number_behind(FFI, "pub const BOOK_BYTES: usize =");
-    assert_eq!(book, number_behind(&header, "#define SUBMISSION_BOOK_BYTES"));
-    let drain = number_behind(FFI, "pub const DRAIN_BYTES: usize =");
-    assert_eq!(drain, number_behind(&header, "#define SUBMISSION_BOOK_DRAIN_BYTES"));
+    let sizes = sizes();
+    assert_eq!(sizes.len(), 12);
+    for (here, there) in sizes {
+        let size = number_behind(FFI, &format!("pub const {here}: usize ="));
+        assert_eq!(size, number_behind(&header, &format!("#define {there} ")), "{here}");
+    }
 }
