@@ -194,5 +194,15 @@ same "$here/expected/cuts-full" out "every cut of the archive of the crate's std
 } >out
 same "$here/expected/unreadable" out "files that cannot be read"
 
+# arguments that it does not know, and one too many: the usage, and nothing is read
+{
+    "$show" --help
+    "$show" --hex --help
+    "$show" --
+    "$show" worked --hex
+    "$show" --hex worked opened
+} >out
+same "$here/expected/usage" out "arguments that are not its own"
+
 [ "$failed" = 0 ] && echo "show_archive: all as expected"
 exit "$failed"

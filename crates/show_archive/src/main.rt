@@ -65,17 +65,43 @@ fn show_argument(i: usize, hex: bool) {
     show_named(&path[..n], hex);
 }
 
-fn is_hex_option() -> bool {
+fn say_usage() {
+    io::write_all(
+        STDOUT_FILENO,
+        b"not read: usage: show_archive [--hex] [FILE]\n",
+    );
+}
+
+// An argument that begins with two dashes is an option, and no file's name. Of a longer one the first two bytes are left in the word.
+fn is_option(i: usize) -> bool {
+    let mut word = [0u8; 2];
+    os::arg(i, &mut word);
+    lists::same(&word, b"--")
+}
+
+fn is_hex_option(i: usize) -> bool {
     let mut word = [0u8; 5];
-    let n = os::arg(1, &mut word);
+    let n = os::arg(i, &mut word);
     lists::same(&word[..n], b"--hex")
 }
 
+// The file's name is the argument at `file`, and none stands at `end` or behind it.
+fn show_checked(file: usize, end: usize, hex: bool) {
+    if is_option(file) {
+        say_usage();
+        return;
+    }
+    if os::arg_count() > end {
+        say_usage();
+        return;
+    }
+    show_argument(file, hex);
+}
+
 fn main() {
-    let hex = is_hex_option();
-    if hex {
-        show_argument(2, true);
+    if is_hex_option(1) {
+        show_checked(2, 3, true);
     } else {
-        show_argument(1, false);
+        show_checked(1, 2, false);
     }
 }
