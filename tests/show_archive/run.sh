@@ -125,7 +125,7 @@ same "$here/expected/opened" out "a book just opened"
 big >largest
 "$show" largest >out
 same_sum largest 353d40b45e6f1715e119a830f58b3dc8c0890f8ef1b42ee193ef1bcc18c77d24 "the largest archive"
-same_sum out d2a7a0463c6904991e59d59e45caab930e91c581353a162d57e750f3f352372a "all of its text"
+same_sum out 5ede1286b50726e71bc44f2104ca504860f3acd51de26436de608a2a7cc3deea "all of its text"
 
 # refusals: one for each rule
 refused() {

@@ -39,13 +39,13 @@ chainText InputSpent = ascii "  chain state: InputSpent (an input was spent, no 
 chainText Landed = ascii "  chain state: Landed (an output was seen on the chain)\n"
 
 unfoldable pub resolutionText : FeeResolution → List ℕ
-resolutionText Unresolved = ascii "  durable fee state: Unresolved\n"
-resolutionText NotRequested = ascii "  durable fee state: NotRequested\n"
-resolutionText Attached = ascii "  durable fee state: Attached\n"
+resolutionText Unresolved = ascii "  durable fee state: Unresolved (the wallet is still to be asked for the fee)\n"
+resolutionText NotRequested = ascii "  durable fee state: NotRequested (no fee is asked of the wallet)\n"
+resolutionText Attached = ascii "  durable fee state: Attached (the fee bundle above is delivered)\n"
 
 unfoldable pub feeKindText : FeeIntentKind → List ℕ → List ℕ
-feeKindText AlreadyPaid rest = ascii "  fee intent: AlreadyPaid\n"
-feeKindText NoFeeConfigured rest = ascii "  fee intent: NoFeeConfigured\n"
+feeKindText AlreadyPaid rest = ascii "  fee intent: AlreadyPaid (the bundle pays its fee itself)\n"
+feeKindText NoFeeConfigured rest = ascii "  fee intent: NoFeeConfigured (no fee is to be paid)\n"
 feeKindText Attach rest = rest
 
 unfoldable pub feeIntentText : SubmissionFeeIntent → List ℕ

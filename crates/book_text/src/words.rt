@@ -86,13 +86,21 @@ pub fn append_resolution(out: &mut [u8], at: usize, f: FeeResolution) -> usize
     ensures { λ r. ⌜ Fits (resolutionText f) at (now (out .entry)) (now (out .exit)) r ⌝ }
 {
     match f {
-        FeeResolution::Unresolved => append_bytes(out, at, b"  durable fee state: Unresolved\n"),
+        FeeResolution::Unresolved => append_bytes(
+            out,
+            at,
+            b"  durable fee state: Unresolved (the wallet is still to be asked for the fee)\n",
+        ),
         FeeResolution::NotRequested => append_bytes(
             out,
             at,
-            b"  durable fee state: NotRequested\n",
+            b"  durable fee state: NotRequested (no fee is asked of the wallet)\n",
         ),
-        FeeResolution::Attached => append_bytes(out, at, b"  durable fee state: Attached\n"),
+        FeeResolution::Attached => append_bytes(
+            out,
+            at,
+            b"  durable fee state: Attached (the fee bundle above is delivered)\n",
+        ),
     }
 }
 
@@ -102,8 +110,16 @@ pub fn append_fee_intent(out: &mut [u8], at: usize, f: SubmissionFeeIntent) -> u
     let kind = f.kind;
     let target = f.target;
     match kind {
-        FeeIntentKind::AlreadyPaid => append_bytes(out, at, b"  fee intent: AlreadyPaid\n"),
-        FeeIntentKind::NoFeeConfigured => append_bytes(out, at, b"  fee intent: NoFeeConfigured\n"),
+        FeeIntentKind::AlreadyPaid => append_bytes(
+            out,
+            at,
+            b"  fee intent: AlreadyPaid (the bundle pays its fee itself)\n",
+        ),
+        FeeIntentKind::NoFeeConfigured => append_bytes(
+            out,
+            at,
+            b"  fee intent: NoFeeConfigured (no fee is to be paid)\n",
+        ),
         FeeIntentKind::Attach => {
             let target_end = append_hex_line(
                 &mut *out,
