@@ -5,6 +5,7 @@ use mathlib.Core.Option.{Option, none, some}
 use Prim.Native.Nat.{ℕ, _≤_, min}
 use native.Mathlib.Omega.{arith}
 use lib.ListN.{length, take, length-append}
+use Rattle.archive_form.specs.Lengths.{id-size}
 use Rattle.wire.specs.Wire.{be, encMany}
 use Rattle.wire.specs.Number.{be-length}
 use Rattle.wire.specs.Puts.{Size}
@@ -86,18 +87,13 @@ drained-most d s t u =
       u .few,
     )
 
-id-most : (i : OptionalId) → length (encodeId i) ≤ 9
-unfolding encodeId
-id-most optional.NoId = omega (arith, be-length 1 0)
-id-most (optional.Of i) = omega (arith, length-append (be 1 1) (be 8 (i .0)), be-length 1 1, be-length 8 (i .0))
-
 pub failure-most : (n : ℕ) (i j : OptionalId) (h : List ℕ) (k : ℕ) → length h ≡ 32 → length (be 8 n ++ encodeId i ++ encodeId j ++ h ++ be 1 k) ≤ 59
 failure-most n i j h k e =
     let a = be 8 n in
     let b = encodeId i in
     let c = encodeId j in
     let d = be 1 k in
-    omega (arith, length-append (a ++ b ++ c ++ h) d, length-append (a ++ b ++ c) h, length-append (a ++ b) c, length-append a b, be-length 8 n, be-length 1 k, id-most i, id-most j)
+    omega (arith, length-append (a ++ b ++ c ++ h) d, length-append (a ++ b ++ c) h, length-append (a ++ b) c, length-append a b, be-length 8 n, be-length 1 k, id-size i, id-size j)
 
 -- ---- what the parts of a failure are
 id-optional : (i : OptionalId) → encodeId i ≡ encodeOptional (idMeans i)

@@ -8,9 +8,10 @@ use native.Mathlib.Nat.{add-zero, one-mul, add-mul}
 use lib.ListN.{length, getD, take, length-append}
 use lib.Dec.{leb}
 use borrow.Author.Tests.{le-leb, leb-true, not-true, not-false}
+use Rattle.lists.specs.Laws.{take-cut}
 use Rattle.wire.specs.Wire.{be, encMany}
 use Rattle.wire.specs.Number.{be-length}
-use Rattle.wire.specs.Puts.{Puts, Room, room-first, room-next, puts-join, puts-as, room-as, splice, splice-none, many-suc, take-cut}
+use Rattle.wire.specs.Puts.{Puts, Room, room-first, room-next, puts-join, puts-as, room-as, splice, splice-none, many-suc}
 
 -- where l has room in d from place `at` on, it is written there, d is d′ then and e the place behind it
 pub record Fits (l : List ℕ) (at : ℕ) (d d′ : List ℕ) (e : ℕ) : Type 0 where

@@ -20,11 +20,11 @@ use drain_answers::SubmissionDrainFailure;
 use drain_answers::SubmissionDrainFailureStage;
 use drain_answers::retained_id;
 use drain_answers::stage_of;
+use lists::at_most;
 use slots::SubmissionAttemptRelationship;
 use spend_size::size_bundle;
 use spend_size::size_fee_intent;
 use spend_size::size_height;
-use spend_write::write::at_most;
 use submitted::DrainedSubmission;
 use submitted::OptionalToken;
 

@@ -18,11 +18,11 @@ use book_data::Ids64;
 use book_data::OptionalAttempt;
 use book_data::SubmissionFeeIntent;
 use entry_write::goal_number;
+use lists::at_most;
 use replies::CallAnswer;
 use replies::FeeSourceDisposition;
 use replies::FinalizedSubmission;
 use replies::SubmissionAttemptStatus;
-use spend_write::write::at_most;
 
 // 0, or the refusal's number.
 pub fn refusal_number(a: CallAnswer) -> u8

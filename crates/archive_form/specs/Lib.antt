@@ -1,3 +1,4 @@
 pub mod Encode
 pub mod Parse
 pub mod Specimen
+pub mod Lengths

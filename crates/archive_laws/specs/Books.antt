@@ -7,14 +7,14 @@ use native.Mathlib.Omega.{arith}
 use lib.Dec.{eqb, ltb}
 use lib.ListN.{length}
 use borrow.Author.Tests.{eqb-true}
-use Rattle.lists.specs.Lists.{allb, elemb, distinctb, flatMap}
+use Rattle.lists.specs.Lists.{allb, elemb, distinctb, flatMap, risingb}
 use Rattle.lists.specs.Laws.{and-split, and-both}
 use Rattle.wire.specs.Wire.{be, encMany, encList, Parser, number, checked, listFrom, listOf}
 use Rattle.wire.specs.Lawful.{Lawful, step, finish, recode, regood}
 use Rattle.wire.specs.Items.{number-lawful, checked-lawful, listFrom-lawful, AllFrom}
 use Rattle.spend.specs.Forms.{encodeHeight}
 use Rattle.book_data.specs.Zero.{zeroSubmitted, zeroDelivery}
-use Rattle.book_data.specs.Sound.{soundSubmitted, soundDelivery, idOf, tokensOf, risingb, soundLists}
+use Rattle.book_data.specs.Sound.{soundSubmitted, soundDelivery, idOf, tokensOf, soundLists}
 use Rattle.book_data.specs.SoundLaws.{sound-lists, lists-sound}
 use Rattle.book_data.specs.Model.{Book}
 use Rattle.book_data.specs.Typed.{Every, U64, TypedOptionalHeight, TypedSubmitted, TypedDelivery}

@@ -1,15 +1,15 @@
 -- The rules between items: what each element must keep towards those before it makes up the rule of the whole list.
 use mathlib.Core.Path.{_≡_, refl, sym, ap, _∙_, subst}
-use mathlib.Core.Bool.{Bool, true, false, cond, not, _&&_, _||_, false≢true}
-use mathlib.Core.List.{List, [], _∷_, _++_, map, append-nil, append-assoc}
+use mathlib.Core.Bool.{Bool, true, false, cond, not, _&&_, _||_}
+use mathlib.Core.List.{List, [], _∷_, _++_, map, append-nil, append-assoc, map-append}
 use Prim.Native.Nat.{ℕ, suc}
 use lib.Dec.{eqb, ltb}
-use borrow.Author.Tests.{not-true, eqb-true, eq-eqb}
-use Rattle.lists.specs.Lists.{allb, elemb, distinctb, flatMap}
-use Rattle.lists.specs.Laws.{and-split, and-both}
-use Rattle.lists.specs.Sub.{Sub, sub-all, sub-none, sub-append, distinct-sub, all-sub}
+use borrow.Author.Tests.{not-true}
+use Rattle.lists.specs.Lists.{allb, elemb, distinctb, flatMap, risingb}
+use Rattle.lists.specs.Laws.{and-split, and-both, or-false, all-snoc, flat-append}
+use Rattle.lists.specs.Sub.{Sub, sub-all, sub-none, sub-append, distinct-sub, all-sub, eqb-sym, distinct-snoc}
 use Rattle.wire.specs.Items.{AllFrom}
-use Rattle.book_data.specs.Sound.{risingFrom, risingb, attemptToken, tokensOf}
+use Rattle.book_data.specs.Sound.{attemptToken, tokensOf}
 use Rattle.book_data.specs.declared.OptionalAttempt.{OptionalAttempt}
 use Rattle.book_data.specs.declared.SubmittedTx.{SubmittedTx}
 use Rattle.archive_form.specs.Parse.{freshToken, above}
@@ -36,37 +36,15 @@ module _ {A : Type 0} (P Q : List A → A → Type 0) where
   from-map f before (x ∷ xs) h = (f before x (h .0), from-map f (before ++ (x ∷ [])) xs (h .1))
 
 -- ---- no number twice
-or-false : (a b : Bool) → (a || b) ≡ false → (a ≡ false) × (b ≡ false)
-or-false true b h = absurd (false≢true (sym h))
-or-false false b h = (refl, h)
-
 or-both : {a b : Bool} → a ≡ false → b ≡ false → (a || b) ≡ false
 or-both {a} {b} p q = ap (λ (x : Bool). x || b) p ∙ q
-
-eqb-sym : (x y : ℕ) → eqb y x ≡ false → eqb x y ≡ false
-eqb-sym x y h = go (eqb x y) refl
-  where
-    go : (b : Bool) → eqb x y ≡ b → eqb x y ≡ false
-    go true e = absurd (false≢true (sym h ∙ eq-eqb y x (sym (eqb-true x y e))))
-    go false e = e
-
-elem-snoc : (x y : ℕ) (xs : List ℕ) → elemb y xs ≡ false → eqb x y ≡ false → elemb y (xs ++ (x ∷ [])) ≡ false
-elem-snoc x y [] h e = or-both e refl
-elem-snoc x y (z ∷ xs) h e = let t = or-false (eqb z y) (elemb y xs) h in or-both (t .0) (elem-snoc x y xs (t .1) e)
 
 elem-last : (x y : ℕ) (xs : List ℕ) → elemb y (xs ++ (x ∷ [])) ≡ false → eqb x y ≡ false
 elem-last x y [] h = or-false (eqb x y) false h .0
 elem-last x y (z ∷ xs) h = elem-last x y xs (or-false (eqb z y) (elemb y (xs ++ (x ∷ []))) h .1)
 
 pub distinct-grow : (xs : List ℕ) (x : ℕ) → distinctb xs ≡ true → not (elemb x xs) ≡ true → distinctb (xs ++ (x ∷ [])) ≡ true
-distinct-grow xs x h n = go xs h (not-true (elemb x xs) n)
-  where
-    go : (ys : List ℕ) → distinctb ys ≡ true → elemb x ys ≡ false → distinctb (ys ++ (x ∷ [])) ≡ true
-    go [] h n = refl
-    go (y ∷ ys) h n =
-        let t = and-split (not (elemb y ys)) (distinctb ys) h in
-        let u = or-false (eqb y x) (elemb x ys) n in
-        and-both (ap not (elem-snoc x y ys (not-true (elemb y ys) (t .0)) (eqb-sym x y (u .0)))) (go ys (t .1) (u .1))
+distinct-grow xs x h n = distinct-snoc xs x h (not-true (elemb x xs) n)
 
 pub distinct-last : (xs : List ℕ) (x : ℕ) → distinctb (xs ++ (x ∷ [])) ≡ true → not (elemb x xs) ≡ true
 distinct-last xs x h = ap not (go xs h)
@@ -84,14 +62,6 @@ pub distinct-start : (xs ys : List ℕ) → distinctb (xs ++ ys) ≡ true → di
 distinct-start xs ys h = distinct-sub (start-sub xs ys) h
 
 -- ---- the ids of a list
-pub map-append : {A B : Type 0} (f : A → B) (xs ys : List A) → map f (xs ++ ys) ≡ map f xs ++ map f ys
-map-append f [] ys = refl
-map-append {B = B} f (x ∷ xs) ys = ap (λ (l : List B). f x ∷ l) (map-append f xs ys)
-
-pub flat-append : {A B : Type 0} (f : A → List B) (xs ys : List A) → flatMap f (xs ++ ys) ≡ flatMap f xs ++ flatMap f ys
-flat-append f [] ys = refl
-flat-append {B = B} f (x ∷ xs) ys = ap (λ (l : List B). f x ++ l) (flat-append f xs ys) ∙ sym (append-assoc (f x) (flatMap f xs) (flatMap f ys))
-
 module _ {A : Type 0} (f : A → ℕ) where
   pub keys-grow : (before : List A) (x : A) → distinctb (map f before) ≡ true → not (elemb (f x) (map f before)) ≡ true → distinctb (map f (before ++ (x ∷ []))) ≡ true
   keys-grow before x d n = ap distinctb (map-append f before (x ∷ [])) ∙ distinct-grow (map f before) (f x) d n
@@ -106,10 +76,6 @@ module _ {A : Type 0} (f : A → ℕ) where
 pub record Held (next : ℕ) (held : List ℕ) : Type 0 where
   pub once : distinctb held ≡ true
   pub below : allb (λ t. ltb t next) held ≡ true
-
-all-snoc : (p : ℕ → Bool) (xs : List ℕ) (x : ℕ) → allb p xs ≡ true → p x ≡ true → allb p (xs ++ (x ∷ [])) ≡ true
-all-snoc p [] x h k = and-both k refl
-all-snoc p (y ∷ xs) x h k = let t = and-split (p y) (allb p xs) h in and-both (t .0) (all-snoc p xs x (t .1) k)
 
 all-last : (p : ℕ → Bool) (xs : List ℕ) (x : ℕ) → allb p (xs ++ (x ∷ [])) ≡ true → p x ≡ true
 all-last p [] x h = and-split (p x) true h .0
@@ -166,14 +132,14 @@ slots-start next xs ys h = held-start next (flatMap tokensOf xs) (flatMap tokens
 pub rising-grow : (xs : List ℕ) (x : ℕ) → risingb xs ≡ true → above xs x ≡ true → risingb (xs ++ (x ∷ [])) ≡ true
 rising-grow [] x h k = refl
 rising-grow (y ∷ []) x h k = and-both k refl
-rising-grow (y ∷ z ∷ ys) x h k = let t = and-split (ltb y z) (risingFrom z ys) h in and-both (t .0) (rising-grow (z ∷ ys) x (t .1) k)
+rising-grow (y ∷ z ∷ ys) x h k = let t = and-split (ltb y z) (risingb (z ∷ ys)) h in and-both (t .0) (rising-grow (z ∷ ys) x (t .1) k)
 
 pub rising-last : (xs : List ℕ) (x : ℕ) → risingb (xs ++ (x ∷ [])) ≡ true → above xs x ≡ true
 rising-last [] x h = refl
 rising-last (y ∷ []) x h = and-split (ltb y x) true h .0
-rising-last (y ∷ z ∷ ys) x h = rising-last (z ∷ ys) x (and-split (ltb y z) (risingFrom z (ys ++ (x ∷ []))) h .1)
+rising-last (y ∷ z ∷ ys) x h = rising-last (z ∷ ys) x (and-split (ltb y z) (risingb (z ∷ (ys ++ (x ∷ [])))) h .1)
 
 pub rising-start : (xs ys : List ℕ) → risingb (xs ++ ys) ≡ true → risingb xs ≡ true
 rising-start [] ys h = refl
 rising-start (x ∷ []) ys h = refl
-rising-start (x ∷ z ∷ xs) ys h = let t = and-split (ltb x z) (risingFrom z (xs ++ ys)) h in and-both (t .0) (rising-start (z ∷ xs) ys (t .1))
+rising-start (x ∷ z ∷ xs) ys h = let t = and-split (ltb x z) (risingb (z ∷ (xs ++ ys))) h in and-both (t .0) (rising-start (z ∷ xs) ys (t .1))

@@ -6,6 +6,7 @@ use Prim.Native.Nat.{ℕ, zero, suc, _+_, _*_, _≤_, _<_, min}
 use native.Mathlib.Nat.{suc-mul}
 use native.Mathlib.Omega.{arith}
 use lib.ListN.{length, take, length-append, length-take}
+use Rattle.archive_form.specs.Lengths.{id-size, numbers-size}
 use Rattle.wire.specs.Wire.{be, encMany, encList, encOpt}
 use Rattle.wire.specs.Number.{be-length}
 use Rattle.spend.specs.Forms.{encodeOutput, encodeRun, encodeSpend, encodeBundle, encodeHeight, encodeFeeIntent, kindNumber, attached}
@@ -14,8 +15,6 @@ use Rattle.book_data.specs.Model.{Book, view, back, list16, list64}
 use Rattle.book_data.specs.Typed.{Every, U64, Typed, TypedOutput, TypedSpend, TypedBundle, TypedFeeIntent, TypedHash, TypedAttempt, TypedOptionalAttempt, TypedSlots, TypedVariant, TypedEntry, TypedSubmitted, TypedDelivery}
 use Rattle.book_data.specs.declared.OptionalHeight.{OptionalHeight}
 use Rattle.book_data.specs.declared.OptionalHeight.the-variants.{NoHeight, At}
-use Rattle.book_data.specs.declared.OptionalId.{OptionalId}
-use Rattle.book_data.specs.declared.OptionalId.the-variants.{NoId, Of}
 use Rattle.book_data.specs.declared.Output.{Output}
 use Rattle.book_data.specs.declared.CoinSpend.{CoinSpend}
 use Rattle.book_data.specs.declared.SpendBundle.{SpendBundle}
@@ -99,11 +98,6 @@ unfolding encodeHeight
 height-size NoHeight = omega (arith, be-length 1 0)
 height-size (At h) = omega (arith, length-append (be 1 1) (be 8 (h .0)), be-length 1 1, be-length 8 (h .0))
 
-id-size : (i : OptionalId) → length (encodeId i) ≤ 9
-unfolding encodeId
-id-size NoId = omega (arith, be-length 1 0)
-id-size (Of i) = omega (arith, length-append (be 1 1) (be 8 (i .0)), be-length 1 1, be-length 8 (i .0))
-
 pub fee-intent-size : (f : SubmissionFeeIntent) → TypedFeeIntent f → length (encodeFeeIntent f) ≤ 41
 unfolding encodeFeeIntent
 fee-intent-size f t = omega (arith, length-append (be 1 (kindNumber (f .kind))) (attached (f .kind) f), be-length 1 (kindNumber (f .kind)), go (f .kind))
@@ -173,10 +167,6 @@ delivery-size d h =
     omega (arith, length-append (i ++ b ++ e ++ f ++ t) g, length-append (i ++ b ++ e ++ f) t, length-append (i ++ b ++ e) f, length-append (i ++ b) e, length-append i b, be-length 1 (triggerNumber (d .trigger)), be-length 1 (goalNumber (d .goal)), id-size (d .intent .id), bundle-size (d .intent .bundle) (h .bundle), height-size (d .intent .expiry), fee-intent-size (d .intent .«fee_intent») (h .fee-intent))
 
 -- ---- the book
-numbers-size : (m : Book) → length (encodeNumbers m) ≡ 17
-unfolding encodeNumbers
-numbers-size m = omega (arith, length-append (be 1 2 ++ be 8 (m .nextToken .0)) (be 8 (m .nextId .0)), length-append (be 1 2) (be 8 (m .nextToken .0)), be-length 1 2, be-length 8 (m .nextToken .0), be-length 8 (m .nextId .0))
-
 ids-size : (n : ℕ) (l : List ℕ) → length l ≤ n → length (encList (be 8) l) ≤ 1 + n * 8
 ids-size n l h = list-size (be 8) n 8 l h (each l)
   where

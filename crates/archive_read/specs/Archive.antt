@@ -3,8 +3,9 @@ use Prim.Native.Nat.{ℕ, zero, _≤_, _<_}
 use mathlib.Core.Path.{_≡_, sym, ap, _∙_}
 use mathlib.Core.Bool.{Bool, true, false}
 use mathlib.Core.List.{List, [], map}
-use borrow.Author.Tests.{le-leb, lt-leb}
+use borrow.Author.Tests.{lt-leb}
 use lib.ListN.{length, take}
+use Rattle.wire.specs.Items.{end-reads}
 use Rattle.lists.specs.Lists.{cells}
 use Rattle.wire.specs.Wire.{Ans, got, bad, pick, andThen, Parser, _>>=_, done, listFrom, listOf, end}
 use Rattle.book_data.specs.Zero.{zeroSubmitted, zeroDelivery}
@@ -66,14 +67,10 @@ pub end-over : {A : Type 0} (a : A) (s : List ℕ) (e : ℕ) → e < length s �
 unfolding end
 end-over a s e h = ap (λ (b : Bool). pick b (got a e) (bad e)) (lt-leb (length s) e h)
 
-pub end-here : {A : Type 0} (a : A) (s : List ℕ) (e : ℕ) → length s ≤ e → end a s e ≡ got a e
-unfolding end
-end-here a s e h = ap (λ (b : Bool). pick b (got a e) (bad e)) (le-leb (length s) e h)
-
 pub whole-got : (s : List ℕ) {n : Numbers} {t : List SubmittedTx} {q : List PendingDelivery} {x : Tail} {d e f g : ℕ} → parseNumbers s 0 ≡ got n d → listFrom 16 (parseSubmitted (n .token)) s d ≡ got t e
     → listOf 16 parseDelivery s e ≡ got q f → parseTail (map idOf t) s f ≡ got x g → length s ≤ g → parseWhole s 0 ≡ got (bookOf n t q x) g
 unfolding wholeInParts
-whole-got s {n} {t} {q} {x} {d} {e} {f} {g} h i j k l = whole-is s 0 ∙ rw (h, i, j, k) (end-here (bookOf n t q x) s g l)
+whole-got s {n} {t} {q} {x} {d} {e} {f} {g} h i j k l = whole-is s 0 ∙ rw (h, i, j, k) (end-reads (bookOf n t q x) s g l)
 
 -- ---- the answer
 pub answer-bad : (s : List ℕ) {e : ℕ} → parseWhole s 0 ≡ bad e → record { ok = false; place = e; book = zeroBook } ≡ archiveAnswer (readArchive s)

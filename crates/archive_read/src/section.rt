@@ -17,6 +17,7 @@ use lists::contains;
 use spend_read::part;
 use wire_bytes::ReadNumber;
 use wire_bytes::read;
+use wire_bytes::read::no_number;
 ghost use mathlib.Core.Path.{_≡_};
 ghost use mathlib.Core.Bool.{true, false};
 ghost use mathlib.Core.List.{map};
@@ -156,16 +157,6 @@ pub fn read_queue(s: &[u8], at: usize) -> ReadQueue
         count: n,
         items,
         at: e,
-    }
-}
-
-fn no_number(at: usize) -> ReadNumber
-    ensures { λ r. ⌜ r ≡ record { ok = false; value = 0; at = at } ⌝ }
-{
-    ReadNumber {
-        ok: false,
-        value: 0,
-        at,
     }
 }
 

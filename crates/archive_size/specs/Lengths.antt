@@ -1,17 +1,18 @@
 -- How long the parts of an archive are.
-use mathlib.Core.Path.{_≡_, refl, sym, ap, _∙_}
+use mathlib.Core.Path.{_≡_, sym, ap, _∙_}
 use mathlib.Core.Bool.{Bool, true, false, false≢true}
-use mathlib.Core.List.{List, [], _∷_, _++_}
-use Prim.Native.Nat.{ℕ, zero, suc, _+_, _*_, _≤_, min}
-use native.Mathlib.Nat.{suc-mul}
+use mathlib.Core.List.{List, _++_}
+use Prim.Native.Nat.{ℕ, zero, _+_, _*_, _≤_, min}
 use native.Mathlib.Omega.{arith}
 use lib.ListN.{length, take, length-append}
+use Rattle.archive_form.specs.Lengths.{numbers-size}
+use Rattle.lists.specs.Laws.{count-cut}
 use Rattle.wire.specs.Wire.{be, encMany, encList, encOpt}
-use Rattle.wire.specs.Number.{be-length}
-use Rattle.wire.specs.Puts.{Size, size-as, length-cut}
+use Rattle.wire.specs.Number.{be-length, numbers-length}
+use Rattle.wire.specs.Puts.{Size, size-as}
 use Rattle.spend.specs.Forms.{encodeBundle, encodeHeight, encodeFeeIntent}
 use Rattle.book_data.specs.Zero.{isNoId}
-use Rattle.book_data.specs.Model.{Book, view, list16, list64}
+use Rattle.book_data.specs.Model.{view, list16, list64}
 use Rattle.book_data.specs.declared.OptionalId.{OptionalId}
 use Rattle.book_data.specs.declared.OptionalId.the-variants.{NoId, Of}
 use Rattle.book_data.specs.declared.OptionalHash.{OptionalHash}
@@ -120,18 +121,9 @@ delivery-size d i b h f si sb sh sf =
     }
 
 -- ---- the book
-ids-length : (l : List ℕ) → length (encMany (be 8) l) ≡ length l * 8
-unfolding encMany
-ids-length [] = refl
-ids-length (x ∷ l) = let m : suc (length l) * 8 ≡ length l * 8 + 8 = suc-mul (length l) 8 in omega (arith, length-append (be 8 x) (encMany (be 8) l), be-length 8 x, ids-length l)
-
 list-length : {A : Type 0} (enc : A → List ℕ) (l : List A) → length (encList enc l) ≡ 1 + length (encMany enc l)
 unfolding encList
 list-length enc l = omega (arith, length-append (be 1 (length l)) (encMany enc l), be-length 1 (length l))
-
-numbers-length : (m : Book) → length (encodeNumbers m) ≡ 17
-unfolding encodeNumbers
-numbers-length m = omega (arith, length-append (be 1 2 ++ be 8 (m .nextToken .0)) (be 8 (m .nextId .0)), length-append (be 1 2) (be 8 (m .nextToken .0)), be-length 1 2, be-length 8 (m .nextToken .0), be-length 8 (m .nextId .0))
 
 -- the parts of the sum: submissions, queue, retirements, rollback height, replayed ids
 pub book-size : (b : BookData) (s q r h p : ℕ) → Size (encMany encodeSubmitted (take (b .«submitted_count») (b .submitted))) 38880 s → Size (encMany encodeDelivery (take (b .«pending_count») (b .«pending_deliveries»))) 18144 q
@@ -146,9 +138,9 @@ book-size b s q r h p ss sq er lr sh ep lp =
     let z = encList (be 8) (m .retired) in
     let g = encodeHeight (m .rollback) in
     let w = encList (be 8) (m .replayed) in
-    let r′ = length-cut 64 (b .«retired_submission_ids» .count) r (b .«retired_submission_ids» .items) lr er in
-    let p′ = length-cut 16 (b .«replay_epoch» .«replayed_submission_ids» .count) p (b .«replay_epoch» .«replayed_submission_ids» .items) lp ep in
+    let r′ = count-cut 64 (b .«retired_submission_ids» .count) r (b .«retired_submission_ids» .items) lr er in
+    let p′ = count-cut 16 (b .«replay_epoch» .«replayed_submission_ids» .count) p (b .«replay_epoch» .«replayed_submission_ids» .items) lp ep in
     record {
-      is = omega (arith, ss .is, sq .is, sh .is, r′, p′, length-append (n ++ x ++ y ++ z ++ g) w, length-append (n ++ x ++ y ++ z) g, length-append (n ++ x ++ y) z, length-append (n ++ x) y, length-append n x, numbers-length m, list-length encodeSubmitted (m .submitted), list-length encodeDelivery (m .pending), list-length (be 8) (m .retired), list-length (be 8) (m .replayed), ids-length (m .retired), ids-length (m .replayed));
+      is = omega (arith, ss .is, sq .is, sh .is, r′, p′, length-append (n ++ x ++ y ++ z ++ g) w, length-append (n ++ x ++ y ++ z) g, length-append (n ++ x ++ y) z, length-append (n ++ x) y, length-append n x, numbers-size m, list-length encodeSubmitted (m .submitted), list-length encodeDelivery (m .pending), list-length (be 8) (m .retired), list-length (be 8) (m .replayed), numbers-length (m .retired), numbers-length (m .replayed));
       few = omega (arith, ss .few, sq .few, sh .few);
     }

@@ -12,10 +12,10 @@ use book_data::PendingDelivery;
 use book_data::SubmissionBroadcastVariant;
 use book_data::SubmittedEntry;
 use book_data::SubmittedTx;
+use lists::at_most;
 use spend_size::size_bundle;
 use spend_size::size_fee_intent;
 use spend_size::size_height;
-use spend_write::write::at_most;
 
 fn size_hash(h: OptionalHash) -> usize
     ensures { λ r. ⌜ Size (encodeHash h) 33 r ⌝ }

@@ -5,8 +5,9 @@ use Prim.Native.Nat.{ℕ, _+_, _-_, _≤_, min}
 use native.Mathlib.Nat.{sub-zero}
 use native.Mathlib.Omega.{arith}
 use lib.ListN.{length, take, drop, length-take}
+use Rattle.lists.specs.Laws.{take-cut}
 use Rattle.wire.specs.Wire.{be, encList}
-use Rattle.wire.specs.Puts.{Room, Puts, room-next, rest-room, rest-puts, puts-join, take-cut}
+use Rattle.wire.specs.Puts.{Room, Puts, room-next, rest-room, rest-puts, puts-join}
 
 module _ {a l : List ℕ} {at : ℕ} {d xs : List ℕ} {e : ℕ} where
   pub room-rest : Room (a ++ l) at d → Puts a at d xs e → Room l 0 (take (length xs - e) (drop e xs))

@@ -14,7 +14,7 @@ use book_data::SubmittedTx;
 use book_data::Token;
 use entry_write::write_delivery;
 use entry_write::write_submitted;
-use spend_write::write::at_most;
+use lists::at_most;
 use spend_write::write::write_height;
 use wire::write::put_byte;
 use wire::write::put_number;

@@ -1,23 +1,17 @@
 -- From a place to the element there and to what is said by key. Each law holds for elements of any kind.
-use mathlib.Core.Path.{_≡_, refl, sym, ap, _∙_, subst}
+use mathlib.Core.Path.{_≡_, refl, sym, ap, _∙_}
 use mathlib.Core.Bool.{Bool, true, false, cond, not, _||_, false≢true}
-use mathlib.Core.List.{List, [], _∷_, _++_, map}
-use Prim.Native.Nat.{ℕ, zero, suc, _+_, _≤_, _<_}
+use mathlib.Core.List.{List, [], _∷_, map}
+use Prim.Native.Nat.{ℕ, zero, suc, _≤_, _<_}
 use native.Mathlib.Omega.{arith}
 use lib.Dec.{eqb, ltb}
 use borrow.Author.Tests.{eq-eqb, ne-eqb, not-true, lt-ltb, le-ltb, ltb-true, ltb-false}
-use lib.ListN.{length, getD, set, take, drop, replicate}
+use lib.ListN.{length, getD, set, drop}
 use Rattle.lists.specs.Lists.{filterb, anyb, elemb, distinctb, indexOf}
-use Rattle.lists.specs.Laws.{and-split, any-index, store-step, map-turn, map-done}
-use Rattle.book_data.specs.SoundLaws.{Counted}
-use Rattle.ids.specs.Counted.{counted-none, counted-push}
+use Rattle.lists.specs.Laws.{and-split, any-index, or-false}
 use Rattle.rules.specs.Keyed.{pick, change}
 use Rattle.book_cells.specs.declared.Place.the-variants.{At, Nothing}
 use Rattle.book_cells.specs.Place.{placed, placeOf}
-
-or-false : (a b : Bool) → (a || b) ≡ false → (a ≡ false) × (b ≡ false)
-or-false true b h = absurd (false≢true (sym h))
-or-false false b h = (refl, h)
 
 -- ---- a place that was found, and one that was not
 module _ {A : Type 0} (p : A → Bool) where
@@ -170,23 +164,3 @@ module _ {A : Type 0} (key : A → ℕ) where
     -- a change by key is a store at its place
     pub change-at : (f : A → A) → change key i f xs ≡ set xs k (f (getD xs k d))
     change-at f = ap (λ (j : ℕ). change key j f xs) (sym here) ∙ changed f xs k d within distinct
-
--- ---- a loop that writes the key of each element: i keys stand at the front of the cells out, whose others are 0
-module _ {A : Type 0} (key : A → ℕ) (N : ℕ) (xs : List A) where
-  pub record Copying (out : List ℕ) (i : ℕ) : Type 0 where
-    pub counted : Counted N 0 i out (take i out)
-    pub rest : take i out ++ map key (drop i xs) ≡ map key xs
-
-  pub copy-start : Copying (replicate N 0) 0
-  copy-start = record { counted = counted-none N 0; rest = refl }
-
-  pub copy-turn : (out : List ℕ) (i : ℕ) {x : A} → Copying out i → i < N → length out ≡ N → drop i xs ≡ x ∷ drop (i + 1) xs → Copying (set out i (key x)) (i + 1)
-  copy-turn out i {x} v h l e =
-      let s : take (i + 1) (set out i (key x)) ≡ take i out ++ (key x ∷ []) = store-step out i (key x) (omega arith) in
-      record {
-        counted = subst (λ (ys : List ℕ). Counted N 0 (i + 1) (set out i (key x)) ys) (sym s) (counted-push (v .counted) (key x) h);
-        rest = map-turn key (take i out) e s (v .rest);
-      }
-
-  pub copy-all : (out : List ℕ) (i : ℕ) → Copying out i → drop i xs ≡ [] → Counted N 0 i out (map key xs)
-  copy-all out i v e = subst (λ (ys : List ℕ). Counted N 0 i out ys) (map-done key (take i out) e (v .rest)) (v .counted)

@@ -6,7 +6,7 @@ use mathlib.Core.List.{List, [], _∷_, _++_, map}
 use Prim.Native.Nat.{ℕ}
 use lib.Dec.{leb, ltb}
 use lib.ListN.{take}
-use Rattle.lists.specs.Lists.{allb, elemb, distinctb, flatMap, tailOf, isZero}
+use Rattle.lists.specs.Lists.{allb, elemb, distinctb, risingb, flatMap, tailOf, isZero}
 use Rattle.book_data.specs.Zero.{isZero32, isZeroOutput, isZeroSpend, isZeroHash, isNoAttempt, isBaseVariant, isZeroSubmitted, isZeroDelivery}
 use Rattle.book_data.specs.Model.{Book, view}
 use Rattle.book_data.specs.declared.Output.{Output}
@@ -106,16 +106,7 @@ slotTokens s = attemptToken (s .«active_attempt») ++ attemptToken (s .«comple
 abbrev pub tokensOf : SubmittedTx → List ℕ
 tokensOf t = slotTokens (t .slots)
 
--- each number is above the one before it
-abbrev pub risingFrom : ℕ → List ℕ → Bool
-risingFrom x [] = true
-risingFrom x (y ∷ ys) = ltb x y && risingFrom y ys
-
-abbrev pub risingb : List ℕ → Bool
-risingb [] = true
-risingb (x ∷ xs) = risingFrom x xs
-
--- the rules over the lists of a book
+-- the rules over the lists of a book; `risingb`: each number is below the next
 unfoldable pub soundLists : Book → Bool
 unfolding soundSubmitted soundDelivery
 soundLists m =

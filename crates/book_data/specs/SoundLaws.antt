@@ -1,5 +1,5 @@
 -- What soundness gives, and what gives it.
-use mathlib.Core.Path.{_≡_, refl, sym, ap, _∙_}
+use mathlib.Core.Path.{_≡_, refl, ap, _∙_}
 use mathlib.Core.Bool.{Bool, true, _||_}
 use mathlib.Core.List.{List, [], _∷_, map}
 use Prim.Native.Nat.{ℕ, _≤_}
@@ -8,12 +8,12 @@ use lib.Dec.{leb, ltb}
 use borrow.Author.Tests.{le-leb, leb-true}
 use lib.ListN.{length, take}
 use lib.Seq.{length-take-le}
-use Rattle.lists.specs.Lists.{allb, elemb, distinctb, flatMap, cells, tailOf, isZero}
+use Rattle.lists.specs.Lists.{allb, elemb, distinctb, flatMap, cells, tailOf, isZero, risingb}
 use Rattle.lists.specs.Laws.{trues, and-split, and-both, cells-take, tail-length, take-cells, tail-cells}
 use Rattle.book_data.specs.Zero.{zeroOutput, zeroSpend, zeroSubmitted, zeroDelivery, isZeroOutput, isZeroSpend, isZeroSubmitted, isZeroDelivery}
 use Rattle.book_data.specs.ZeroLaws.{number-zero, output-zero, spend-zero, submitted-zero, delivery-zero, submitted-zero-is, delivery-zero-is}
 use Rattle.book_data.specs.Model.{Book, view, back}
-use Rattle.book_data.specs.Sound.{soundSpend, spendsOf, soundBundle, readableBundle, soundFeeIntent, soundHash, soundSlots, soundVariant, soundEntry, soundSubmitted, soundDelivery, idOf, tokensOf, risingb, soundLists, soundCells, soundb}
+use Rattle.book_data.specs.Sound.{soundSpend, spendsOf, soundBundle, readableBundle, soundFeeIntent, soundHash, soundSlots, soundVariant, soundEntry, soundSubmitted, soundDelivery, idOf, tokensOf, soundLists, soundCells, soundb}
 use Rattle.book_data.specs.declared.CoinSpend.{CoinSpend}
 use Rattle.book_data.specs.declared.SpendBundle.{SpendBundle}
 use Rattle.book_data.specs.declared.SubmittedEntry.{SubmittedEntry}
@@ -249,28 +249,3 @@ back-of b m p s q t y = λ i. record {
   «retired_submission_ids» = record { count = t .count i; items = t .held i };
   «replay_epoch» = record { «rollback_height» = p .rollback i; «replayed_submission_ids» = record { count = y .count i; items = y .held i } };
 }
-
-counted : {A : Type 0} {N : ℕ} {z : A} {n : ℕ} {xs : List A} → InCells N z n xs → Counted N z n xs (take n xs)
-counted c = record { count = sym (c .used); held = sym (c .held) }
-
--- the parts of a sound book that an operation leaves alone
-module _ (b : BookData) (s : Sound b) where
-  pub same-plain : Plain b (view b)
-  unfolding view
-  same-plain = record { token = refl; id = refl; rollback = refl }
-
-  pub same-submitted : Counted 16 zeroSubmitted (b .«submitted_count») (b .submitted) (view b .submitted)
-  unfolding view
-  same-submitted = counted (s .submitted)
-
-  pub same-pending : Counted 16 zeroDelivery (b .«pending_count») (b .«pending_deliveries») (view b .pending)
-  unfolding view
-  same-pending = counted (s .pending)
-
-  pub same-retired : Counted 64 0 (b .«retired_submission_ids» .count) (b .«retired_submission_ids» .items) (view b .retired)
-  unfolding view
-  same-retired = counted (s .retired)
-
-  pub same-replayed : Counted 16 0 (b .«replay_epoch» .«replayed_submission_ids» .count) (b .«replay_epoch» .«replayed_submission_ids» .items) (view b .replayed)
-  unfolding view
-  same-replayed = counted (s .replayed)

@@ -12,7 +12,7 @@ use book_text::entry::append_submission;
 use book_text::entry::append_tokens;
 use book_text::words::append_height;
 use libc::STDOUT_FILENO;
-use spend_write::write::at_most;
+use lists::at_most;
 use text::append_number_line;
 
 // Writes the first n bytes.

@@ -5,16 +5,14 @@ ghost use mathlib.Core.List.{[], _∷_, _++_, map};
 ghost use Prim.Native.Nat.{_+_, _≤_, _<_};
 ghost use lib.Dec.{ltb};
 ghost use lib.ListN.{take};
-ghost use Rattle.lists.specs.Lists.{allb, elemb, distinctb, flatMap, tailOf, isZero};
+ghost use Rattle.lists.specs.Lists.{allb, elemb, distinctb, flatMap, tailOf, isZero, risingb};
 ghost use Rattle.book_data.specs.Zero.{isZeroSubmitted, isZeroDelivery};
 ghost use Rattle.book_data.specs.Model.{list16, list64, ids16};
-ghost use Rattle.book_data.specs.Sound.{soundSubmitted, soundDelivery, idOf, tokensOf, risingb};
+ghost use Rattle.book_data.specs.Sound.{soundSubmitted, soundDelivery, idOf, tokensOf};
 use crate::is_sound_delivery;
 use crate::is_sound_submitted;
 use crate::numbers::all_among;
-use crate::numbers::at_most;
 use crate::numbers::first;
-use crate::numbers::is_rising;
 use crate::numbers::zeros_from;
 use book_data::Ids16;
 use book_data::Ids64;
@@ -22,7 +20,9 @@ use book_data::PendingDelivery;
 use book_data::SubmittedTx;
 use book_data::Token;
 use lists::all_below;
+use lists::at_most;
 use lists::distinct;
+use lists::is_rising;
 
 // The cells from n on are zero.
 pub fn submitted_tail(a: [SubmittedTx; 16], n: usize) -> bool

@@ -18,7 +18,6 @@ use crate::cells::sound_submissions;
 use crate::cells::submitted_tail;
 use crate::cells::tokens_below;
 use crate::cells::tokens_of;
-use crate::numbers::at_most;
 use crate::numbers::zero_bytes_from;
 use book_data::AttemptSlots;
 use book_data::BookData;
@@ -34,6 +33,7 @@ use book_data::SubmittedEntry;
 use book_data::SubmittedTx;
 use book_data::zero::zero_outputs;
 use book_data::zero::zero_spends;
+use lists::at_most;
 use lists::zero32;
 
 pub mod cells;

@@ -1,16 +1,9 @@
 // Tests over slices of numbers.
 ghost use mathlib.Core.Path.{_≡_};
-ghost use Prim.Native.Nat.{min};
 ghost use lib.ListN.{take, drop};
 ghost use Rattle.lists.specs.Lists.{allb, elemb, isZero};
-ghost use Rattle.book_data.specs.Sound.{risingb};
+use lists::at_most;
 use lists::contains;
-
-pub fn at_most(n: usize, m: usize) -> usize
-    ensures { λ r. ⌜ r ≡ min n m ⌝ }
-{
-    if n < m { n } else { m }
-}
 
 // The first n numbers, or all.
 pub fn first(s: &[u64], n: usize) -> &[u64]
@@ -41,20 +34,6 @@ pub fn zero_bytes_from(s: &[u8], n: usize) -> bool
     let mut i = n;
     while i < s.len() {
         ok = ok & (s[i] == 0);
-        i += 1;
-    }
-    ok
-}
-
-// Each number is above the one before it.
-pub fn is_rising(s: &[u64]) -> bool
-    ensures { λ r. ⌜ r ≡ risingb (now (s .entry)) ⌝ }
-{
-    let mut ok = true;
-    let mut i = 1;
-    while i < s.len() {
-        let before = i - 1;
-        ok = ok & (s[before] < s[i]);
         i += 1;
     }
     ok

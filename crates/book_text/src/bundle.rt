@@ -13,7 +13,7 @@ use book_data::CoinSpend;
 use book_data::Output;
 use book_data::SpendBundle;
 use book_data::SubmissionBroadcastVariant;
-use spend_write::write::at_most;
+use lists::at_most;
 use text::append_decimal;
 use text::append_hex_line;
 use text::append_number_line;

@@ -8,12 +8,7 @@ use coin_string::from_parts;
 use text::append_hex_line;
 use text::append_number_line;
 use wire_bytes::read::read_hash;
-
-fn wide(x: u8) -> u64
-    ensures { λ r. ⌜ r ≡ x ⌝ }
-{
-    x as u64
-}
+use wire_bytes::read::wide;
 
 // The amount of a coin string that is_coin accepts.
 pub fn amount(c: &[u8]) -> u64

@@ -1,5 +1,5 @@
 -- The form of each kind of answer in bytes, and the replies of the calls told in it.
-use Prim.Native.Nat.{ℕ, zero, suc, _+_, _-_, _*_, _≤_, _<_, zero-le, min}
+use Prim.Native.Nat.{ℕ, zero, suc, _+_, _-_, _≤_, _<_, zero-le, min}
 use mathlib.Core.Path.{_≡_, refl, sym, ap, _∙_, subst}
 use mathlib.Core.Bool.{Bool, true, false}
 use mathlib.Core.List.{List, [], _∷_, _++_, map}
@@ -10,7 +10,7 @@ use lib.ListN.{length, take, drop, replicate, length-append, length-take, length
 use lib.Seq.{take-at}
 use Rattle.lists.specs.Lists.{cells}
 use Rattle.wire.specs.Wire.{be, encMany, encOpt, overlay}
-use Rattle.wire.specs.Number.{be-length}
+use Rattle.wire.specs.Number.{be-length, numbers-length}
 use Rattle.wire.specs.Puts.{Puts, Size, puts-overlay}
 use Rattle.spend.specs.Forms.{encodeBundle, encodeHeight, encodeFeeIntent}
 use Rattle.archive_form.specs.Encode.{encodeHash, encodeAttempt, encodeSlot, goalNumber}
@@ -240,11 +240,6 @@ told-end x l l′ n f h =
     (omega (arith, o .0, q, length-take (n - 0) l′), o .0)
 
 -- ---- sizes
-numbers-length : (l : List ℕ) → length (encMany (be 8) l) ≡ length l * 8
-unfolding encMany
-numbers-length [] = refl
-numbers-length (x ∷ l) = omega (arith, length-append (be 8 x) (encMany (be 8) l), be-length 8 x, numbers-length l)
-
 pub ids-most : (i : Ids64) → length (i .items) ≡ 64 → length (encodeIds i) ≤ 513
 unfolding encodeIds
 ids-most i h =

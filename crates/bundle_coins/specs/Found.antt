@@ -2,9 +2,10 @@
 -- observed coins".
 use mathlib.Core.Path.{_≡_, refl, sym, ap, _∙_}
 use mathlib.Core.Bool.{Bool, true, false, cond, _||_}
-use mathlib.Core.List.{List, [], _∷_, _++_, map}
+use mathlib.Core.List.{List, [], _∷_, map}
 use Prim.Native.Nat.{ℕ, _+_}
 use lib.ListN.{take}
+use Rattle.lists.specs.Laws.{any-append}
 use Rattle.lists.specs.Lists.{anyb, flatMap}
 use Rattle.lists.specs.Bytes.{eqs, isIn}
 use Rattle.book_data.specs.Sound.{spendsOf, outputsOf}
@@ -33,14 +34,6 @@ isFound (At i j) = true
 isFound Nothing = false
 
 -- ---- an output is found exactly if one of the expected outputs is observed
-any-append : {A : Type 0} (p : A → Bool) (xs ys : List A) → anyb p (xs ++ ys) ≡ (anyb p xs || anyb p ys)
-any-append p [] ys = refl
-any-append p (x ∷ xs) ys = go (p x) (any-append p xs ys)
-  where
-    go : (b : Bool) → anyb p (xs ++ ys) ≡ (anyb p xs || anyb p ys) → (b || anyb p (xs ++ ys)) ≡ (b || anyb p xs || anyb p ys)
-    go true h = refl
-    go false h = h
-
 module _ (seen : List (List ℕ)) where
   outputs-any : (i j : ℕ) (s : CoinSpend) (os : List Output) (rest : Found) → isFound (inOutputs seen i j s os rest) ≡ (anyb (isIn seen) (map (outputCoin s) os) || isFound rest)
   outputs-any i j s [] rest = refl

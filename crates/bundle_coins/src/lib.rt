@@ -27,7 +27,7 @@ pub struct OutputCoins {
 }
 
 // A count within four cells.
-fn at_most_four(n: u8) -> usize
+pub fn at_most_four(n: u8) -> usize
     ensures { λ r. ⌜ r ≡ min n 4 ⌝ }
 {
     if n < 4 {

@@ -1,14 +1,14 @@
 // The calls that read the chain: which submissions it has ended, and which it has rolled back.
 ghost use mathlib.Core.Path.{_≡_};
 ghost use mathlib.Core.Bool.{true};
-ghost use Prim.Native.Nat.{_<_, _≤_};
+ghost use Prim.Native.Nat.{_<_};
 ghost use lib.ListN.{length, getD};
 ghost use Rattle.coin_string.specs.CoinIds.{idsIn};
 ghost use Rattle.coin_string.specs.CoinList.{coinsIn};
 ghost use Rattle.book_data.specs.Zero.{zeroSubmitted};
-ghost use Rattle.book_data.specs.Model.{view, back, list16, ids16, ids64};
+ghost use Rattle.book_data.specs.Model.{view, back, ids16};
 ghost use Rattle.book_data.specs.Sound.{idOf, soundb};
-ghost use Rattle.rules.specs.Rule.{unreplay, undone};
+ghost use Rattle.rules.specs.Rule.{unreplay};
 ghost use Rattle.rules.specs.Steps.{noteBook, runBook};
 ghost use Rattle.rules.specs.Parts.{isLanded};
 ghost use Rattle.rules.specs.Calls.ReconcileChainTerminality.{spentAs, halt as haltRule, judge as judgeRule, judgeEach, reconcileChainTerminality};
@@ -25,7 +25,6 @@ use book_change::store_submitted;
 use book_change::unqueue;
 use book_data::BookData;
 use book_data::Ids16;
-use book_data::Ids64;
 use book_data::SubmissionChainTerminality;
 use book_data::SubmissionId;
 use book_data::SubmittedTx;
@@ -36,36 +35,17 @@ use chain_tests::rolled_back;
 use coin_string::is_coin_list;
 use coin_string::is_id_list;
 use ids::empty16;
-use ids::empty64;
 use ids::push16;
 use ids::rising16;
+use ids::widened;
 use lists::contains;
 use replies::CallAnswer;
 use replies::DoneReply;
 use replies::IdsReply;
+use replies::refused_done;
+use replies::refused_ids;
 use slots::stopped;
 use submitted::revise::with_terminality;
-
-// ---- refusals
-fn refused(b: BookData, n: u8) -> DoneReply
-    ensures { λ r. ⌜ r ≡ doneReply b (undone n) ⌝ }
-{
-    DoneReply {
-        answer: CallAnswer::Refused(n),
-        book: b,
-    }
-}
-
-fn refused_ids(b: BookData, n: u8) -> IdsReply
-    ensures { λ r. ⌜ r ≡ idsReply b (undone n) ⌝ }
-{
-    let none = empty64();
-    IdsReply {
-        answer: CallAnswer::Refused(n),
-        ids: none,
-        book: b,
-    }
-}
 
 // ---- reconcile_chain_terminality
 // The terminality anew, and the live attempt, if any, set aside.
@@ -190,7 +170,7 @@ fn judge_each(
     while k < b.submitted_count {
         let next = judge(out, k, observed, spent, reorg, rolled_back);
         if next.full {
-            return refused(b, 10);
+            return refused_done(b, 10);
         }
         let judged = next.book;
         out = judged;
@@ -216,7 +196,7 @@ pub fn reconcile_chain_terminality_sound(
     let ids = is_id_list(spent);
     let ok = coins & ids & (rolled_back.len() <= 64);
     if !ok {
-        return refused(b, 2);
+        return refused_done(b, 2);
     }
     judge_each(b, observed, spent, reorg, rolled_back)
 }
@@ -232,7 +212,7 @@ pub fn reconcile_chain_terminality(
 {
     let sound = is_sound(b);
     if !sound {
-        return refused(b, 1);
+        return refused_done(b, 1);
     }
     reconcile_chain_terminality_sound(b, observed, spent, reorg, rolled_back)
 }
@@ -260,25 +240,6 @@ fn rolled_back_ids(b: BookData, absent: &[u8], inputs: &[u8]) -> Ids16
     out
 }
 
-// The same ids in the cells of an answer.
-fn in_64_cells(a: Ids16) -> Ids64
-    requires { ⌜ a .count ≤ 16 ⌝ }
-    ensures { λ r. ⌜ r ≡ ids64 (list16 a) ⌝ }
-{
-    let n = a.count;
-    let items = a.items;
-    let mut out = [0u64; 64];
-    let mut i = 0;
-    while i < n {
-        out[i] = items[i];
-        i += 1;
-    }
-    Ids64 {
-        count: n,
-        items: out,
-    }
-}
-
 pub fn causally_rolled_back_ids_sound(b: BookData, absent: &[u8], inputs: &[u8]) -> IdsReply
     requires { ⌜ soundb b ≡ true ⌝ }
     ensures { λ r. ⌜ r ≡ idsReply b (runBook (causallyRolledBackIds (now (absent .entry)) (now (inputs .entry))) (view b)) ⌝ }
@@ -289,7 +250,7 @@ pub fn causally_rolled_back_ids_sound(b: BookData, absent: &[u8], inputs: &[u8])
     if !ok {
         return refused_ids(b, 2);
     }
-    let ids = in_64_cells(rising16(rolled_back_ids(b, absent, inputs)));
+    let ids = widened(rising16(rolled_back_ids(b, absent, inputs)));
     IdsReply {
         answer: CallAnswer::Done,
         ids: ids,

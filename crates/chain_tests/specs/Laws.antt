@@ -5,11 +5,10 @@ use mathlib.Core.List.{List, [], _∷_, map}
 use Prim.Native.Nat.{ℕ, min}
 use lib.ListN.{length, take, length-map}
 use Rattle.lists.specs.Lists.{allb, anyb, cells}
-use Rattle.lists.specs.Laws.{take-cells}
+use Rattle.lists.specs.Laws.{take-cells, count-cut, any-same}
 use Rattle.lists.specs.Bytes.{eqs, isIn}
 use Rattle.coin_string.specs.Coin.{coinIdOf}
 use Rattle.book_data.specs.Zero.{zeros}
-use Rattle.book_data.specs.Counted.{count-cut}
 use Rattle.book_data.specs.Sound.{spendsOf}
 use Rattle.book_data.specs.declared.SpendBundle.{SpendBundle}
 use Rattle.book_data.specs.declared.SubmittedEntry.{SubmittedEntry}
@@ -20,7 +19,7 @@ use Rattle.rules.specs.Doors.{among}
 use Rattle.rules.specs.Parts.{activeEntry, isInputSpent}
 use Rattle.rules.specs.Calls.ReconcileChainTerminality.{outputObserved, inputSpent}
 use Rattle.rules.specs.Calls.CausallyRolledBackIds.{outerInputIds, rolledBack}
-use Rattle.chain_tests.specs.ListLaws.{any-same, all-same, all-filter}
+use Rattle.chain_tests.specs.ListLaws.{all-same, all-filter}
 use Rattle.chain_tests.specs.Made.{bundleMakes, made-among}
 
 -- the rules' `among` is the code's `isIn`

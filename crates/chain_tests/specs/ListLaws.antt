@@ -1,26 +1,15 @@
 -- Laws of tests over lists that the tests of a bundle use.
 use mathlib.Core.Path.{_≡_, refl, sym, ap, _∙_}
 use mathlib.Core.Bool.{Bool, true, false, cond, not, _&&_, _||_}
-use mathlib.Core.List.{List, [], _∷_, _++_, map}
+use mathlib.Core.List.{List, [], _∷_, map}
+use Rattle.lists.specs.Laws.{any-append}
 use Rattle.lists.specs.Lists.{allb, anyb, filterb, flatMap}
 
 -- ---- the same test, and tests of what is mapped or joined
 module _ {A : Type 0} where
-  pub any-same : (p q : A → Bool) → ((x : A) → p x ≡ q x) → (xs : List A) → anyb p xs ≡ anyb q xs
-  any-same p q h [] = refl
-  any-same p q h (x ∷ xs) = λ i. h x i || any-same p q h xs i
-
   pub all-same : (p q : A → Bool) → ((x : A) → p x ≡ q x) → (xs : List A) → allb p xs ≡ allb q xs
   all-same p q h [] = refl
   all-same p q h (x ∷ xs) = λ i. h x i && all-same p q h xs i
-
-  pub any-append : (p : A → Bool) (xs ys : List A) → anyb p (xs ++ ys) ≡ (anyb p xs || anyb p ys)
-  any-append p [] ys = refl
-  any-append p (x ∷ xs) ys = go (p x) (any-append p xs ys)
-    where
-      go : (b : Bool) → anyb p (xs ++ ys) ≡ (anyb p xs || anyb p ys) → (b || anyb p (xs ++ ys)) ≡ (b || anyb p xs || anyb p ys)
-      go true h = refl
-      go false h = h
 
   -- every element that passes q passes p
   pub all-filter : (p q : A → Bool) (xs : List A) → allb p (filterb (λ x. not (q x)) xs) ≡ allb (λ x. p x || q x) xs

@@ -4,6 +4,7 @@ use mathlib.Core.Path.{_≡_, ap, _∙_}
 use mathlib.Core.Bool.{Bool}
 use mathlib.Core.List.{List, map}
 use Prim.Native.Nat.{ℕ}
+use Rattle.lists.specs.Laws.{any-same}
 use Rattle.lists.specs.Lists.{anyb}
 use Rattle.lists.specs.Bytes.{eqs}
 use Rattle.coin_string.specs.Coin.{coinOfParts, coinIdOf}
@@ -14,7 +15,7 @@ use Rattle.book_data.specs.declared.SpendBundle.{SpendBundle}
 use Rattle.bundle_coins.specs.Coins.{outputCoin, expectedOutputCoins}
 use Rattle.bundle_coins.specs.Laws.{spentId, outputAt}
 use Rattle.rules.specs.Doors.{among}
-use Rattle.chain_tests.specs.ListLaws.{any-same, any-map, any-flat}
+use Rattle.chain_tests.specs.ListLaws.{any-map, any-flat}
 
 -- the coin of the output has this id
 abbrev pub hasCoinId : List ℕ → CoinSpend → Output → Bool

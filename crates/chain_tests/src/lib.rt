@@ -1,7 +1,7 @@
 // Tests of one submission's base bundle against the coins and coin ids that a call lists.
 ghost use mathlib.Core.Path.{_≡_};
 ghost use mathlib.Core.Bool.{_||_};
-ghost use Prim.Native.Nat.{_<_, min};
+ghost use Prim.Native.Nat.{_<_};
 ghost use Rattle.lists.specs.Lists.{allb};
 ghost use Rattle.lists.specs.Bytes.{eqs, isIn};
 ghost use Rattle.coin_string.specs.Coin.{coinOfParts, coinIdOf};
@@ -18,6 +18,7 @@ use book_data::SpendBundle;
 use book_data::SubmissionChainTerminality;
 use book_data::SubmittedEntry;
 use bundle_coins::Found;
+use bundle_coins::at_most_four;
 use bundle_coins::first_output_among;
 use bundle_coins::input_coin_id;
 use bundle_coins::input_coin_ids;
@@ -26,16 +27,6 @@ use coin_string::has_id;
 use coin_string::to_coin_id;
 use lists::same32;
 use submitted::entry::active_entry;
-
-// A count within four cells.
-fn at_most_four(n: u8) -> usize
-    ensures { λ r. ⌜ r ≡ min n 4 ⌝ }
-{
-    if n < 4 {
-        return n as usize;
-    }
-    4
-}
 
 // An expected output is one of the coins observed.
 pub fn output_observed(e: SubmittedEntry, observed: &[u8]) -> bool

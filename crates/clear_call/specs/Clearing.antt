@@ -5,6 +5,7 @@ use mathlib.Core.Path.{_≡_, refl, sym, ap, _∙_}
 use Prim.Native.Nat.{_≤_}
 use native.Mathlib.Omega.{arith}
 use lib.ListN.{length}
+use Rattle.lists.specs.Laws.{rising-length}
 use Rattle.lists.specs.Lists.{rising}
 use Rattle.book_data.specs.declared.Ids16.{Ids16}
 use Rattle.book_data.specs.Model.{Book, list16, ids16, view, back}
@@ -28,7 +29,7 @@ use Rattle.replay.specs.EpochLaws.{normal-epoch}
 use Rattle.book_cells.specs.Normal.{Normal}
 use Rattle.book_change.specs.Changes.{withEpochOf}
 use Rattle.sound_steps.specs.Holds.{Holds, holds-sound, holds-view, holds-normal, holds-quiet}
-use Rattle.retained_answers.specs.IdLaws.{ids-fit, rising-length}
+use Rattle.retained_answers.specs.IdLaws.{ids-fit}
 use Rattle.retained_answers.specs.After.{then-full, then-on}
 use Rattle.retained_answers.specs.Withdrawal.{Withdrawal}
 use Rattle.retained_answers.specs.declared.Withdrawn.{Withdrawn}

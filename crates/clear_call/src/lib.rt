@@ -9,7 +9,7 @@ use ids::rising16;
 use replay::clear;
 use replies::CallAnswer;
 use replies::DoneReply;
-use retained_answers::refused_done;
+use replies::refused_done;
 use retained_answers::withdraw_each;
 ghost use mathlib.Core.Path.{_≡_};
 ghost use mathlib.Core.Bool.{true};

@@ -7,6 +7,7 @@ use native.Mathlib.Omega.{arith}
 use native.Mathlib.Nat.{sub-zero}
 use lib.ListN.{length, take, drop}
 use lib.Seq.{take-at}
+use Rattle.lists.specs.Laws.{any-same}
 use Rattle.lists.specs.Lists.{anyb, filterb, flatMap}
 use Rattle.lists.specs.Bytes.{isIn}
 use Rattle.wire.specs.Wire.{be, encMany, overlay}
@@ -51,10 +52,6 @@ pub gathered-some : {outputs : List (List ℕ)} (t : SubmittedTx) {s r : Coins64
 gathered-some t {s} e q = record { is = q .is ∙ sym (ap (λ (p : Bool). cond p (insertAll (coinsOf s) (inputsOf t)) (coinsOf s)) e); few = q .few }
 
 -- ---- whether a submission is to be reconciled
-any-same : {A : Type 0} (p q : A → Bool) → ((x : A) → p x ≡ q x) → (xs : List A) → anyb p xs ≡ anyb q xs
-any-same p q h [] = refl
-any-same p q h (x ∷ xs) = λ j. h x j || any-same p q h xs j
-
 module _ (outputs : List (List ℕ)) (e : SubmittedEntry) where
   found-reconciled : isFound (foundOf outputs (e .«base_bundle»)) ≡ anyb (among outputs) (expectedOutputCoins (e .«base_bundle»))
   found-reconciled = found-any outputs (e .«base_bundle») ∙ any-same (isIn outputs) (among outputs) (among-is outputs) (expectedOutputCoins (e .«base_bundle»))

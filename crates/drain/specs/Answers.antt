@@ -1,11 +1,11 @@
 -- The answers of a drain in counted cells, and the lists that they hold.
 use Prim.Native.Nat.{ℕ, _+_, _≤_, _<_}
-use mathlib.Core.List.{List, [], _∷_, _++_, map, append-nil}
+use mathlib.Core.List.{List, [], _∷_, _++_, map, append-nil, map-append}
 use mathlib.Core.Path.{_≡_, refl, sym, ap, _∙_}
 use native.Mathlib.Omega.{arith}
 use lib.ListN.{length, set, length-append, length-map}
 use Rattle.lists.specs.Lists.{cells}
-use Rattle.lists.specs.Laws.{take-cells, length-cells}
+use Rattle.lists.specs.Laws.{take-cells, length-cells, length-snoc}
 use Rattle.book_data.specs.Model.{list16, ids16}
 use Rattle.book_data.specs.SoundLaws.{Counted}
 use Rattle.book_data.specs.declared.Ids16.{Ids16}
@@ -24,7 +24,6 @@ use Rattle.plan.specs.declared.PlanAction.{PlanAction}
 use Rattle.plan.specs.declared.PlanAction.the-variants.{Passed, Failed, Removed, Full, Stored, Issued, Exhausted}
 use Rattle.plan.specs.declared.SubmissionPlanDelta.{SubmissionPlanDelta}
 use Rattle.drain.specs.declared.DrainAnswers.{DrainAnswers}
-use Rattle.drain.specs.ListLaws.{map-snoc}
 use Rattle.drain.specs.Carried.{memoryBy, drainedIn}
 
 abbrev pub answersOf : List rule.DrainedSubmission → Memory → DrainAnswers
@@ -131,12 +130,9 @@ push-mapped : {A B : Type 0} (z : B) (f : A → B) (xs : List A) (x : A) {y : B}
 push-mapped {A} {B} z f xs x {y} e h =
     let l : length (map f xs) ≡ length xs = length-map xs f in
     let c : Counted 16 z (length xs) (cells 16 z (map f xs)) (map f xs) = record { count = sym l; held = refl } in
-    let q : map f xs ++ y ∷ [] ≡ map f (xs ++ x ∷ []) = ap (λ (w : B). map f xs ++ w ∷ []) (sym e) ∙ sym (map-snoc f xs x) in
+    let q : map f xs ++ y ∷ [] ≡ map f (xs ++ x ∷ []) = ap (λ (w : B). map f xs ++ w ∷ []) (sym e) ∙ sym (map-append f xs (x ∷ [])) in
     let k = counted-push c y h in
     record { count = k .count ∙ ap length q; held = k .held ∙ ap (cells 16 z) q }
-
-one-more : {A : Type 0} (xs : List A) (x : A) → length xs + 1 ≡ length (xs ++ x ∷ [])
-one-more xs x = let e = length-append xs (x ∷ []) in omega arith
 
 push-ids : (is : List ℕ) (i : ℕ) → ids16 (list16 (ids16 is) ++ i ∷ []) ≡ ids16 (is ++ i ∷ [])
 push-ids is i = ap (λ (js : List ℕ). ids16 (js ++ i ∷ [])) (take-cells 16 0 is)
@@ -146,7 +142,7 @@ module _ (p : SubmissionPlanDelta) (xs : List rule.DrainedSubmission) (a : Memor
   issued-after h = λ i. record {
     emitted = push-ids (a .emitted) (p .tx .entry .id .0) i;
     removed = ids16 (a .removed);
-    «submission_count» = one-more xs (drainedOf (p .submission)) i;
+    «submission_count» = sym (length-snoc xs (drainedOf (p .submission))) i;
     submissions = push-mapped zeroDrained drainedBack xs (drainedOf (p .submission)) (drained-back (p .submission)) h .held i;
     «failure_count» = length (a .failed);
     failures = cells 16 zeroFailure (map failureBack (a .failed));
@@ -158,7 +154,7 @@ module _ (p : SubmissionPlanDelta) (xs : List rule.DrainedSubmission) (a : Memor
     removed = ids16 (a .removed);
     «submission_count» = length xs;
     submissions = cells 16 zeroDrained (map drainedBack xs);
-    «failure_count» = one-more (a .failed) (failureOf (p .failure)) i;
+    «failure_count» = sym (length-snoc (a .failed) (failureOf (p .failure))) i;
     failures = push-mapped zeroFailure failureBack (a .failed) (failureOf (p .failure)) (failure-back (p .failure)) h .held i;
   }
 
@@ -168,7 +164,7 @@ module _ (p : SubmissionPlanDelta) (xs : List rule.DrainedSubmission) (a : Memor
     removed = push-ids (a .removed) (p .failure .«candidate_id» .0) i;
     «submission_count» = length xs;
     submissions = cells 16 zeroDrained (map drainedBack xs);
-    «failure_count» = one-more (a .failed) (failureOf (p .failure)) i;
+    «failure_count» = sym (length-snoc (a .failed) (failureOf (p .failure))) i;
     failures = push-mapped zeroFailure failureBack (a .failed) (failureOf (p .failure)) (failure-back (p .failure)) h .held i;
   }
 
@@ -200,13 +196,13 @@ module _ (p : SubmissionPlanDelta) (xs : List rule.DrainedSubmission) (a : Memor
       emitted Removed h = omega arith
       emitted Full h = omega arith
       emitted Stored h = omega arith
-      emitted Issued h = let e = one-more (a .emitted) (p .tx .entry .id .0) in omega arith
+      emitted Issued h = let e = length-snoc (a .emitted) (p .tx .entry .id .0) in omega arith
       emitted Exhausted h = omega arith
 
       removed : (k : PlanAction) {n : ℕ} → length (a .removed) ≤ n → length (memoryBy k p a .removed) ≤ n + 1
       removed Passed h = omega arith
       removed Failed h = omega arith
-      removed Removed h = let e = one-more (a .removed) (p .failure .«candidate_id» .0) in omega arith
+      removed Removed h = let e = length-snoc (a .removed) (p .failure .«candidate_id» .0) in omega arith
       removed Full h = omega arith
       removed Stored h = omega arith
       removed Issued h = omega arith
@@ -214,8 +210,8 @@ module _ (p : SubmissionPlanDelta) (xs : List rule.DrainedSubmission) (a : Memor
 
       failed : (k : PlanAction) {n : ℕ} → length (a .failed) ≤ n → length (memoryBy k p a .failed) ≤ n + 1
       failed Passed h = omega arith
-      failed Failed h = let e = one-more (a .failed) (failureOf (p .failure)) in omega arith
-      failed Removed h = let e = one-more (a .failed) (failureOf (p .failure)) in omega arith
+      failed Failed h = let e = length-snoc (a .failed) (failureOf (p .failure)) in omega arith
+      failed Removed h = let e = length-snoc (a .failed) (failureOf (p .failure)) in omega arith
       failed Full h = omega arith
       failed Stored h = omega arith
       failed Issued h = omega arith

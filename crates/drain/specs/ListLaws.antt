@@ -1,6 +1,6 @@
 -- An element put at a place of a list, or behind its end.
 use Prim.Native.Nat.{ℕ, zero, suc, _≤_, _<_}
-use mathlib.Core.List.{List, [], _∷_, _++_, map}
+use mathlib.Core.List.{List, [], _∷_, _++_}
 use mathlib.Core.Path.{_≡_, refl, ap}
 use native.Mathlib.Omega.{arith}
 use lib.ListN.{length, getD, set}
@@ -46,7 +46,3 @@ module _ {A : Type 0} where
     set-put zero (z ∷ zs) y h = refl
     set-put (suc k) [] y h = absurd (omega arith)
     set-put (suc k) (z ∷ zs) y h = ap (λ (ws : List A). z ∷ ws) (set-put k zs y (omega arith))
-
-pub map-snoc : {A B : Type 0} (f : A → B) (xs : List A) (x : A) → map f (xs ++ x ∷ []) ≡ map f xs ++ f x ∷ []
-map-snoc f [] x = refl
-map-snoc {A} {B} f (y ∷ ys) x = ap (λ (zs : List B). f y ∷ zs) (map-snoc f ys x)

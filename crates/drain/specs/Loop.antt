@@ -1,7 +1,7 @@
 -- The loop of a drain: what is done and what is left make the whole.
 use Prim.Native.Nat.{ℕ, suc, _+_, _≤_, _<_}
 use mathlib.Core.Bool.{Bool, true, false, true≢false, false≢true}
-use mathlib.Core.List.{List, [], _∷_, _++_, append-nil, append-assoc}
+use mathlib.Core.List.{List, [], _∷_, _++_, append-nil}
 use mathlib.Core.Path.{_≡_, refl, sym, ap, _∙_, subst}
 use native.Mathlib.Numerals.{add-one}
 use native.Mathlib.Omega.{arith}
@@ -18,7 +18,7 @@ use Rattle.book_data.specs.SoundLaws.{sound-lists, Counted}
 use Rattle.book_data.specs.declared.BookData.{BookData}
 use Rattle.book_data.specs.declared.PendingDelivery.{PendingDelivery}
 use Rattle.rules.specs.Call.{Value, failures}
-use Rattle.rules.specs.Rule.{DrainedSubmission, Rule, turn, note, unqueueAll, Outcome, ended, undone, stopped, logged, run, left, followed, run-bind}
+use Rattle.rules.specs.Rule.{DrainedSubmission, Rule, turn, note, unqueueAll, Outcome, ended, undone, logged, run, left, followed, run-bind, logged-logged}
 use Rattle.rules.specs.Steps.{onBook, noteBook, runBook}
 use Rattle.rules.specs.Calls.Plan.{Memory, blank}
 use Rattle.rules.specs.Calls.Drain.{oneCandidate, candidates, drain}
@@ -93,11 +93,6 @@ pub record Running (b book : BookData) (answers : DrainAnswers) (i : ℕ) : Type
   pub few : Few i xs a
   pub queue : allb soundDelivery (drop i (view b .pending)) ≡ true
   pub rest : whole b ≡ drainReply b (logged xs (runBook (candidates i (drop i (view b .pending)) a) m))
-
-logged-logged : {A : Type 0} (xs ys : List DrainedSubmission) (k : Outcome Book A) → logged xs (logged ys k) ≡ logged (xs ++ ys) k
-logged-logged xs ys (ended s zs v) = ap (λ (l : List DrainedSubmission). ended s l v) (sym (append-assoc xs ys zs))
-logged-logged xs ys (undone n) = refl
-logged-logged xs ys (stopped s zs n) = ap (λ (l : List DrainedSubmission). stopped s l n) (sym (append-assoc xs ys zs))
 
 -- the queue is emptied
 module _ (b : BookData) (s : soundb b ≡ true) where

@@ -4,8 +4,9 @@ use mathlib.Core.Path.{_≡_, refl, sym, ap, _∙_}
 use mathlib.Core.Bool.{Bool, true, false, not, cond, _&&_, _||_}
 use mathlib.Core.List.{List, [], _∷_, _++_, append-nil}
 use lib.Dec.{eqb}
+use Rattle.lists.specs.Laws.{elem-append}
 use Rattle.lists.specs.Lists.{elemb, flatMap}
-use Rattle.wire.specs.Wire.{Ans, got, bad, pick, andThen, Parser, _>>=_, done, run, number, checked, optional}
+use Rattle.wire.specs.Wire.{Ans, Parser, _>>=_, done, run, number, checked, optional}
 use Rattle.book_data.specs.Zero.{noAttempt}
 use Rattle.book_data.specs.Sound.{attemptToken}
 use Rattle.book_data.specs.declared.OptionalAttempt.{OptionalAttempt}
@@ -33,29 +34,7 @@ unfolding noAttempt
 first-slot next held s at {a} e h =
     sym (ap (λ (o : OptionalAttempt). parseSlot next (held ++ attemptToken o) s at) e ∙ ap (λ (l : List ℕ). parseSlot next l s at) (append-nil held)) ∙ h
 
--- ---- an item with its test
-module _ {A : Type 0} (test : A → Bool) (p : Parser A) (s : List ℕ) (at : ℕ) where
-  pub checked-bad : {e : ℕ} → p s at ≡ bad e → checked test p s at ≡ bad e
-  unfolding checked
-  checked-bad h = rw h
-
-  pub checked-fails : {a : A} {e : ℕ} → p s at ≡ got a e → test a ≡ false → checked test p s at ≡ bad at
-  unfolding checked
-  checked-fails {a} {e} h q = rw h (ap (λ (b : Bool). pick b (got a e) (bad at)) q)
-
-  pub checked-got : {a : A} {e : ℕ} → p s at ≡ got a e → test a ≡ true → checked test p s at ≡ got a e
-  unfolding checked
-  checked-got {a} {e} h q = rw h (ap (λ (b : Bool). pick b (got a e) (bad at)) q)
-
 -- ---- numbers in lists
-pub elem-append : (x : ℕ) (l m : List ℕ) → elemb x (l ++ m) ≡ (elemb x l || elemb x m)
-elem-append x [] m = refl
-elem-append x (y ∷ l) m = go (eqb y x) (elem-append x l m)
-  where
-    go : (b : Bool) → elemb x (l ++ m) ≡ (elemb x l || elemb x m) → (b || elemb x (l ++ m)) ≡ ((b || elemb x l) || elemb x m)
-    go true h = refl
-    go false h = h
-
 pub elem-both : (x : ℕ) (l m : List ℕ) {a b : Bool} → a ≡ elemb x l → b ≡ elemb x m → (a || b) ≡ elemb x (l ++ m)
 elem-both x l m p q = (λ i. p i || q i) ∙ sym (elem-append x l m)
 

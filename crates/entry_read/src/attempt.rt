@@ -13,6 +13,7 @@ use spend_read::part;
 use wire_bytes::ReadHash;
 use wire_bytes::ReadNumber;
 use wire_bytes::read;
+use wire_bytes::read::no_number;
 ghost use mathlib.Core.Path.{_≡_};
 ghost use mathlib.Core.Bool.{true, false};
 ghost use mathlib.Core.List.{_++_};
@@ -74,16 +75,6 @@ fn fresh_token(
     let held = holds_token(earlier, n, token);
     let twin = slot_holds(live, token);
     (token < next) & !(held | twin)
-}
-
-fn no_number(at: usize) -> ReadNumber
-    ensures { λ r. ⌜ r ≡ record { ok = false; value = 0; at = at } ⌝ }
-{
-    ReadNumber {
-        ok: false,
-        value: 0,
-        at,
-    }
 }
 
 fn read_token(

@@ -13,6 +13,7 @@ use spend_read::bundle;
 use wire_bytes::ReadHash;
 use wire_bytes::ReadNumber;
 use wire_bytes::read;
+use wire_bytes::read::no_number;
 ghost use mathlib.Core.Path.{_≡_};
 ghost use mathlib.Core.Bool.{true, false};
 ghost use mathlib.Core.List.{map};
@@ -39,16 +40,6 @@ pub fn holds_id(earlier: [SubmittedTx; 16], n: usize, id: u64) -> bool
         i += 1;
     }
     false
-}
-
-fn no_number(at: usize) -> ReadNumber
-    ensures { λ r. ⌜ r ≡ record { ok = false; value = 0; at = at } ⌝ }
-{
-    ReadNumber {
-        ok: false,
-        value: 0,
-        at,
-    }
 }
 
 fn read_new_id(s: &[u8], at: usize, earlier: [SubmittedTx; 16], n: usize) -> ReadNumber

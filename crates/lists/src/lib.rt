@@ -1,8 +1,15 @@
-// Tests over slices of numbers, each equal to a function of plain lists.
+// The lesser of two counts, and tests over slices of numbers, each equal to a function of plain lists.
 ghost use mathlib.Core.Path.{_≡_};
+ghost use Prim.Native.Nat.{min};
 ghost use lib.Dec.{ltb};
 ghost use Rattle.lists.specs.Lists.{allb, elemb, distinctb, risingb, isZero, fullOf};
 ghost use Rattle.lists.specs.Bytes.{eqs};
+
+pub fn at_most(n: usize, most: usize) -> usize
+    ensures { λ r. ⌜ r ≡ min n most ⌝ }
+{
+    if n < most { n } else { most }
+}
 
 pub fn contains(s: &[u64], x: u64) -> bool
     ensures { λ r. ⌜ r ≡ elemb x (now (s .entry)) ⌝ }

@@ -17,7 +17,6 @@ use book_data::Height;
 use book_data::OptionalHeight;
 use book_data::SubmissionId;
 use book_sound::is_sound;
-use ids::empty64;
 use replay::begin;
 use replay::finish_if_advanced;
 use replay::rollback_height;
@@ -26,17 +25,10 @@ use replies::DoneReply;
 use replies::FlagReply;
 use replies::HeightReply;
 use replies::IdsReply;
+use replies::refused_done;
+use replies::refused_ids;
 
 // ---- refusals: the book as it was
-fn refused_done(b: BookData, n: u8) -> DoneReply
-    ensures { λ r. ⌜ r ≡ doneReply b (undone n) ⌝ }
-{
-    DoneReply {
-        answer: CallAnswer::Refused(n),
-        book: b,
-    }
-}
-
 fn refused_flag(b: BookData, n: u8) -> FlagReply
     ensures { λ r. ⌜ r ≡ flagReply b (undone n) ⌝ }
 {
@@ -53,17 +45,6 @@ fn refused_height(b: BookData, n: u8) -> HeightReply
     HeightReply {
         answer: CallAnswer::Refused(n),
         height: OptionalHeight::NoHeight,
-        book: b,
-    }
-}
-
-fn refused_ids(b: BookData, n: u8) -> IdsReply
-    ensures { λ r. ⌜ r ≡ idsReply b (undone n) ⌝ }
-{
-    let none = empty64();
-    IdsReply {
-        answer: CallAnswer::Refused(n),
-        ids: none,
         book: b,
     }
 }

@@ -6,8 +6,9 @@ use mathlib.Core.Path.{_≡_, refl, ap, sym, _∙_}
 use native.Mathlib.Omega.{arith}
 use lib.ListN.{length, length-map}
 use borrow.Author.Tests.{le-leb, lt-leb}
+use Rattle.ids.specs.IdLaws.{list-is}
 use Rattle.lists.specs.Lists.{elemb, filterb}
-use Rattle.lists.specs.Laws.{take-cells, filter-length}
+use Rattle.lists.specs.Laws.{filter-length}
 use Rattle.book_data.specs.declared.BookData.{BookData}
 use Rattle.book_data.specs.declared.DeliveryTrigger.the-variants.{Rollback}
 use Rattle.book_data.specs.declared.Ids16.{Ids16}
@@ -55,17 +56,6 @@ pub offer-each : Each offerAgain (λ i. offer i Rollback EnsureBroadcast) noValu
 unfolding offerAgain
 offer-each = record { none = refl; more = λ i is m. bind-turn (offer i Rollback EnsureBroadcast) (offerAgain is) m }
 
--- ---- ids in their cells
-module _ {a : Ids16} (xs : List ℕ) (e : a ≡ ids16 xs) where
-  pub list-of : list16 a ≡ xs
-  list-of = ap list16 e ∙ take-cells 16 0 xs
-
-  pub cells-of : a ≡ ids16 (list16 a)
-  cells-of = e ∙ ap ids16 (sym list-of)
-
-  pub count-of : length xs ≤ 16 → a .count ≤ 16
-  count-of l = let c : a .count ≡ length xs = ap (λ (x : Ids16). x .count) e in omega arith
-
 module _ (b : BookData) (h : soundb b ≡ true) where
   pub ids-fit : length (map idOf (view b .submitted)) ≤ 16
   ids-fit =
@@ -80,12 +70,12 @@ module _ (b : BookData) (h : soundb b ≡ true) where
       omega arith
 
   pub named-is : {held : Ids16} → held ≡ ids16 (map idOf (view b .submitted)) → (is : List ℕ) {r : Ids16} → r ≡ ids16 (filterb (λ i. elemb i is) (list16 held)) → r ≡ ids16 (namedIn is (view b))
-  named-is e is q = q ∙ ap (λ (xs : List ℕ). ids16 (filterb (λ i. elemb i is) xs)) (list-of (map idOf (view b .submitted)) e)
+  named-is e is q = q ∙ ap (λ (xs : List ℕ). ids16 (filterb (λ i. elemb i is) xs)) (list-is (map idOf (view b .submitted)) e)
 
   pub fresh-fit : (is : List ℕ) {named : Ids16} → named ≡ ids16 (namedIn is (view b)) → length (withoutIds (view b .replayed) (list16 named)) ≤ 16
   fresh-fit is {named} e =
       let k : length (withoutIds (view b .replayed) (list16 named)) ≤ length (list16 named) = filter-length (λ j. not (elemb j (view b .replayed))) (list16 named) in
-      let l : length (list16 named) ≡ length (namedIn is (view b)) = ap length (list-of (namedIn is (view b)) e) in
+      let l : length (list16 named) ≡ length (namedIn is (view b)) = ap length (list-is (namedIn is (view b)) e) in
       let f : length (namedIn is (view b)) ≤ 16 = named-fit is in
       omega arith
 
@@ -109,7 +99,7 @@ module _ (is : List ℕ) (m : Book) where
   collect-taken l {named} e {fresh} f {q} h t r k =
       ends-as noValue r (runBook (offerAgain (list16 named)) (view q)) t
       (collect-within l
-      ∙ ap (λ (ns : List ℕ). runBook (markEach m ns >>= (λ _. offerAgain ns)) m) (sym (list-of (namedIn is m) e))
-      ∙ ap (λ (w : Rule (Unit {0})). runBook (w >>= (λ _. offerAgain (list16 named))) m) (marks-are m (list16 named) ∙ ap markAll (sym (list-of (withoutIds (m .replayed) (list16 named)) f)))
+      ∙ ap (λ (ns : List ℕ). runBook (markEach m ns >>= (λ _. offerAgain ns)) m) (sym (list-is (namedIn is m) e))
+      ∙ ap (λ (w : Rule (Unit {0})). runBook (w >>= (λ _. offerAgain (list16 named))) m) (marks-are m (list16 named) ∙ ap markAll (sym (list-is (withoutIds (m .replayed) (list16 named)) f)))
       ∙ bind-on (markAll (list16 fresh)) (λ _. offerAgain (list16 named)) m (h .outcome))
       k

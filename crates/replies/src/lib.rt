@@ -1,5 +1,8 @@
 // What the calls of a book answer, beside the book that they leave. A refusal has paper 01's number; what stands beside a refusal is
 // empty. Arrays cannot stand in an enum, so each answer is a struct: whether the call was refused, its value, the book.
+ghost use mathlib.Core.Path.{_≡_};
+ghost use Rattle.rules.specs.Rule.{undone};
+ghost use Rattle.replies.specs.Reply.{doneReply, idsReply};
 use book_data::BookData;
 use book_data::Ids64;
 use book_data::OptionalAttempt;
@@ -95,4 +98,28 @@ pub struct WrittenReply {
     pub answer: CallAnswer,
     pub length: usize,
     pub book: BookData,
+}
+
+// ---- refusals: the book as it was
+pub fn refused_done(b: BookData, n: u8) -> DoneReply
+    ensures { λ r. ⌜ r ≡ doneReply b (undone n) ⌝ }
+{
+    DoneReply {
+        answer: CallAnswer::Refused(n),
+        book: b,
+    }
+}
+
+pub fn refused_ids(b: BookData, n: u8) -> IdsReply
+    ensures { λ r. ⌜ r ≡ idsReply b (undone n) ⌝ }
+{
+    let none = Ids64 {
+        count: 0,
+        items: [0; 64],
+    };
+    IdsReply {
+        answer: CallAnswer::Refused(n),
+        ids: none,
+        book: b,
+    }
 }

@@ -4,7 +4,7 @@ use book_data::SubmittedTx;
 use book_sound::is_sound;
 use replies::CallAnswer;
 use replies::DoneReply;
-use retained_answers::refused_done;
+use replies::refused_done;
 use slots::stopped;
 ghost use mathlib.Core.Path.{_≡_};
 ghost use mathlib.Core.Bool.{true};

@@ -4,14 +4,15 @@ use mathlib.Core.Path.{_≡_, refl, ap, _∙_}
 use Prim.Native.Nat.{ℕ, _≤_}
 use native.Mathlib.Omega.{arith}
 use lib.ListN.{length}
+use Rattle.ids.specs.IdLaws.{list-is}
 use Rattle.lists.specs.Lists.{filterb, elemb, rising}
-use Rattle.lists.specs.Laws.{filter-length}
+use Rattle.lists.specs.Laws.{filter-length, rising-length}
 use Rattle.book_data.specs.declared.Ids16.{Ids16}
 use Rattle.book_data.specs.Model.{Book, list16, ids16}
 use Rattle.book_data.specs.Sound.{idOf}
 use Rattle.book_data.specs.SoundLaws.{Fits}
 use Rattle.rules.specs.Calls.RetainSubmitted.{toRemove}
-use Rattle.retained_answers.specs.IdLaws.{list-is, ids-fit, rising-length}
+use Rattle.retained_answers.specs.IdLaws.{ids-fit}
 
 module _ (m : Book) (f : Fits m) where
   pub some-fit : (is : List ℕ) → length (filterb (λ i. elemb i is) (map idOf (m .submitted))) ≤ 16

@@ -5,6 +5,7 @@ use mathlib.Core.Path.{_≡_, sym, ap, _∙_}
 use Prim.Native.Nat.{ℕ, _≤_, _<_}
 use lib.ListN.{length}
 use borrow.Author.Tests.{le-leb, lt-leb}
+use Rattle.ids.specs.IdLaws.{list-is}
 use Rattle.book_data.specs.declared.BookData.{BookData}
 use Rattle.book_data.specs.declared.Ids16.{Ids16}
 use Rattle.book_data.specs.declared.Ids64.{Ids64}
@@ -18,7 +19,6 @@ use Rattle.rules.specs.Calls.RetainSubmitted.{toRemove, retainSubmitted}
 use Rattle.replies.specs.Reply.{idsReply}
 use Rattle.replies.specs.declared.CallAnswer.the-variants.{Done}
 use Rattle.sound_steps.specs.Holds.{holds-sound}
-use Rattle.retained_answers.specs.IdLaws.{list-is}
 use Rattle.retained_answers.specs.After.{then-full, then-on}
 use Rattle.retained_answers.specs.Withdrawal.{Withdrawal}
 use Rattle.retained_answers.specs.declared.Withdrawn.{Withdrawn}

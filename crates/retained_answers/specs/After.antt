@@ -3,6 +3,7 @@ use mathlib.Core.Bool.{Bool, true, false}
 use mathlib.Core.List.{List}
 use mathlib.Core.Path.{_≡_, sym, ap, _∙_}
 use Prim.Native.Nat.{ℕ}
+use Rattle.ids.specs.IdLaws.{list-is}
 use Rattle.book_data.specs.declared.BookData.{BookData}
 use Rattle.book_data.specs.declared.Ids16.{Ids16}
 use Rattle.book_data.specs.Model.{view, list16, ids16}
@@ -11,7 +12,6 @@ use Rattle.rules.specs.Rule.{Rule, _>>_, undone, followed, run-bind}
 use Rattle.rules.specs.Steps.{onBook, runBook}
 use Rattle.rules.specs.Calls.Common.{withdrawEach}
 use Rattle.sound_steps.specs.Acts.{logged-none}
-use Rattle.retained_answers.specs.IdLaws.{list-is}
 use Rattle.retained_answers.specs.Withdrawal.{outcomeBy, Withdrawal}
 use Rattle.retained_answers.specs.declared.Withdrawn.{Withdrawn}
 

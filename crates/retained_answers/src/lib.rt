@@ -1,23 +1,16 @@
-// What the calls on all retained submissions share: refusals, ids as an answer has them, and the withdrawal of some submissions.
+// What the calls that withdraw submissions share.
 use book_change::Retired;
 use book_change::remove_submitted;
 use book_change::retire;
 use book_data::BookData;
 use book_data::Ids16;
-use book_data::Ids64;
 use book_data::SubmissionId;
-use ids::empty64;
-use replies::CallAnswer;
-use replies::DoneReply;
-use replies::IdsReply;
 ghost use mathlib.Core.Path.{_≡_};
 ghost use mathlib.Core.Bool.{true};
 ghost use Prim.Native.Nat.{_≤_};
-ghost use Rattle.book_data.specs.Model.{view, list16, ids64};
+ghost use Rattle.book_data.specs.Model.{view, list16};
 ghost use Rattle.book_data.specs.Sound.{soundb};
-ghost use Rattle.rules.specs.Rule.{undone};
 ghost use Rattle.rules.specs.Steps.{removeBook};
-ghost use Rattle.replies.specs.Reply.{doneReply, idsReply};
 ghost use Rattle.book_change.specs.Changes.{retiring};
 ghost use Rattle.retained_answers.specs.Withdrawal.{Withdrawal};
 
@@ -25,45 +18,6 @@ ghost use Rattle.retained_answers.specs.Withdrawal.{Withdrawal};
 pub struct Withdrawn {
     pub full: bool,
     pub book: BookData,
-}
-
-pub fn refused_done(b: BookData, n: u8) -> DoneReply
-    ensures { λ r. ⌜ r ≡ doneReply b (undone n) ⌝ }
-{
-    DoneReply {
-        answer: CallAnswer::Refused(n),
-        book: b,
-    }
-}
-
-pub fn refused_ids(b: BookData, n: u8) -> IdsReply
-    ensures { λ r. ⌜ r ≡ idsReply b (undone n) ⌝ }
-{
-    let none = empty64();
-    IdsReply {
-        answer: CallAnswer::Refused(n),
-        ids: none,
-        book: b,
-    }
-}
-
-// Up to 16 ids as an answer has them.
-pub fn widened(a: Ids16) -> Ids64
-    requires { ⌜ a .count ≤ 16 ⌝ }
-    ensures { λ r. ⌜ r ≡ ids64 (list16 a) ⌝ }
-{
-    let n = a.count;
-    let items = a.items;
-    let mut out = [0u64; 64];
-    let mut i = 0;
-    while i < n {
-        out[i] = items[i];
-        i += 1;
-    }
-    Ids64 {
-        count: n,
-        items: out,
-    }
 }
 
 // The submission of the id goes and is retired.

@@ -1,36 +1,24 @@
 -- Laws of lists that keeping a book sound asks: elements, sublists, rising lists, and how long a list without repeats can be.
 use Prim.Native.Nat.{ℕ, suc, _≤_}
-use mathlib.Core.Bool.{Bool, true, false, cond, not, _||_, false≢true, true≢false}
-use mathlib.Core.List.{List, [], _∷_, _++_, map, append-assoc}
+use mathlib.Core.Bool.{Bool, true, false, cond, not, _||_, false≢true}
+use mathlib.Core.List.{List, [], _∷_, _++_, map}
 use mathlib.Core.Path.{_≡_, refl, sym, ap, _∙_}
 use native.Mathlib.Omega.{arith}
 use lib.Dec.{eqb, ltb}
 use lib.ListN.{length}
 use borrow.Author.Tests.{eqb-true, eqb-false, ne-eqb, ltb-false, lt-ltb, not-true, ltb-true}
-use Rattle.lists.specs.Laws.{and-split, and-both}
-use Rattle.lists.specs.Lists.{allb, flatMap, elemb, distinctb, insertUp}
-use Rattle.lists.specs.Sub.{Sub, sub-all, sub-append, filter-sub, all-sub, elem-sub, distinct-sub}
-use Rattle.book_data.specs.Sound.{risingFrom, risingb}
+use Rattle.lists.specs.Laws.{and-split, and-both, or-false, rising-rest}
+use Rattle.lists.specs.Lists.{allb, flatMap, elemb, distinctb, insertUp, risingb}
+use Rattle.lists.specs.Sub.{Sub, sub-all, sub-append, filter-sub, all-sub, elem-sub, distinct-sub, eqb-sym}
 use Rattle.rules.specs.Keyed.{change, without}
 use Rattle.rules.specs.Steps.Notes.{unreplayed}
-
-pub or-false : (a b : Bool) → (a || b) ≡ false → (a ≡ false) × (b ≡ false)
-or-false true b h = absurd (true≢false h)
-or-false false b h = (refl, h)
 
 pub or-right : (a b : Bool) → b ≡ true → (a || b) ≡ true
 or-right true b h = refl
 or-right false b h = h
 
-pub eqb-flip : (x y : ℕ) → eqb y x ≡ false → eqb x y ≡ false
-eqb-flip x y h = ne-eqb x y (λ e. eqb-false y x h (sym e))
-
 -- ---- all
 module _ {A : Type 0} (p : A → Bool) where
-  pub all-snoc : (xs : List A) (x : A) → allb p xs ≡ true → p x ≡ true → allb p (xs ++ (x ∷ [])) ≡ true
-  all-snoc [] x h k = and-both k refl
-  all-snoc (y ∷ xs) x h k = let t = and-split (p y) (allb p xs) h in and-both (t .0) (all-snoc xs x (t .1) k)
-
   pub all-change : (key : A → ℕ) (i : ℕ) (f : A → A) → ((x : A) → p x ≡ true → p (f x) ≡ true) → (xs : List A) → allb p xs ≡ true → allb p (change key i f xs) ≡ true
   unfolding change
   all-change key i f keeps [] h = refl
@@ -45,14 +33,6 @@ module _ {A : Type 0} (p : A → Bool) where
   all-weaken q w (x ∷ xs) h = let t = and-split (p x) (allb p xs) h in and-both (w x (t .0)) (all-weaken q w xs (t .1))
 
 -- ---- elements
-pub elem-append : (x : ℕ) (xs ys : List ℕ) → elemb x xs ≡ true → elemb x (xs ++ ys) ≡ true
-elem-append x [] ys h = absurd (false≢true h)
-elem-append x (y ∷ xs) ys h = go (eqb y x) h (λ k. elem-append x xs ys k)
-  where
-    go : (b : Bool) → (b || elemb x xs) ≡ true → (elemb x xs ≡ true → elemb x (xs ++ ys) ≡ true) → (b || elemb x (xs ++ ys)) ≡ true
-    go true k ih = refl
-    go false k ih = ih k
-
 -- an element that differs from what a filter drops is kept
 pub elem-without : {A : Type 0} (key : A → ℕ) (i j : ℕ) (xs : List A) → eqb j i ≡ false → elemb j (map key xs) ≡ true → elemb j (map key (without key i xs)) ≡ true
 unfolding without
@@ -90,10 +70,6 @@ change-flat-sub {A} {B} f key i g less (x ∷ xs) = go (eqb (key x) i) (change-f
     go true h = sub-append (less x) h
     go false h = sub-append (sub-all (f x)) h
 
-pub flat-append : {A B : Type 0} (f : A → List B) (xs ys : List A) → flatMap f (xs ++ ys) ≡ flatMap f xs ++ flatMap f ys
-flat-append f [] ys = refl
-flat-append f (x ∷ xs) ys = rw (flat-append f xs ys) (sym (append-assoc (f x) (flatMap f xs) (flatMap f ys)))
-
 -- a sublist of ys with one n more
 pub data Adds (n : ℕ) : List ℕ → List ℕ → Type 0 where
   put : {xs ys : List ℕ} → Sub xs ys → Adds n (n ∷ xs) ys
@@ -114,7 +90,7 @@ distinct-adds {n} (put {xs} {ys} s) h k = and-both (ap not (elem-sub n s k)) (di
 distinct-adds {n} (same {x} {xs} {ys} a) h k =
     let t = and-split (not (elemb x ys)) (distinctb ys) h in
     let u = or-false (eqb x n) (elemb n ys) k in
-    and-both (ap not (elem-adds x a (eqb-flip n x (u .0)) (not-true (elemb x ys) (t .0)))) (distinct-adds a (t .1) (u .1))
+    and-both (ap not (elem-adds x a (eqb-sym n x (u .0)) (not-true (elemb x ys) (t .0)))) (distinct-adds a (t .1) (u .1))
 
 pub all-adds : {n : ℕ} (p : ℕ → Bool) {xs ys : List ℕ} → Adds n xs ys → p n ≡ true → allb p ys ≡ true → allb p xs ≡ true
 all-adds p (put s) k h = and-both k (all-sub p s h)
@@ -128,38 +104,34 @@ below-elem n (x ∷ xs) h =
     ap (λ (b : Bool). b || elemb n xs) (ne-eqb x n (λ e. let l = ltb-true x n (t .0) in omega arith)) ∙ below-elem n xs (t .1)
 
 -- ---- rising lists
-rising-weaken : (x y : ℕ) (ys : List ℕ) → ltb x y ≡ true → risingFrom y ys ≡ true → risingFrom x ys ≡ true
+rising-weaken : (x y : ℕ) (ys : List ℕ) → ltb x y ≡ true → risingb (y ∷ ys) ≡ true → risingb (x ∷ ys) ≡ true
 rising-weaken x y [] h k = refl
 rising-weaken x y (z ∷ ys) h k =
-    let t = and-split (ltb y z) (risingFrom z ys) k in
+    let t = and-split (ltb y z) (risingb (z ∷ ys)) k in
     and-both (lt-ltb x z (let a = ltb-true x y h in let b = ltb-true y z (t .0) in omega arith)) (t .1)
 
-rising-from-sub : (x : ℕ) {xs ys : List ℕ} → Sub xs ys → risingFrom x ys ≡ true → risingFrom x xs ≡ true
+rising-from-sub : (x : ℕ) {xs ys : List ℕ} → Sub xs ys → risingb (x ∷ ys) ≡ true → risingb (x ∷ xs) ≡ true
 rising-from-sub x Sub.done h = refl
-rising-from-sub x (Sub.keep {x = y} {xs} {ys} s) h = let t = and-split (ltb x y) (risingFrom y ys) h in and-both (t .0) (rising-from-sub y s (t .1))
-rising-from-sub x (Sub.skip {x = y} {xs} {ys} s) h = let t = and-split (ltb x y) (risingFrom y ys) h in rising-from-sub x s (rising-weaken x y ys (t .0) (t .1))
-
-rising-tail : (x : ℕ) (xs : List ℕ) → risingFrom x xs ≡ true → risingb xs ≡ true
-rising-tail x [] h = refl
-rising-tail x (y ∷ xs) h = and-split (ltb x y) (risingFrom y xs) h .1
+rising-from-sub x (Sub.keep {x = y} {xs} {ys} s) h = let t = and-split (ltb x y) (risingb (y ∷ ys)) h in and-both (t .0) (rising-from-sub y s (t .1))
+rising-from-sub x (Sub.skip {x = y} {xs} {ys} s) h = let t = and-split (ltb x y) (risingb (y ∷ ys)) h in rising-from-sub x s (rising-weaken x y ys (t .0) (t .1))
 
 pub rising-sub : {xs ys : List ℕ} → Sub xs ys → risingb ys ≡ true → risingb xs ≡ true
 rising-sub Sub.done h = refl
 rising-sub (Sub.keep {x} s) h = rising-from-sub x s h
-rising-sub (Sub.skip {x} {xs} {ys} s) h = rising-sub s (rising-tail x ys h)
+rising-sub (Sub.skip {x} {xs} {ys} s) h = rising-sub s (rising-rest x ys h)
 
 above : (x z : ℕ) → ltb x z ≡ false → eqb z x ≡ false → ltb z x ≡ true
 above x z h k = lt-ltb z x (let a = ltb-false x z h in let b : (z ≡ x → ⊥) = eqb-false z x k in omega arith)
 
-rising-insert-from : (y x : ℕ) (ys : List ℕ) → ltb y x ≡ true → risingFrom y ys ≡ true → elemb x ys ≡ false → risingFrom y (insertUp x ys) ≡ true
+rising-insert-from : (y x : ℕ) (ys : List ℕ) → ltb y x ≡ true → risingb (y ∷ ys) ≡ true → elemb x ys ≡ false → risingb (y ∷ insertUp x ys) ≡ true
 rising-insert-from y x [] l h n = and-both l refl
 rising-insert-from y x (z ∷ ys) l h n = go (ltb x z) refl (λ l′ h′ n′. rising-insert-from z x ys l′ h′ n′)
   where
-    t : (ltb y z ≡ true) × (risingFrom z ys ≡ true)
-    t = and-split (ltb y z) (risingFrom z ys) h
+    t : (ltb y z ≡ true) × (risingb (z ∷ ys) ≡ true)
+    t = and-split (ltb y z) (risingb (z ∷ ys)) h
 
-    go : (b : Bool) → ltb x z ≡ b → (ltb z x ≡ true → risingFrom z ys ≡ true → elemb x ys ≡ false → risingFrom z (insertUp x ys) ≡ true)
-        → risingFrom y (cond b (x ∷ z ∷ ys) (z ∷ insertUp x ys)) ≡ true
+    go : (b : Bool) → ltb x z ≡ b → (ltb z x ≡ true → risingb (z ∷ ys) ≡ true → elemb x ys ≡ false → risingb (z ∷ insertUp x ys) ≡ true)
+        → risingb (y ∷ cond b (x ∷ z ∷ ys) (z ∷ insertUp x ys)) ≡ true
     go true q ih = and-both l (and-both q (t .1))
     go false q ih = let u = or-false (eqb z x) (elemb x ys) n in and-both (t .0) (ih (above x z q (u .0)) (t .1) (u .1))
 
@@ -227,13 +199,3 @@ pigeons (x ∷ xs) ys d h =
     let k = pigeons xs (unreplayed x ys) (u .1) (all-unreplayed x xs ys (not-true (elemb x xs) (u .0)) (t .1)) in
     let l = dropped x ys (t .0) in
     omega arith
-
-rising-above : (x : ℕ) (xs : List ℕ) → risingFrom x xs ≡ true → elemb x xs ≡ false
-rising-above x [] h = refl
-rising-above x (y ∷ xs) h =
-    let t = and-split (ltb x y) (risingFrom y xs) h in
-    ap (λ (b : Bool). b || elemb x xs) (ne-eqb y x (λ e. let l = ltb-true x y (t .0) in omega arith)) ∙ rising-above x xs (rising-weaken x y xs (t .0) (t .1))
-
-pub rising-distinct : (xs : List ℕ) → risingb xs ≡ true → distinctb xs ≡ true
-rising-distinct [] h = refl
-rising-distinct (x ∷ xs) h = and-both (ap not (rising-above x xs h)) (rising-distinct xs (rising-tail x xs h))

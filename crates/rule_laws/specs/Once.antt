@@ -5,6 +5,7 @@ use mathlib.Core.List.{List, [], _∷_, _++_, map, append-nil}
 use mathlib.Core.Option.{Option, none, some}
 use mathlib.Core.Path.{_≡_, refl, sym, ap, _∙_, subst}
 use lib.Dec.{eqb}
+use Rattle.lists.specs.Laws.{or-false, elem-append}
 use Rattle.lists.specs.Bytes.{eqs}
 use Rattle.lists.specs.Lists.{filterb, elemb}
 use Rattle.book_data.specs.declared.SubmittedTx.{SubmittedTx}
@@ -24,7 +25,6 @@ use Rattle.rules.specs.Calls.Candidate.{deliver, met, knownBy, known, unknown, 
 use Rattle.rules.specs.Calls.Common.{withdraw}
 use Rattle.rules.specs.Calls.Drain.{isOneOf, oneCandidate, candidates, drain}
 use Rattle.rules.specs.Calls.Plan.{Memory, blank, last64, missOf, wanted}
-use Rattle.rule_laws.specs.ListLaws.{or-false}
 
 -- no id of xs is in E, or twice in xs
 abbrev pub Fresh : List ℕ → List DrainedSubmission → Type 0
@@ -81,18 +81,7 @@ FreshIn E (undone n) = Unit {0}
 FreshIn E (stopped b xs n) = Fresh E xs
 
 not-in-more : (x : ℕ) (E F : List ℕ) → elemb x (E ++ F) ≡ false → elemb x E ≡ false
-not-in-more x [] F h = refl
-not-in-more x (e ∷ E) F h =
-    let t = or-false (eqb e x) (elemb x (E ++ F)) h in
-    ap (λ (b : Bool). b || elemb x E) (t .0) ∙ not-in-more x E F (t .1)
-
-elem-both : (x : ℕ) (E F : List ℕ) → elemb x (E ++ F) ≡ (elemb x E || elemb x F)
-elem-both x [] F = refl
-elem-both x (e ∷ E) F = go (eqb e x) (elem-both x E F)
-  where
-    go : (b : Bool) → elemb x (E ++ F) ≡ (elemb x E || elemb x F) → (b || elemb x (E ++ F)) ≡ ((b || elemb x E) || elemb x F)
-    go true h = refl
-    go false h = h
+not-in-more x E F h = or-false (elemb x E) (elemb x F) (sym (elem-append x E F) ∙ h) .0
 
 -- fewer ids are forbidden
 fresh-fewer : (E F : List ℕ) → ((y : ℕ) → elemb y F ≡ false → elemb y E ≡ false) → (xs : List DrainedSubmission) → Fresh F xs → Fresh E xs
@@ -101,8 +90,8 @@ fresh-fewer E F less (x ∷ xs) h = (less (x .id) (h .0), fresh-fewer (E ++ x .i
   where
     more : (y : ℕ) → elemb y (F ++ x .id ∷ []) ≡ false → elemb y (E ++ x .id ∷ []) ≡ false
     more y k =
-        let t = or-false (elemb y F) (elemb y (x .id ∷ [])) (sym (elem-both y F (x .id ∷ [])) ∙ k) in
-        elem-both y E (x .id ∷ []) ∙ ap (λ (b : Bool). b || elemb y (x .id ∷ [])) (less y (t .0)) ∙ t .1
+        let t = or-false (elemb y F) (elemb y (x .id ∷ [])) (sym (elem-append y F (x .id ∷ [])) ∙ k) in
+        elem-append y E (x .id ∷ []) ∙ ap (λ (b : Bool). b || elemb y (x .id ∷ [])) (less y (t .0)) ∙ t .1
 
 fresh-silent : {A : Type 0} (E F : List ℕ) (t : Bool) (k : Outcome Book A) → FreshIn (E ++ F) k → FreshIn E (guarded t (logged [] k))
 fresh-silent E F true k h = tt

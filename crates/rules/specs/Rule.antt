@@ -142,6 +142,11 @@ pub record Effect (S : Type 0) : Type 0 where
   pub after : S
   pub out : List DrainedSubmission
 
+pub logged-logged : {S A : Type 0} (xs ys : List DrainedSubmission) (k : Outcome S A) → logged xs (logged ys k) ≡ logged (xs ++ ys) k
+logged-logged xs ys (ended s zs a) = rw append-assoc
+logged-logged xs ys (undone n) = refl
+logged-logged xs ys (stopped s zs n) = rw append-assoc
+
 module _ {S : Type 0} (view : S → Book) (effect : Step → S → Effect S) where
   unfoldable pub run : {A : Type 0} → Rule A → S → Outcome S A
   run (done a) s = ended s [] a
@@ -161,11 +166,6 @@ module _ {S : Type 0} (view : S → Book) (effect : Step → S → Effect S) whe
   logged-nil (ended s xs a) = refl
   logged-nil (undone n) = refl
   logged-nil (stopped s xs n) = refl
-
-  logged-logged : {A : Type 0} (xs ys : List DrainedSubmission) (k : Outcome S A) → logged xs (logged ys k) ≡ logged (xs ++ ys) k
-  logged-logged xs ys (ended s zs a) = rw append-assoc
-  logged-logged xs ys (undone n) = refl
-  logged-logged xs ys (stopped s zs n) = rw append-assoc
 
   followed-act : {A B : Type 0} (f : A → Rule B) (t : Bool) (xs : List DrainedSubmission) (k : Outcome S A)
       → guarded t (logged xs (followed f k)) ≡ followed f (guarded t (logged xs k))

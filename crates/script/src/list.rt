@@ -2,7 +2,7 @@
 use crate::BytesArgument;
 use crate::IdsArgument;
 use crate::LengthArgument;
-use spend_write::write::at_most;
+use lists::at_most;
 use wire_bytes::read::has;
 use wire_bytes::read::read_count;
 use wire_bytes::read::read_number;

@@ -1,12 +1,13 @@
 -- When a step makes a sound book full: 16 submissions, 16 queue entries, 64 retirements.
 use Prim.Native.Nat.{ℕ, _≤_, _<_, suc}
-use mathlib.Core.Bool.{Bool, true, false, cond, _||_}
-use mathlib.Core.List.{List, [], _∷_, _++_}
+use mathlib.Core.Bool.{Bool, true, false, cond, _||_, or-false}
+use mathlib.Core.List.{[], _∷_, _++_}
 use mathlib.Core.Path.{_≡_, refl, ap, sym, _∙_}
-use native.Mathlib.Omega.{arith}
+use native.Mathlib.Numerals.{add-one}
 use lib.Dec.{ltb}
-use lib.ListN.{length, length-append}
+use lib.ListN.{length}
 use borrow.Author.Tests.{lt-ltb, le-ltb}
+use Rattle.lists.specs.Laws.{length-snoc}
 use Rattle.lists.specs.Lists.{pushNew}
 use Rattle.book_data.specs.declared.PendingDelivery.{PendingDelivery}
 use Rattle.book_data.specs.declared.PendingSubmissionIntent.{PendingSubmissionIntent}
@@ -18,13 +19,6 @@ use Rattle.rules.specs.Rule.{enqueue, retire, full}
 use Rattle.rules.specs.Steps.{withRest, restOf, noteBook, retained}
 use Rattle.rules.specs.Steps.Entry.{newEntry}
 use Rattle.rules.specs.Steps.Notes.{withPending, withRetired, noted}
-
-or-right-false : (a : Bool) → (a || false) ≡ a
-or-right-false true = refl
-or-right-false false = refl
-
-one-more : {A : Type 0} (xs : List A) (x : A) → length (xs ++ x ∷ []) ≡ suc (length xs)
-one-more xs x = omega (arith, length-append xs (x ∷ []))
 
 -- the three limits
 full-of : (m : Book) {s p r : Bool} → ltb 16 (length (m .submitted)) ≡ s → ltb 16 (length (m .pending)) ≡ p → ltb 64 (length (m .retired)) ≡ r → full m ≡ (s || p || r)
@@ -50,7 +44,7 @@ module _ (m : Book) (f : Fits m) where
   full-enqueue d s =
       ap (λ (t : Bool). full (withRest (withPending (cond t (m .pending ++ d ∷ []) (m .pending)) (restOf m)) m)) s
       ∙ full-of (withRest (withPending (m .pending ++ d ∷ []) (restOf m)) m) short-submitted refl short-retired
-      ∙ or-right-false (ltb 16 (length (m .pending ++ d ∷ []))) ∙ ap (ltb 16) (one-more (m .pending) d)
+      ∙ or-false (ltb 16 (length (m .pending ++ d ∷ []))) ∙ ap (ltb 16) (length-snoc (m .pending) d ∙ add-one (length (m .pending)))
 
   -- the retirements
   pub full-retire : (i : ℕ) → full (noteBook (retire i) m) ≡ ltb 64 (length (pushNew (m .retired) i))
@@ -62,6 +56,6 @@ module _ (m : Book) (f : Fits m) where
   unfolding retained
   full-retain p =
       full-of (retained p m) refl short-pending short-retired
-      ∙ or-right-false (ltb 16 (length (m .submitted ++ record { slots = noSlots; entry = newEntry (m .nextId) p } ∷ [])) || false)
-      ∙ or-right-false (ltb 16 (length (m .submitted ++ record { slots = noSlots; entry = newEntry (m .nextId) p } ∷ [])))
-      ∙ ap (ltb 16) (one-more (m .submitted) (record { slots = noSlots; entry = newEntry (m .nextId) p }))
+      ∙ or-false (ltb 16 (length (m .submitted ++ record { slots = noSlots; entry = newEntry (m .nextId) p } ∷ [])) || false)
+      ∙ or-false (ltb 16 (length (m .submitted ++ record { slots = noSlots; entry = newEntry (m .nextId) p } ∷ [])))
+      ∙ ap (ltb 16) (length-snoc (m .submitted) (record { slots = noSlots; entry = newEntry (m .nextId) p }) ∙ add-one (length (m .submitted)))

@@ -5,9 +5,10 @@ use mathlib.Core.List.{List, [], _++_}
 use Prim.Native.Nat.{ℕ, _+_, _≤_, min}
 use native.Mathlib.Omega.{arith}
 use lib.ListN.{length, take, length-append}
+use Rattle.lists.specs.Laws.{count-cut}
 use Rattle.wire.specs.Wire.{be, encMany}
 use Rattle.wire.specs.Number.{be-length}
-use Rattle.wire.specs.Puts.{Size, size-as, length-cut}
+use Rattle.wire.specs.Puts.{Size, size-as}
 use Rattle.book_data.specs.Zero.{isNoHeight}
 use Rattle.book_data.specs.Sound.{spendsOf, outputsOf, isAttach}
 use Rattle.book_data.specs.declared.Output.{Output}
@@ -40,7 +41,7 @@ unfolding encodeSpend
 spend-size s k r e h d z =
     let c = take (s .«coin_len») (s .coin) in
     record {
-      is = omega (arith, z .is, length-append (be 1 (s .«coin_len») ++ c ++ s .digest) (encodeRun (s .readable) (outputsOf s)), length-append (be 1 (s .«coin_len») ++ c) (s .digest), length-append (be 1 (s .«coin_len»)) c, be-length 1 (s .«coin_len»), length-cut 73 (s .«coin_len») k (s .coin) h e);
+      is = omega (arith, z .is, length-append (be 1 (s .«coin_len») ++ c ++ s .digest) (encodeRun (s .readable) (outputsOf s)), length-append (be 1 (s .«coin_len») ++ c) (s .digest), length-append (be 1 (s .«coin_len»)) c, be-length 1 (s .«coin_len»), count-cut 73 (s .«coin_len») k (s .coin) h e);
       few = omega (arith, z .few);
     }
 

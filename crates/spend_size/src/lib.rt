@@ -10,7 +10,7 @@ use book_data::OptionalHeight;
 use book_data::Output;
 use book_data::SpendBundle;
 use book_data::SubmissionFeeIntent;
-use spend_write::write::at_most;
+use lists::at_most;
 
 fn size_output(o: Output) -> usize
     ensures { λ r. ⌜ Size (encodeOutput o) 40 r ⌝ }

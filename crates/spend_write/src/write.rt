@@ -2,7 +2,6 @@
 // cells there are, all of them are written, as in the definitions.
 ghost use mathlib.Core.Path.{_≡_};
 ghost use mathlib.Core.List.{_++_};
-ghost use Prim.Native.Nat.{min};
 ghost use lib.ListN.{length, take};
 ghost use Rattle.wire.specs.Wire.{be, encMany};
 ghost use Rattle.wire.specs.Puts.{Room, Puts};
@@ -14,15 +13,10 @@ use book_data::OptionalHeight;
 use book_data::Output;
 use book_data::SpendBundle;
 use book_data::SubmissionFeeIntent;
+use lists::at_most;
 use wire::write::put_byte;
 use wire::write::put_bytes;
 use wire::write::put_number;
-
-pub fn at_most(n: usize, most: usize) -> usize
-    ensures { λ r. ⌜ r ≡ min n most ⌝ }
-{
-    if n < most { n } else { most }
-}
 
 pub fn write_output(out: &mut [u8], at: usize, o: Output) -> usize
     requires { ⌜ Room (encodeOutput o) at (now out) ⌝ }

@@ -5,7 +5,7 @@ use Prim.Native.Nat.{ℕ, zero, suc, _+_, _≤_, _<_, min}
 use native.Mathlib.Omega.{arith}
 use native.Mathlib.Nat.{add-zero}
 use lib.ListN.{length, getD, take}
-use Rattle.wire.specs.Puts.{take-cut}
+use Rattle.lists.specs.Laws.{take-cut}
 use Rattle.answers.specs.Fits.{Fits, fits-join, fits-as, fits-none}
 
 -- the text of each element, the first of which has index k

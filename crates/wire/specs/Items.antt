@@ -72,6 +72,19 @@ number-lawful w = record {
 }
 
 -- ---- a rule on an item
+module _ {A : Type 0} (test : A → Bool) (p : Parser A) (s : List ℕ) (at : ℕ) where
+  pub checked-bad : {e : ℕ} → p s at ≡ bad e → checked test p s at ≡ bad e
+  unfolding checked
+  checked-bad h = rw h
+
+  pub checked-fails : {a : A} {e : ℕ} → p s at ≡ got a e → test a ≡ false → checked test p s at ≡ bad at
+  unfolding checked
+  checked-fails {a} {e} h q = rw h (ap (λ (b : Bool). pick b (got a e) (bad at)) q)
+
+  pub checked-got : {a : A} {e : ℕ} → p s at ≡ got a e → test a ≡ true → checked test p s at ≡ got a e
+  unfolding checked
+  checked-got {a} {e} h q = rw h (ap (λ (b : Bool). pick b (got a e) (bad at)) q)
+
 checked-exact : {A : Type 0} (test : A → Bool) {G : A → Type 0} {enc : A → List ℕ} {p : Parser A} → Lawful G enc p → (s : List ℕ) (at e : ℕ) (a : A) → IsBytes s → at ≤ length s → (r : Ans A) → p s at ≡ r → andThen r (λ x d. pick (test x) (got x d) (bad at)) ≡ got a e → (G a × (test a ≡ true)) × Spans s at e (enc a)
 checked-exact test law s at e a b h (bad d) q y = bad-got y
 checked-exact {A} test {G} {enc} {p} law s at e a b h (got x d) q y = go (test x) refl y

@@ -7,13 +7,19 @@ use native.Mathlib.Numerals.{add-one}
 use native.Mathlib.Omega.{arith}
 use lib.ListN.{length, getD, take, drop, length-append, List·getD-append}
 use lib.Seq.{take-suc, take-all, getD-take, length-take-le, getD-at}
-use Rattle.wire.specs.Wire.{be, beFrom}
+use Rattle.wire.specs.Wire.{be, beFrom, encMany}
 use Rattle.wire.specs.Lawful.{IsBytes}
 
 pub be-length : (w n : ℕ) → length (be w n) ≡ w
 unfolding be
 be-length zero n = refl
 be-length (suc w) n = length-append (be w (n / 256)) (n % 256 ∷ []) ∙ ap (λ (k : ℕ). k + 1) (be-length w (n / 256)) ∙ add-one w
+
+-- numbers of 8 bytes, one after the other
+pub numbers-length : (l : List ℕ) → length (encMany (be 8) l) ≡ length l * 8
+unfolding encMany
+numbers-length [] = refl
+numbers-length (x ∷ l) = omega (arith, length-append (be 8 x) (encMany (be 8) l), be-length 8 x, numbers-length l)
 
 pub from-snoc : (acc : ℕ) (l : List ℕ) (x : ℕ) → beFrom acc (l ++ (x ∷ [])) ≡ beFrom acc l * 256 + x
 unfolding beFrom

@@ -1,13 +1,13 @@
 -- Bytes written at a place of a buffer: what they leave, and the same for parts written one after the other.
-use Prim.Native.Nat.{ℕ, zero, suc, _+_, _-_, _*_, _≤_, _<_, zero-le, min}
+use Prim.Native.Nat.{ℕ, zero, suc, _+_, _-_, _*_, _≤_, _<_, zero-le}
 use mathlib.Core.Path.{_≡_, refl, sym, ap, _∙_, subst}
 use mathlib.Core.List.{List, [], _∷_, _++_, append-assoc, append-nil}
 use native.Mathlib.Nat.{zero-add, add-zero, one-mul, add-mul}
-use native.Mathlib.Decide.{decLe}
 use native.Mathlib.Numerals.{add-one}
 use native.Mathlib.Omega.{arith}
-use lib.ListN.{length, getD, take, drop, set, length-append, length-drop, length-take, drop-of-length-le, take-append-drop}
-use lib.Seq.{take-at, drop-at, drop-drop, take-all, take-length, length-take-le, paste, paste-zero, paste-suc, length-paste}
+use lib.ListN.{length, getD, take, drop, set, length-append, length-drop, drop-of-length-le, take-append-drop}
+use lib.Seq.{take-at, drop-at, drop-drop, take-length, length-take-le, paste, paste-zero, paste-suc, length-paste}
+use Rattle.lists.specs.Laws.{part-to-end}
 use Rattle.wire.specs.Wire.{overlay, encMany}
 
 -- d with the bytes of l from place `at` on: all others stay
@@ -154,18 +154,15 @@ module _ {A : Type 0} (z : A) (enc : A → List ℕ) (l : List A) (n start : ℕ
       subst (λ (k : ℕ). Puts (encMany enc (take k l)) start d₀ d at) q (w .done)
 
 -- ---- a part written into the rest of a buffer, which starts at n
-pub rest-is : (xs : List ℕ) (n : ℕ) → take (length xs - n) (drop n xs) ≡ drop n xs
-rest-is xs n = take-all (length xs - n) (drop n xs) (rw length-drop (omega arith))
-
 pub rest-room : (l xs : List ℕ) (n : ℕ) → Room l n xs → Room l 0 (take (length xs - n) (drop n xs))
-rest-room l xs n h = rw rest-is (record { fits = omega (arith, length-drop n xs, h .fits) })
+rest-room l xs n h = rw part-to-end (record { fits = omega (arith, length-drop n xs, h .fits) })
 
 pub rest-puts : (l xs ys : List ℕ) (n e : ℕ) → Room l n xs → Puts l 0 (take (length xs - n) (drop n xs)) ys e → Puts l n xs (take n xs ++ (ys ++ drop (length xs - n) (drop n xs))) (n + e)
 unfolding splice overlay
 rest-puts l xs ys n e h p =
     let o = puts-overlay p in
     let z : drop (length xs - n) (drop n xs) ≡ [] = drop-of-length-le (drop n xs) {i = length xs - n} (rw length-drop (omega arith)) in
-    let y : ys ≡ l ++ drop (n + length l) xs = o .1 ∙ ap (overlay l) (rest-is xs n) ∙ ap (λ (t : List ℕ). l ++ t) (drop-drop (length l) n xs) in
+    let y : ys ≡ l ++ drop (n + length l) xs = o .1 ∙ ap (overlay l) (part-to-end xs n) ∙ ap (λ (t : List ℕ). l ++ t) (drop-drop (length l) n xs) in
     record {
       next = ap (λ (k : ℕ). n + k) (o .0);
       holds =
@@ -207,14 +204,3 @@ pub sizing-done : {A : Type 0} (enc : A → List ℕ) (l : List A) (m n r i : �
 sizing-done enc l m n r i s h =
     let q : i ≡ n = omega (arith, s .some) in
     subst (λ (x : ℕ). Size (encMany enc (take x l)) (x * m) r) q (s .sum)
-
--- ---- a count that is cut to the cells there are
-pub take-cut : {A : Type 0} (N n k : ℕ) (l : List A) → length l ≡ N → k ≡ min n N → take k l ≡ take n l
-take-cut N n k l h e = go (decLe n N)
-  where
-    go : Dec (n ≤ N) → take k l ≡ take n l
-    go (yes y) = let q : k ≡ n = omega arith in ap (λ (x : ℕ). take x l) q
-    go (no y) = take-all k l (omega arith) ∙ sym (take-all n l (omega arith))
-
-pub length-cut : {A : Type 0} (N n k : ℕ) (l : List A) → length l ≡ N → k ≡ min n N → length (take n l) ≡ k
-length-cut N n k l h e = length-take n l ∙ ap (λ (x : ℕ). min n x) h ∙ sym e

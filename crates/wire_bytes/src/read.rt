@@ -25,7 +25,7 @@ pub fn has(s: &[u8], at: usize, n: usize) -> bool
     n <= s.len() - at
 }
 
-fn wide(x: u8) -> u64
+pub fn wide(x: u8) -> u64
     ensures { λ r. ⌜ r ≡ x ⌝ }
 {
     x as u64
@@ -69,6 +69,17 @@ pub fn read_count(s: &[u8], at: usize, most: u8) -> ReadCount
         ok: true,
         value: n,
         at: at + 1,
+    }
+}
+
+// A number that is refused at `at`.
+pub fn no_number(at: usize) -> ReadNumber
+    ensures { λ r. ⌜ r ≡ record { ok = false; value = 0; at = at } ⌝ }
+{
+    ReadNumber {
+        ok: false,
+        value: 0,
+        at,
     }
 }
 

@@ -1,7 +1,7 @@
+use Rattle.ids.specs.IdLaws.{count-is}
 use Rattle.book_data.specs.Model.{view}
 use Rattle.book_cells.specs.Normal.{sound-normal}
 use Rattle.active_ids_call.specs.Active.{activeIn}
-use Rattle.retained_answers.specs.IdLaws.{count-is}
 use Rattle.active_ids_call.specs.Collecting.{active-fit, active-is}
 use Rattle.active_ids_call.proofs.active_ids_sound.Statement.{statement}
 use Rattle.active_ids_call.proofs.active_ids_sound.Tie as tie

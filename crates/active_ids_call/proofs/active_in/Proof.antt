@@ -8,7 +8,7 @@ use Rattle.book_data.specs.Model.{view}
 use Rattle.book_data.specs.Sound.{idOf}
 use Rattle.book_cells.specs.Normal.{sizes}
 use Rattle.active_ids_call.specs.Active.{isActive}
-use Rattle.active_ids_call.specs.Collecting.{Collecting, collect-start, collect-push, collect-pass, collect-all}
+use Rattle.ids.specs.Collect.{Collecting, collect-start, collect-keep, collect-skip, collect-all}
 use Rattle.active_ids_call.proofs.active_in.Statement.{statement}
 use Rattle.active_ids_call.proofs.active_in.Tie as tie
 
@@ -24,19 +24,19 @@ loop-holds c = let b = c .before .args .t1 in let s = sizes b (c .before .pre) i
 
 push16-requires : tie.Need-push16-requires Inv-loop μ-loop
 push16-requires c κs = let v = c .before .before .before .before .before .before .loop .inv in
-    (omega (arith, v .3 .count, v .1, c .before .before .before .before .before .loop-test .taken), v .3 .cells)
+    (omega (arith, v .3 .few, v .1, c .before .before .before .before .before .loop-test .taken), v .3 .normal)
 
 loop-again : tie.Need-loop-again Inv-loop μ-loop
 loop-again c = let l = c .before .before .before .before .before .before .before .loop in let v = l .inv in
     let t = c .before .before .before .before .before .before .loop-test .taken in
     let b = c .before .before .before .before .before .before .before .before .before .args .t1 in
-    (search needs, v .1, v .2, collect-push idOf isActive (take (b .«submitted_count») (b .submitted)) (v .3) (counted-step (b .submitted) (b .«submitted_count») (l .i) _ t (omega (arith, v .1, v .2))) (sym (c .before .before .before .active-entry .ensures) ∙ c .before .before .if1 .taken) (c .push16 .ensures))
+    (search needs, v .1, v .2, collect-keep idOf isActive (take (b .«submitted_count») (b .submitted)) (v .3) (counted-step (b .submitted) (b .«submitted_count») (l .i) _ t (omega (arith, v .1, v .2))) (sym (c .before .before .before .active-entry .ensures) ∙ c .before .before .if1 .taken) (c .push16 .ensures))
 
 loop-again-2 : tie.Need-loop-again-2 Inv-loop μ-loop
 loop-again-2 c = let l = c .before .before .before .before .before .loop in let v = l .inv in
     let t = c .before .before .before .before .loop-test .taken in
     let b = c .before .before .before .before .before .before .before .args .t1 in
-    (search needs, v .1, v .2, collect-pass idOf isActive (take (b .«submitted_count») (b .submitted)) (v .3) (counted-step (b .submitted) (b .«submitted_count») (l .i) _ t (omega (arith, v .1, v .2))) (sym (c .before .active-entry .ensures) ∙ c .if1 .left))
+    (search needs, v .1, v .2, collect-skip idOf isActive (take (b .«submitted_count») (b .submitted)) (v .3) (counted-step (b .submitted) (b .«submitted_count») (l .i) _ t (omega (arith, v .1, v .2))) (sym (c .before .active-entry .ensures) ∙ c .if1 .left))
 
 returns : tie.Need-returns Inv-loop μ-loop
 unfolding view

@@ -3,8 +3,9 @@ use native.Mathlib.Omega.{arith}
 use mathlib.Core.Path.{_≡_, refl, ap}
 use Prim.Native.Nat.{_-_, _≤_}
 use lib.ListN.{length, getD, take}
+use Rattle.lists.specs.Laws.{take-cut}
 use Rattle.wire.specs.Wire.{encMany}
-use Rattle.wire.specs.Puts.{Room, puts-as, room-as, Writing, writing-start, writing-room, writing-more, writing-done, take-cut}
+use Rattle.wire.specs.Puts.{Room, puts-as, room-as, Writing, writing-start, writing-room, writing-more, writing-done}
 use Rattle.book_data.specs.Zero.{zeroSubmitted}
 use Rattle.archive_form.specs.Encode.{encodeSubmitted}
 use Rattle.archive_write.proofs.write_submissions.Statement.{statement}

@@ -3,12 +3,12 @@ use native.Mathlib.Omega.{arith}
 use mathlib.Core.Path.{_≡_, sym, ap, _∙_}
 use Prim.Native.Nat.{ℕ, _-_, _≤_}
 use lib.ListN.{length, take}
+use Rattle.ids.specs.Collect.{Copying, copy-start, copy-turn, copy-all}
 use Rattle.book_data.specs.Sound.{idOf}
 use Rattle.book_data.specs.Model.{view}
 use Rattle.lists.specs.Laws.{counted-step, counted-end}
 use Rattle.ids.specs.IdLaws.{ids16-of}
 use Rattle.book_cells.specs.Normal.{sizes}
-use Rattle.book_cells.specs.PlaceLaws.{Copying, copy-start, copy-turn, copy-all}
 use Rattle.book_cells.proofs.submitted_ids.Statement.{statement}
 use Rattle.book_cells.proofs.submitted_ids.Tie as tie
 

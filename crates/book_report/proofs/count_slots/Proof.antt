@@ -9,7 +9,6 @@ use Rattle.book_report.proofs.count_slots.Tie as tie
 use Rattle.book_report.proofs.count_slots.Reads as reads
 use Rattle.book_report.proofs.count_slots.Lts as lts
 use Rattle.book_report.proofs.one_if.Reads as one-if-reads
-use Rattle.spend_write.proofs.write.at_most.Reads as at-most-reads
 
 abbrev Inv-loop : tie.InvT-loop
 Inv-loop n a k live₀ set-aside₀ i₀ live set-aside i = (k ≤ 16) × (i ≤ k) × (live ≤ i) × (set-aside ≤ i)

@@ -1,8 +1,7 @@
 use native.Mathlib.Nat.{min-le-right}
-use Rattle.lists.specs.Laws.{counted-step, counted-end}
+use Rattle.lists.specs.Laws.{counted-step, counted-end, take-cut}
 use Rattle.lists.specs.Lists.{flatMap}
 use mathlib.Core.List.{map}
-use Rattle.book_data.specs.Counted.{take-cut}
 use Rattle.book_data.specs.Sound.{outputsOf}
 use Rattle.book_data.specs.declared.CoinSpend.{CoinSpend}
 use Rattle.bundle_coins.specs.declared.OutputCoins.{OutputCoins}

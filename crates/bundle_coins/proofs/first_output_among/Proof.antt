@@ -1,11 +1,10 @@
 use mathlib.Core.Logic.{⊎-elim}
 use native.Mathlib.Nat.{min-le-right}
 use Prim.Native.Nat.{min}
-use Rattle.lists.specs.Laws.{counted-step, counted-end}
+use Rattle.lists.specs.Laws.{counted-step, counted-end, take-cut}
 use Rattle.coin_string.specs.Coin.{coinOfParts, from-parts-bytes}
 use Rattle.coin_string.specs.CoinList.{countOf, coinsFrom, coinsIn}
 use Rattle.coin_string.specs.CoinListLaws.{whole, broken, coins-end}
-use Rattle.book_data.specs.Counted.{take-cut}
 use Rattle.book_data.specs.declared.CoinSpend.{CoinSpend}
 use Rattle.book_data.specs.declared.SpendBundle.{SpendBundle}
 use Rattle.bundle_coins.specs.declared.Found.{Found}

@@ -1,7 +1,8 @@
 use native.Mathlib.Nat.{min-le-right}
+use Rattle.lists.specs.Laws.{take-cut}
 use Rattle.lists.specs.Lists.{cells}
 use Rattle.book_data.specs.Zero.{zeros}
-use Rattle.book_data.specs.Counted.{map-step, take-cut}
+use Rattle.book_data.specs.Counted.{map-step}
 use Rattle.book_data.specs.declared.CoinSpend.{CoinSpend}
 use Rattle.bundle_coins.specs.Laws.{spentId, input-ids}
 use Rattle.bundle_coins.proofs.Lengths.{spends-long}

@@ -1,5 +1,5 @@
 use native.Mathlib.Nat.{min-le-right}
-use Rattle.book_data.specs.Counted.{take-cut}
+use Rattle.lists.specs.Laws.{take-cut}
 use Rattle.bundle_coins.proofs.Lengths.{outputs-long}
 use borrow.Author.Needs.{needs}
 use mathlib.Core.Path.{_≡_}

@@ -16,11 +16,11 @@ returns c = c .refused-ids .ensures ∙ ap (idsReply (c .before .before .before 
 rising16-requires : tie.Need-rising16-requires
 rising16-requires c κs = found-count (coinsIn (c .before .before .before .before .before .before .args .absent .now)) (idsIn (c .before .before .before .before .before .before .args .inputs .now)) (view (c .before .before .before .before .before .before .args .b)) (sound-normal (c .before .before .before .before .before .before .args .b) (c .before .before .before .before .before .before .pre) .fits .submitted) (c .rolled-back-ids .result) (c .rolled-back-ids .ensures)
 
-in-64-cells-requires : tie.Need-in-64-cells-requires
-in-64-cells-requires c κs = up-count (coinsIn (c .before .before .before .before .before .before .before .args .absent .now)) (idsIn (c .before .before .before .before .before .before .before .args .inputs .now)) (view (c .before .before .before .before .before .before .before .args .b)) (sound-normal (c .before .before .before .before .before .before .before .args .b) (c .before .before .before .before .before .before .before .pre) .fits .submitted) (c .before .rolled-back-ids .result) (c .before .rolled-back-ids .ensures) (c .rising16 .result) (c .rising16 .ensures)
+widened-requires : tie.Need-widened-requires
+widened-requires c κs = up-count (coinsIn (c .before .before .before .before .before .before .before .args .absent .now)) (idsIn (c .before .before .before .before .before .before .before .args .inputs .now)) (view (c .before .before .before .before .before .before .before .args .b)) (sound-normal (c .before .before .before .before .before .before .before .args .b) (c .before .before .before .before .before .before .before .pre) .fits .submitted) (c .before .rolled-back-ids .result) (c .before .rolled-back-ids .ensures) (c .rising16 .result) (c .rising16 .ensures)
 
 returns-2 : tie.Need-returns-2
-returns-2 c = rolled-back-reply (c .before .before .before .before .before .before .before .before .args .absent .now) (c .before .before .before .before .before .before .before .before .args .inputs .now) (c .before .before .before .before .before .before .before .before .args .b) (c .in-64-cells .result) (c .before .before .before .before .before .before .before .before .pre) (lists-told (c .before .before .before .before .before .before .before .before .args .absent .now) (c .before .before .before .before .before .before .before .before .args .inputs .now) (c .before .before .before .before .before .is-coin-list .ensures) (c .before .before .before .before .is-id-list .ensures) (not-false _ (c .before .before .before .if1 .left))) (up-ids (coinsIn (c .before .before .before .before .before .before .before .before .args .absent .now)) (idsIn (c .before .before .before .before .before .before .before .before .args .inputs .now)) (view (c .before .before .before .before .before .before .before .before .args .b)) (sound-normal (c .before .before .before .before .before .before .before .before .args .b) (c .before .before .before .before .before .before .before .before .pre) .fits .submitted) (c .before .before .rolled-back-ids .result) (c .before .before .rolled-back-ids .ensures) (c .before .rising16 .result) (c .before .rising16 .ensures) (c .in-64-cells .ensures))
+returns-2 c = rolled-back-reply (c .before .before .before .before .before .before .before .before .args .absent .now) (c .before .before .before .before .before .before .before .before .args .inputs .now) (c .before .before .before .before .before .before .before .before .args .b) (c .widened .result) (c .before .before .before .before .before .before .before .before .pre) (lists-told (c .before .before .before .before .before .before .before .before .args .absent .now) (c .before .before .before .before .before .before .before .before .args .inputs .now) (c .before .before .before .before .before .is-coin-list .ensures) (c .before .before .before .before .is-id-list .ensures) (not-false _ (c .before .before .before .if1 .left))) (up-ids (coinsIn (c .before .before .before .before .before .before .before .before .args .absent .now)) (idsIn (c .before .before .before .before .before .before .before .before .args .inputs .now)) (view (c .before .before .before .before .before .before .before .before .args .b)) (sound-normal (c .before .before .before .before .before .before .before .before .args .b) (c .before .before .before .before .before .before .before .before .pre) .fits .submitted) (c .before .before .rolled-back-ids .result) (c .before .before .rolled-back-ids .ensures) (c .before .rising16 .result) (c .before .rising16 .ensures) (c .widened .ensures))
 
 pub causally-rolled-back-ids-sound-spec : {M : Type 1} → statement M
 causally-rolled-back-ids-sound-spec =
@@ -32,5 +32,5 @@ causally-rolled-back-ids-sound-spec =
     returns
     (λ c κs. search needs)
     rising16-requires
-    in-64-cells-requires
+    widened-requires
     returns-2)

@@ -29,7 +29,7 @@ judge-requires : tie.Need-judge-requires Inv-loop μ-loop
 judge-requires c κs = (c .before .before .loop .inv .2, omega (arith, c .before .before .loop .inv .1, c .if1 .taken))
 
 returns : tie.Need-returns Inv-loop μ-loop
-returns c = let a = c .before .before .before .before .before .before .before .before .before .args in c .refused .ensures ∙ ap (doneReply (a .b)) (sym (left-over (coinsIn (a .observed .now)) (idsIn (a .spent .now)) (a .reorg) (a .rolled-back .now) (c .before .before .before .before .before .loop .inv .3) (c .before .before .judge .result) (omega (arith, c .before .before .before .before .before .loop .inv .1, c .before .before .before .if1 .taken)) (c .before .before .judge .ensures) (c .before .if2 .taken)))
+returns c = let a = c .before .before .before .before .before .before .before .before .before .args in c .refused-done .ensures ∙ ap (doneReply (a .b)) (sym (left-over (coinsIn (a .observed .now)) (idsIn (a .spent .now)) (a .reorg) (a .rolled-back .now) (c .before .before .before .before .before .loop .inv .3) (c .before .before .judge .result) (omega (arith, c .before .before .before .before .before .loop .inv .1, c .before .before .before .if1 .taken)) (c .before .before .judge .ensures) (c .before .if2 .taken)))
 
 loop-again : tie.Need-loop-again Inv-loop μ-loop
 loop-again c = let a = c .before .before .before .before .before .before .before .before .before .args in let y = c .before .before .judge .ensures .kept (c .before .if2 .left) in

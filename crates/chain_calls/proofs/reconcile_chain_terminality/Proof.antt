@@ -8,7 +8,7 @@ use Rattle.chain_calls.proofs.reconcile_chain_terminality.Statement.{st
 use Rattle.chain_calls.proofs.reconcile_chain_terminality.Tie as tie
 
 returns : tie.Need-returns
-returns c = c .refused .ensures ∙ ap (doneReply (c .before .before .before .before .before .before .args .b)) (sym (door-shut (c .before .before .before .before .before .before .args .b) (reconcileChainTerminality (c .before .before .before .before .before .before .args .observed .now) (c .before .before .before .before .before .before .args .spent .now) (c .before .before .before .before .before .before .args .reorg) (c .before .before .before .before .before .before .args .rolled-back .now)) (sym (c .before .before .is-sound .ensures) ∙ not-true _ (c .before .if1 .taken))))
+returns c = c .refused-done .ensures ∙ ap (doneReply (c .before .before .before .before .before .before .args .b)) (sym (door-shut (c .before .before .before .before .before .before .args .b) (reconcileChainTerminality (c .before .before .before .before .before .before .args .observed .now) (c .before .before .before .before .before .before .args .spent .now) (c .before .before .before .before .before .before .args .reorg) (c .before .before .before .before .before .before .args .rolled-back .now)) (sym (c .before .before .is-sound .ensures) ∙ not-true _ (c .before .if1 .taken))))
 
 reconcile-chain-terminality-sound-requires : tie.Need-reconcile-chain-terminality-sound-requires
 reconcile-chain-terminality-sound-requires c κs = sym (c .before .is-sound .ensures) ∙ not-false _ (c .if1 .left)

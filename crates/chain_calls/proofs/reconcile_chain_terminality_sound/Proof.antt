@@ -8,7 +8,7 @@ use Rattle.chain_calls.proofs.reconcile_chain_terminality_sound.Stateme
 use Rattle.chain_calls.proofs.reconcile_chain_terminality_sound.Tie as tie
 
 returns : tie.Need-returns
-returns c = c .refused .ensures ∙ ap (doneReply (c .before .before .before .before .before .before .before .args .b)) (reconcile-shut (c .before .before .before .before .before .before .before .args .observed .now) (c .before .before .before .before .before .before .before .args .spent .now) (c .before .before .before .before .before .before .before .args .reorg) (c .before .before .before .before .before .before .before .args .rolled-back .now) (view (c .before .before .before .before .before .before .before .args .b)) (lists-told (c .before .before .before .before .before .before .before .args .observed .now) (c .before .before .before .before .before .before .before .args .spent .now) (c .before .before .before .before .before .before .before .args .reorg) (c .before .before .before .before .before .before .before .args .rolled-back .now) (view (c .before .before .before .before .before .before .before .args .b)) (c .before .before .before .is-coin-list .ensures) (c .before .before .is-id-list .ensures) (not-true _ (c .before .if1 .taken))))
+returns c = c .refused-done .ensures ∙ ap (doneReply (c .before .before .before .before .before .before .before .args .b)) (reconcile-shut (c .before .before .before .before .before .before .before .args .observed .now) (c .before .before .before .before .before .before .before .args .spent .now) (c .before .before .before .before .before .before .before .args .reorg) (c .before .before .before .before .before .before .before .args .rolled-back .now) (view (c .before .before .before .before .before .before .before .args .b)) (lists-told (c .before .before .before .before .before .before .before .args .observed .now) (c .before .before .before .before .before .before .before .args .spent .now) (c .before .before .before .before .before .before .before .args .reorg) (c .before .before .before .before .before .before .before .args .rolled-back .now) (view (c .before .before .before .before .before .before .before .args .b)) (c .before .before .before .is-coin-list .ensures) (c .before .before .is-id-list .ensures) (not-true _ (c .before .if1 .taken))))
 
 returns-2 : tie.Need-returns-2
 returns-2 c = c .judge-each .ensures ∙ ap (doneReply (c .before .before .before .before .before .before .before .args .b)) (reconcile-open (c .before .before .before .before .before .before .before .args .observed .now) (c .before .before .before .before .before .before .before .args .spent .now) (c .before .before .before .before .before .before .before .args .reorg) (c .before .before .before .before .before .before .before .args .rolled-back .now) (view (c .before .before .before .before .before .before .before .args .b)) (lists-told (c .before .before .before .before .before .before .before .args .observed .now) (c .before .before .before .before .before .before .before .args .spent .now) (c .before .before .before .before .before .before .before .args .reorg) (c .before .before .before .before .before .before .before .args .rolled-back .now) (view (c .before .before .before .before .before .before .before .args .b)) (c .before .before .before .is-coin-list .ensures) (c .before .before .is-id-list .ensures) (not-false _ (c .before .if1 .left))))

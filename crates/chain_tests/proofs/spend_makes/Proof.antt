@@ -4,9 +4,8 @@ use native.Mathlib.Omega.{arith}
 use mathlib.Core.Path.{_≡_, refl, sym, ap, _∙_}
 use Prim.Native.Nat.{_-_, _≤_}
 use lib.ListN.{length, take, drop}
-use Rattle.lists.specs.Laws.{counted-step, counted-end}
+use Rattle.lists.specs.Laws.{counted-step, counted-end, take-cut}
 use Rattle.lists.specs.Lists.{anyb}
-use Rattle.book_data.specs.Counted.{take-cut}
 use Rattle.bundle_coins.specs.Laws.{noOutput}
 use Rattle.bundle_coins.proofs.Lengths.{outputs-long}
 use Rattle.book_cells.specs.PlaceLaws.{any-hit, any-turn, any-done}

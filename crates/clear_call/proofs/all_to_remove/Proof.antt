@@ -1,8 +1,9 @@
 use borrow.Author.Needs.{needs}
 use mathlib.Core.List.{map}
+use Rattle.ids.specs.IdLaws.{count-is}
 use Rattle.book_data.specs.Model.{view}
 use Rattle.book_data.specs.Sound.{idOf}
-use Rattle.retained_answers.specs.IdLaws.{count-is, ids-fit, rising-is}
+use Rattle.retained_answers.specs.IdLaws.{ids-fit, rising-is}
 use Rattle.clear_call.proofs.all_to_remove.Statement.{statement}
 use Rattle.clear_call.proofs.all_to_remove.Tie as tie
 

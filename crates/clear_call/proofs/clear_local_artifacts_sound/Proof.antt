@@ -1,11 +1,11 @@
 use borrow.Author.Needs.{needs}
 use mathlib.Core.List.{map}
 use mathlib.Core.Path.{_∙_}
+use Rattle.ids.specs.IdLaws.{count-is}
 use Rattle.lists.specs.Lists.{rising}
 use Rattle.book_data.specs.Model.{view}
 use Rattle.book_data.specs.Sound.{idOf}
 use Rattle.book_cells.specs.Normal.{sound-normal}
-use Rattle.retained_answers.specs.IdLaws.{count-is}
 use Rattle.clear_call.specs.Clearing.{all-fit, none-normal, unqueued-normal, clear-full, clear-is}
 use Rattle.clear_call.proofs.clear_local_artifacts_sound.Statement.{statement}
 use Rattle.clear_call.proofs.clear_local_artifacts_sound.Tie as tie

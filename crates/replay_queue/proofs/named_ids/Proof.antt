@@ -1,8 +1,9 @@
 use mathlib.Core.List.{map}
+use Rattle.ids.specs.IdLaws.{cells-are, count-is}
 use Rattle.book_data.specs.Model.{view}
 use Rattle.book_data.specs.Sound.{idOf}
 use Rattle.book_cells.specs.Normal.{sound-normal}
-use Rattle.replay_queue.specs.Collecting.{cells-of, count-of, ids-fit, named-is}
+use Rattle.replay_queue.specs.Collecting.{ids-fit, named-is}
 use Rattle.replay_queue.proofs.named_ids.Statement.{statement}
 use Rattle.replay_queue.proofs.named_ids.Tie as tie
 
@@ -10,7 +11,7 @@ submitted-ids-requires : tie.Need-submitted-ids-requires
 submitted-ids-requires c κs = sound-normal (c .before .args .b) (c .before .pre)
 
 among16-requires : tie.Need-among16-requires
-among16-requires c κs = (count-of (map idOf (view (c .before .before .args .b) .submitted)) (c .submitted-ids .ensures) (ids-fit (c .before .before .args .b) (c .before .before .pre)), cells-of (map idOf (view (c .before .before .args .b) .submitted)) (c .submitted-ids .ensures))
+among16-requires c κs = (count-is (map idOf (view (c .before .before .args .b) .submitted)) (c .submitted-ids .ensures) (ids-fit (c .before .before .args .b) (c .before .before .pre)), cells-are (map idOf (view (c .before .before .args .b) .submitted)) (c .submitted-ids .ensures))
 
 returns : tie.Need-returns
 returns c = named-is (c .before .before .before .args .b) (c .before .before .before .pre) (c .before .submitted-ids .ensures) (c .before .before .before .args .ids .now) (c .among16 .ensures)

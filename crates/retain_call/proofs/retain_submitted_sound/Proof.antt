@@ -1,9 +1,9 @@
 use borrow.Author.Needs.{needs}
 use mathlib.Core.Path.{_∙_}
+use Rattle.ids.specs.IdLaws.{count-is}
 use Rattle.book_data.specs.Model.{view}
 use Rattle.rules.specs.Calls.RetainSubmitted.{toRemove}
 use Rattle.book_cells.specs.Normal.{sound-normal}
-use Rattle.retained_answers.specs.IdLaws.{count-is}
 use Rattle.retain_call.specs.Removed.{removed-fit}
 use Rattle.retain_call.specs.Retaining.{retain-many, retain-full, retain-is}
 use Rattle.retain_call.proofs.retain_submitted_sound.Statement.{statement}

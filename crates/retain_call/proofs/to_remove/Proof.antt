@@ -2,10 +2,11 @@ use borrow.Author.Needs.{needs}
 use mathlib.Core.List.{map}
 use mathlib.Core.Path.{ap, _∙_}
 use Prim.Native.Nat.{ℕ}
+use Rattle.ids.specs.IdLaws.{cells-are, count-is}
 use Rattle.lists.specs.Lists.{filterb, elemb}
 use Rattle.book_data.specs.Model.{view, ids16}
 use Rattle.book_data.specs.Sound.{idOf}
-use Rattle.retained_answers.specs.IdLaws.{count-is, cells-are, ids-fit, rising-is}
+use Rattle.retained_answers.specs.IdLaws.{ids-fit, rising-is}
 use Rattle.retain_call.specs.Removed.{some-fit, chosen-is, remove-is}
 use Rattle.retain_call.proofs.to_remove.Statement.{statement}
 use Rattle.retain_call.proofs.to_remove.Tie as tie

@@ -3,10 +3,11 @@ use Prim.Native.Nat.{_≤_}
 use mathlib.Core.List.{map}
 use native.Mathlib.Omega.{arith}
 use lib.ListN.{length, length-map}
+use Rattle.lists.specs.Laws.{rising-distinct}
 use Rattle.book_data.specs.Model.{Book}
 use Rattle.book_data.specs.Sound.{idOf}
 use Rattle.book_data.specs.SoundLaws.{SoundLists, Fits}
-use Rattle.rule_laws.specs.ListLaws.{pigeons, rising-distinct}
+use Rattle.rule_laws.specs.ListLaws.{pigeons}
 
 pub record Short (b : Book) : Type 0 where
   pub submitted : length (b .submitted) ≤ 16

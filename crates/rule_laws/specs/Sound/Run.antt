@@ -7,7 +7,7 @@ use native.Mathlib.Omega.{arith}
 use lib.Dec.{eqb, ltb}
 use lib.ListN.{length, length-map}
 use borrow.Author.Tests.{ltb-false}
-use Rattle.lists.specs.Laws.{filter-length}
+use Rattle.lists.specs.Laws.{filter-length, or-false}
 use Rattle.book_data.specs.declared.AttemptSlots.{AttemptSlots}
 use Rattle.book_data.specs.declared.SubmittedTx.{SubmittedTx}
 use Rattle.book_data.specs.declared.BookData.{BookData}
@@ -26,7 +26,6 @@ use Rattle.rules.specs.Steps.{withEntry, withSlots, noteBook, reviseBook, retai
 use Rattle.rules.specs.Steps.Entry.{revised}
 use Rattle.rules.specs.Steps.Notes.{isId, unqueued, noted, forgotten, replayedWith}
 use Rattle.rules.specs.Steps.Slots.{issueAttempt, slotsIssued, slotsAside, slotsFinal}
-use Rattle.rule_laws.specs.ListLaws.{or-false}
 use Rattle.rule_laws.specs.Sound.Facts.{Short, replayed-short, short-of}
 use Rattle.rule_laws.specs.Sound.Steps.{sound-step}
 

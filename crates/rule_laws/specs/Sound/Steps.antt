@@ -6,15 +6,15 @@ use mathlib.Core.Path.{_≡_, refl, sym, ap, _∙_, subst}
 use native.Mathlib.Omega.{arith}
 use lib.Dec.{eqb, ltb}
 use borrow.Author.Tests.{eqb-true, lt-ltb, not-true, ltb-true}
-use Rattle.lists.specs.Laws.{and-split}
-use Rattle.lists.specs.Lists.{allb, filterb, flatMap, elemb, distinctb, insertUp}
-use Rattle.lists.specs.Sub.{Sub, sub-all, sub-append, filter-sub, all-sub, map-sub, flat-sub, distinct-sub, pushNew-distinct}
+use Rattle.lists.specs.Laws.{and-split, or-false, all-snoc, flat-append, elem-append}
+use Rattle.lists.specs.Lists.{allb, filterb, flatMap, elemb, distinctb, insertUp, risingb}
+use Rattle.lists.specs.Sub.{Sub, sub-all, sub-append, filter-sub, all-sub, map-sub, flat-sub, distinct-sub, pushNew-distinct, distinct-snoc}
 use Rattle.book_data.specs.declared.AttemptSlots.{AttemptSlots}
 use Rattle.book_data.specs.declared.SubmittedTx.{SubmittedTx}
 use Rattle.book_data.specs.declared.PendingSubmissionIntent.{PendingSubmissionIntent}
 use Rattle.book_data.specs.declared.SubmissionDeliveryGoal.{SubmissionDeliveryGoal}
 use Rattle.book_data.specs.Model.{Book}
-use Rattle.book_data.specs.Sound.{readableBundle, soundSlots, soundSubmitted, soundIntent, soundDelivery, idOf, slotTokens, tokensOf, risingb}
+use Rattle.book_data.specs.Sound.{readableBundle, soundSlots, soundSubmitted, soundIntent, soundDelivery, idOf, slotTokens, tokensOf}
 use Rattle.book_data.specs.SoundLaws.{SoundLists}
 use Rattle.book_data.specs.Zero.{noSlots}
 use Rattle.rules.specs.Keyed.{pick, change, without, map-change}
@@ -24,11 +24,8 @@ use Rattle.rules.specs.Steps.{withEntry, withSlots, noteBook, reviseBook, retai
 use Rattle.rules.specs.Steps.Entry.{revised, newEntry}
 use Rattle.rules.specs.Steps.Notes.{isId, unqueued, unreplayed, noted, forgotten, replayedWith}
 use Rattle.rules.specs.Steps.Slots.{issueAttempt, slotsIssued, slotsAside, slotsFinal}
-use Rattle.rule_laws.specs.ListLaws.{or-false, all-snoc, all-change, all-weaken, elem-append, all-elem-without, change-flat-sub, flat-append, Adds, put, adds-after, distinct-adds, all-adds, below-elem, rising-sub, rising-insert, all-insert}
+use Rattle.rule_laws.specs.ListLaws.{all-change, all-weaken, all-elem-without, change-flat-sub, Adds, put, adds-after, distinct-adds, all-adds, below-elem, rising-sub, rising-insert, all-insert}
 use Rattle.rule_laws.specs.Sound.Parts.{sound-entry, tokens-no-slots, sound-aside, sound-final, sound-issued, tokens-aside, tokens-final, tokens-issued, sound-slots, revised-id, sound-new}
-
-snoc-new : (xs : List ℕ) (x : ℕ) → distinctb xs ≡ true → elemb x xs ≡ false → distinctb (xs ++ (x ∷ [])) ≡ true
-snoc-new xs x h n = rw n at (pushNew-distinct xs x h)
 
 -- ---- notes
 sound-note : (n : Note) (b : Book) → SoundLists b → SoundLists (noteBook n b)
@@ -191,14 +188,14 @@ sound-retained : (p : PendingSubmissionIntent) (b : Book) → SoundLists b → s
 unfolding retained
 sound-retained p b s h r n = record {
   submitted = all-snoc soundSubmitted (b .submitted) new (s .submitted) (sound-new (b .nextId) p h r);
-  ids = ap distinctb ids-are ∙ snoc-new (map idOf (b .submitted)) (b .nextId .0) (s .ids) n;
+  ids = ap distinctb ids-are ∙ distinct-snoc (map idOf (b .submitted)) (b .nextId .0) (s .ids) n;
   tokens = ap distinctb tokens-are ∙ s .tokens;
   below = ap (allb (λ t. ltb t (b .nextToken .0))) tokens-are ∙ s .below;
   pending = s .pending;
   retired = s .retired;
   rising = s .rising;
   replayed = ap (λ (is : List ℕ). allb (λ j. elemb j is) (b .replayed)) ids-are
-      ∙ all-weaken (λ j. elemb j (map idOf (b .submitted))) (λ j. elemb j (map idOf (b .submitted) ++ b .nextId .0 ∷ [])) (λ j k. elem-append j (map idOf (b .submitted)) (b .nextId .0 ∷ []) k) (b .replayed) (s .replayed);
+      ∙ all-weaken (λ j. elemb j (map idOf (b .submitted))) (λ j. elemb j (map idOf (b .submitted) ++ b .nextId .0 ∷ [])) (λ j k. elem-append j (map idOf (b .submitted)) (b .nextId .0 ∷ []) ∙ ap (λ (t : Bool). t || elemb j (b .nextId .0 ∷ [])) k) (b .replayed) (s .replayed);
 }
   where
     new : SubmittedTx

@@ -4,8 +4,9 @@ use mathlib.Core.Path.{_≡_, ap}
 use Prim.Native.Nat.{_-_, _≤_}
 use mathlib.Core.List.{[]}
 use lib.ListN.{length}
+use Rattle.lists.specs.Laws.{take-cut}
 use Rattle.wire.specs.Wire.{encMany}
-use Rattle.wire.specs.Puts.{take-cut, size-as, Sizing, sizing-start, sizing-more, sizing-done}
+use Rattle.wire.specs.Puts.{size-as, Sizing, sizing-start, sizing-more, sizing-done}
 use Rattle.book_data.specs.declared.Output.{Output}
 use Rattle.spend.specs.Forms.{encodeOutput}
 use Rattle.spend_size.proofs.size_outputs.Statement.{statement}

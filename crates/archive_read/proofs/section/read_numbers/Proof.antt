@@ -1,6 +1,6 @@
+use Rattle.wire.specs.Items.{checked-bad, checked-fails, checked-got}
 use Rattle.wire_bytes.specs.Reading.{gives, refuses, reads-got, reads-bad}
 use Rattle.archive_read.specs.Sections.{exact-count, numbersOf}
-use Rattle.entry_read.specs.Attempts.{checked-bad, checked-fails, checked-got}
 use Rattle.archive_form.specs.Parse.{parseNumbers}
 use Rattle.wire.specs.Wire.{upTo}
 use lib.Dec.{eqb}

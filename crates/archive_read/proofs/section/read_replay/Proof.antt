@@ -1,7 +1,7 @@
+use Rattle.wire.specs.Items.{checked-bad, checked-fails, checked-got}
 use Rattle.wire_bytes.specs.Reading.{gives, refuses, reads-got, reads-bad}
 use mathlib.Core.List.{map}
 use Rattle.book_data.specs.Sound.{idOf}
-use Rattle.entry_read.specs.Attempts.{checked-bad, checked-fails, checked-got}
 use Rattle.archive_form.specs.Parse.{parseReplayed, above}
 use Rattle.lists.specs.Lists.{elemb}
 use Rattle.wire.specs.Wire.{number}

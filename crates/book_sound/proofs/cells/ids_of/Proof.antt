@@ -1,8 +1,9 @@
 use native.Mathlib.Nat.{min-le-right}
 use lib.ListN.{length-map}
+use Rattle.lists.specs.Laws.{take-cut, count-cut}
 use Rattle.lists.specs.Lists.{cells}
 use Rattle.book_data.specs.Sound.{idOf}
-use Rattle.book_data.specs.Counted.{map-step, take-cut, count-cut}
+use Rattle.book_data.specs.Counted.{map-step}
 use Rattle.book_data.specs.declared.SubmittedTx.{SubmittedTx}
 use borrow.Author.Needs.{needs}
 use mathlib.Core.Path.{_≡_, refl, sym, ap, _∙_}

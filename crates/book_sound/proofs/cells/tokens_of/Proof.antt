@@ -1,8 +1,7 @@
 use native.Mathlib.Nat.{min-le-right}
 use Rattle.lists.specs.Lists.{flatMap}
-use Rattle.lists.specs.Laws.{push-twice, flat-turn, flat-done, counted-step, counted-end}
+use Rattle.lists.specs.Laws.{push-twice, flat-turn, flat-done, counted-step, counted-end, take-cut}
 use Rattle.book_data.specs.Sound.{tokensOf}
-use Rattle.book_data.specs.Counted.{take-cut}
 use borrow.Author.Needs.{needs}
 use mathlib.Core.Path.{_≡_, refl, ap, _∙_}
 use mathlib.Core.List.{_++_}

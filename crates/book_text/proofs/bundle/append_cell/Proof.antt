@@ -1,7 +1,7 @@
+use Rattle.lists.specs.Laws.{take-cut}
 use Rattle.answers.specs.Fits.{Fits, fits-join, fits-as, fits-none}
 use Rattle.book_text.specs.Coins.{amountFrom, amountOf, isCoin, partsText, coinOr, coinOrBytes, coinText, parentOf, puzzleOf, coin-short, coin-long, coin-room, coin-is, read-is}
 use native.Mathlib.Nat.{sub-zero}
-use Rattle.wire.specs.Puts.{take-cut}
 use native.Mathlib.Omega.{arith}
 use mathlib.Core.Path.{_≡_, refl, sym, ap, _∙_, subst}
 use mathlib.Core.List.{List, [], _∷_, _++_}
@@ -13,7 +13,6 @@ use Rattle.book_text.proofs.bundle.append_cell.Tie as tie
 use Rattle.book_text.proofs.bundle.append_cell.Reads as reads
 use Rattle.book_text.proofs.bundle.append_cell.Lts as lts
 use Rattle.book_text.proofs.coin.append_coin.Reads as append-coin-reads
-use Rattle.spend_write.proofs.write.at_most.Reads as at-most-reads
 
 at-most-requires : tie.Need-at-most-requires
 at-most-requires c κs = search needs

@@ -12,7 +12,6 @@ use Rattle.book_text.proofs.bundle.append_outputs.Tie as tie
 use Rattle.book_text.proofs.bundle.append_outputs.Reads as reads
 use Rattle.book_text.proofs.bundle.append_outputs.Lts as lts
 use Rattle.book_text.proofs.bundle.append_output.Reads as append-output-reads
-use Rattle.spend_write.proofs.write.at_most.Reads as at-most-reads
 
 abbrev Inv-loop : tie.InvT-loop
 Inv-loop out₀ at n a k e₀ i₀ out e i = Fits (eachFrom outputText 0 (take i a)) at out₀ out e × (i ≤ k) × (k ≤ 4) × (length out ≡ length out₀)

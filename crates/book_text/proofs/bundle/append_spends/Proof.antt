@@ -12,7 +12,6 @@ use Rattle.book_text.proofs.bundle.append_spends.Tie as tie
 use Rattle.book_text.proofs.bundle.append_spends.Reads as reads
 use Rattle.book_text.proofs.bundle.append_spends.Lts as lts
 use Rattle.book_text.proofs.bundle.append_spend.Reads as append-spend-reads
-use Rattle.spend_write.proofs.write.at_most.Reads as at-most-reads
 
 abbrev Inv-loop : tie.InvT-loop
 Inv-loop out₀ at n a k e₀ i₀ out e i = Fits (eachFrom spendText 0 (take i a)) at out₀ out e × (i ≤ k) × (k ≤ 4) × (length out ≡ length out₀)

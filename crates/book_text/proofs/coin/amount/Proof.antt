@@ -9,7 +9,6 @@ use Rattle.book_text.proofs.coin.amount.Statement.{statement}
 use Rattle.book_text.proofs.coin.amount.Tie as tie
 use Rattle.book_text.proofs.coin.amount.Reads as reads
 use Rattle.book_text.proofs.coin.amount.Lts as lts
-use Rattle.book_text.proofs.coin.wide.Reads as wide-reads
 
 abbrev Inv-loop : tie.InvT-loop
 Inv-loop c v₀ i₀ v i = amountFrom v (drop i c) ≡ amountOf c

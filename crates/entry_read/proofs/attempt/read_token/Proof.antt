@@ -1,7 +1,7 @@
+use Rattle.wire.specs.Items.{checked-bad, checked-fails, checked-got}
 use Rattle.wire_bytes.specs.Reading.{gives, refuses, reads-got, reads-bad}
 use Rattle.lists.specs.Lists.{flatMap}
 use Rattle.book_data.specs.Sound.{tokensOf, attemptToken}
-use Rattle.entry_read.specs.Attempts.{checked-bad, checked-fails, checked-got}
 use Rattle.wire.specs.Wire.{number}
 use Rattle.archive_form.specs.Parse.{freshToken}
 use borrow.Author.Tests.{not-true, not-false}

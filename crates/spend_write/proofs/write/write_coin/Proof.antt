@@ -2,7 +2,8 @@ use native.Mathlib.Nat.{sub-zero}
 use mathlib.Core.Path.{_≡_}
 use Prim.Native.Nat.{_-_}
 use lib.ListN.{length, take}
-use Rattle.wire.specs.Puts.{room-first, room-next, puts-join, puts-as, room-as, take-cut}
+use Rattle.lists.specs.Laws.{take-cut}
+use Rattle.wire.specs.Puts.{room-first, room-next, puts-join, puts-as, room-as}
 use borrow.Author.Needs.{needs}
 use Rattle.spend_write.proofs.write.write_coin.Statement.{statement}
 use Rattle.spend_write.proofs.write.write_coin.Tie as tie

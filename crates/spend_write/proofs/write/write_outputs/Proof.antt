@@ -4,8 +4,9 @@ use mathlib.Core.Path.{_≡_, refl, ap}
 use Prim.Native.Nat.{_-_, _≤_}
 use mathlib.Core.List.{[]}
 use lib.ListN.{length, take}
+use Rattle.lists.specs.Laws.{take-cut}
 use Rattle.wire.specs.Wire.{encMany}
-use Rattle.wire.specs.Puts.{Room, puts-as, room-as, Writing, writing-start, writing-room, writing-more, writing-done, take-cut}
+use Rattle.wire.specs.Puts.{Room, puts-as, room-as, Writing, writing-start, writing-room, writing-more, writing-done}
 use Rattle.book_data.specs.declared.Output.{Output}
 use Rattle.spend.specs.Forms.{encodeOutput}
 use Rattle.spend_write.proofs.write.write_outputs.Statement.{statement}

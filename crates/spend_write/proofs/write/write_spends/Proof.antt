@@ -5,8 +5,9 @@ use mathlib.Core.Bool.{false}
 use Prim.Native.Nat.{_-_, _≤_}
 use mathlib.Core.List.{[]}
 use lib.ListN.{length, take}
+use Rattle.lists.specs.Laws.{take-cut}
 use Rattle.wire.specs.Wire.{encMany}
-use Rattle.wire.specs.Puts.{Room, puts-as, room-as, Writing, writing-start, writing-room, writing-more, writing-done, take-cut}
+use Rattle.wire.specs.Puts.{Room, puts-as, room-as, Writing, writing-start, writing-room, writing-more, writing-done}
 use Rattle.book_data.specs.declared.CoinSpend.{CoinSpend}
 use Rattle.spend.specs.Forms.{encodeSpend}
 use Rattle.spend_write.proofs.write.write_spends.Statement.{statement}
