@@ -8,7 +8,7 @@ use native.Mathlib.Omega.{arith}
 use lib.ListN.{length, take, length-append, length-take}
 use Rattle.archive_form.specs.Lengths.{id-size, numbers-size}
 use Rattle.wire.specs.Wire.{be, encMany, encList, encOpt}
-use Rattle.wire.specs.Number.{be-length}
+use Rattle.wire.specs.Number.{be-length, opt-size}
 use Rattle.spend.specs.Forms.{encodeOutput, encodeRun, encodeSpend, encodeBundle, encodeHeight, encodeFeeIntent, kindNumber, attached}
 use Rattle.book_data.specs.Sound.{spendsOf, outputsOf}
 use Rattle.book_data.specs.Model.{Book, view, back, list16, list64}
@@ -50,11 +50,6 @@ list-size enc n k l h e = omega (arith, length-append (be 1 (length l)) (encMany
 
 take-few : {A : Type 0} (n k : ℕ) (l : List A) → length l ≡ k → length (take n l) ≤ k
 take-few n k l h = omega (arith, length-take n l)
-
-opt-size : (b : Bool) (k : ℕ) (l : List ℕ) → length l ≤ k → length (encOpt b l) ≤ 1 + k
-unfolding encOpt
-opt-size false k l h = omega (arith, be-length 1 0)
-opt-size true k l h = omega (arith, length-append (be 1 1) l, be-length 1 1)
 
 -- ---- parts
 output-size : (o : Output) → TypedOutput o → length (encodeOutput o) ≤ 40

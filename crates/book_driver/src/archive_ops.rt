@@ -3,6 +3,7 @@ use answers::part::append_byte;
 use answers::part::append_flag;
 use answers::part::append_number;
 use archive_read::read_archive;
+use book_data::BookData;
 use book_sound::is_sound;
 use driver_frame::Step;
 use driver_frame::broken;
@@ -12,7 +13,20 @@ use driver_frame::say;
 use script::list::read_bytes;
 use submission::SubmissionBook;
 
-// 1c: an accepted archive becomes the book; a refusal has its place.
+fn accept(parts: BookData, at: usize) -> Step {
+    let book = SubmissionBook { parts };
+    finish_with(0, book, at)
+}
+
+// A refusal, with its place.
+fn say_place(place: usize) {
+    let mut out = [0u8; 9];
+    let head = append_byte(&mut out, 0, 13);
+    let e = append_number(&mut out, head, place as u64);
+    say(&out, e);
+}
+
+// 1c: an accepted archive becomes the book.
 fn read_call(s: &[u8], at: usize, b: SubmissionBook) -> Step {
     let a = read_bytes(s, at);
     let ok = a.ok;
@@ -24,32 +38,30 @@ fn read_call(s: &[u8], at: usize, b: SubmissionBook) -> Step {
     let r = read_archive(&s[from..end]);
     let accepted = r.ok;
     if accepted {
-        let parts = r.book;
-        let book = SubmissionBook { parts };
-        return finish_with(0, book, end);
+        return accept(r.book, end);
     }
-    let mut out = [0u8; 9];
-    let head = append_byte(&mut out, 0, 13);
-    let e = append_number(&mut out, head, r.place as u64);
-    say(&out, e);
+    say_place(r.place);
     finish(b, end)
 }
 
-// 1d
-fn sound_call(at: usize, b: SubmissionBook) -> Step {
-    let parts = b.parts;
-    let sound = is_sound(parts);
+fn say_sound(sound: bool) {
     let mut out = [0u8; 2];
     let head = append_byte(&mut out, 0, 0);
     let e = append_flag(&mut out, head, sound);
     say(&out, e);
+}
+
+// 1d
+fn sound_call(at: usize, b: SubmissionBook) -> Step {
+    let sound = is_sound(b.parts);
+    say_sound(sound);
     finish(b, at)
 }
 
+// 1c and 1d
 pub fn play(op: u8, s: &[u8], at: usize, b: SubmissionBook) -> Step {
-    match op {
-        0x1c => read_call(s, at, b),
-        0x1d => sound_call(at, b),
-        _ => broken(b),
+    if op == 0x1c {
+        return read_call(s, at, b);
     }
+    sound_call(at, b)
 }

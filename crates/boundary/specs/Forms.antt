@@ -10,7 +10,7 @@ use lib.ListN.{length, take, drop, replicate, length-append, length-take, length
 use lib.Seq.{take-at}
 use Rattle.lists.specs.Lists.{cells}
 use Rattle.wire.specs.Wire.{be, encMany, encOpt, overlay}
-use Rattle.wire.specs.Number.{be-length, numbers-length}
+use Rattle.wire.specs.Number.{be-length, numbers-length, opt-size}
 use Rattle.wire.specs.Puts.{Puts, Size, puts-overlay}
 use Rattle.spend.specs.Forms.{encodeBundle, encodeHeight, encodeFeeIntent}
 use Rattle.archive_form.specs.Encode.{encodeHash, encodeAttempt, encodeSlot, goalNumber}
@@ -245,11 +245,6 @@ unfolding encodeIds
 ids-most i h =
     omega (arith, length-append (be 1 (min (i .count) 64)) (encMany (be 8) (take (i .count) (i .items))), be-length 1 (min (i .count) 64), numbers-length (take (i .count) (i .items)), length-take (i .count) (i .items))
 
-opt-most : (p : Bool) (k : ℕ) (l : List ℕ) → length l ≤ k → length (encOpt p l) ≤ 1 + k
-unfolding encOpt
-opt-most false k l h = omega (arith, be-length 1 0)
-opt-most true k l h = omega (arith, length-append (be 1 1) l, be-length 1 1)
-
 pub slot-most : (s : OptionalAttempt) → length (s .attempt .«drained_variant_fingerprint») ≡ 32 → length (s .attempt .«finalized_variant_fingerprint» .hash) ≡ 32 → length (encodeSlot s) ≤ 75
 unfolding encodeSlot encodeAttempt encodeHash
 slot-most s d f =
@@ -258,11 +253,11 @@ slot-most s d f =
     let y = be 1 (goalNumber (a .goal)) in
     let z = a .«drained_variant_fingerprint» in
     let g = a .«finalized_variant_fingerprint» in
-    opt-most (s .present) 74 (x ++ y ++ z ++ encodeHash g)
-    (omega (arith, length-append (x ++ y ++ z) (encodeHash g), length-append (x ++ y) z, length-append x y, be-length 8 (a .token .0), be-length 1 (goalNumber (a .goal)), opt-most (g .present) 32 (g .hash) (omega arith)))
+    opt-size (s .present) 74 (x ++ y ++ z ++ encodeHash g)
+    (omega (arith, length-append (x ++ y ++ z) (encodeHash g), length-append (x ++ y) z, length-append x y, be-length 8 (a .token .0), be-length 1 (goalNumber (a .goal)), opt-size (g .present) 32 (g .hash) (omega arith)))
 
 pub fee-intent-most : (p : Bool) (l : List ℕ) {k : ℕ} → Size l 41 k → length (encOpt p l) ≤ 42
-fee-intent-most p l s = opt-most p 41 l (omega (arith, s .is, s .few))
+fee-intent-most p l s = opt-size p 41 l (omega (arith, s .is, s .few))
 
 pub final-most : (p : Bool) (f : FinalizedSubmission) {k : ℕ} → Size (encodeBundle (f .bundle)) 1073 k → length (f .«variant_fingerprint») ≡ 32 → length (encOpt p (encodeFinal f)) ≤ 1117
 unfolding encodeFinal
@@ -273,7 +268,7 @@ final-most p f s h =
     let z = be 1 (dispositionNumber (f .disposition)) in
     let v = f .«variant_fingerprint» in
     let w = be 1 (flagNumber (f .«should_broadcast»)) in
-    opt-most p 1116 (b ++ x ++ y ++ z ++ v ++ w)
+    opt-size p 1116 (b ++ x ++ y ++ z ++ v ++ w)
     (omega (
       arith,
       s .is,

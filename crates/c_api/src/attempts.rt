@@ -43,8 +43,7 @@ pub extern "C" fn submission_book_acknowledge_attempt(
     if !ok {
         return 1;
     }
-    let b = h.book;
-    let r = acknowledge_attempt_sound(b, Token(token));
+    let r = acknowledge_attempt_sound(h.book, Token(token));
     settle_status(r, book, answer)
 }
 
@@ -57,8 +56,7 @@ pub extern "C" fn submission_book_stop_attempt(book: &mut [u8], token: u64, answ
     if !ok {
         return 1;
     }
-    let b = h.book;
-    let r = stop_attempt_sound(b, Token(token));
+    let r = stop_attempt_sound(h.book, Token(token));
     settle_status(r, book, answer)
 }
 
@@ -75,8 +73,7 @@ pub extern "C" fn submission_book_abandon_attempt(
     if !ok {
         return 1;
     }
-    let b = h.book;
-    let r = abandon_attempt_sound(b, Token(token));
+    let r = abandon_attempt_sound(h.book, Token(token));
     settle_status(r, book, answer)
 }
 
@@ -93,8 +90,7 @@ pub extern "C" fn submission_book_relinquish_completed_attempt(
     if !ok {
         return 1;
     }
-    let b = h.book;
-    let r = relinquish_completed_attempt_sound(b, Token(token));
+    let r = relinquish_completed_attempt_sound(h.book, Token(token));
     settle_status(r, book, answer)
 }
 
@@ -111,8 +107,7 @@ pub extern "C" fn submission_book_fee_intent_for_attempt(
     if !ok {
         return 1;
     }
-    let b = h.book;
-    let r = fee_intent_for_attempt_sound(b, Token(token));
+    let r = fee_intent_for_attempt_sound(h.book, Token(token));
     settle_fee_intent(r, book, answer)
 }
 
@@ -125,8 +120,7 @@ pub extern "C" fn submission_book_attempt(book: &mut [u8], token: u64, answer: &
     if !ok {
         return 1;
     }
-    let b = h.book;
-    let r = attempt_sound(b, Token(token));
+    let r = attempt_sound(h.book, Token(token));
     settle_attempt(r, book, answer)
 }
 
@@ -189,8 +183,6 @@ pub extern "C" fn submission_book_finalize_attempt(
     if !whole {
         return 3;
     }
-    let b = h.book;
-    let bundle = j.bundle;
-    let r = finalize_attempt_sound(b, Token(token), s, bundle);
+    let r = finalize_attempt_sound(h.book, Token(token), s, j.bundle);
     settle_final(r, book, answer)
 }

@@ -25,8 +25,7 @@ pub extern "C" fn submission_book_causally_rolled_back_ids(
     if !ok {
         return 1;
     }
-    let b = h.book;
-    let r = causally_rolled_back_ids_sound(b, absent, inputs);
+    let r = causally_rolled_back_ids_sound(h.book, absent, inputs);
     settle_ids(r, book, answer)
 }
 
@@ -49,7 +48,6 @@ pub extern "C" fn submission_book_reconcile_chain_terminality(
         return 3;
     }
     let f = reorg == 1;
-    let b = h.book;
-    let r = reconcile_chain_terminality_sound(b, observed, spent, f, rolled_back);
+    let r = reconcile_chain_terminality_sound(h.book, observed, spent, f, rolled_back);
     settle_done(r, book)
 }

@@ -25,8 +25,7 @@ pub extern "C" fn submission_book_reconciliation_input_coins(
     if !ok {
         return 1;
     }
-    let b = h.book;
-    let r = reconciliation_input_coins_sound(b, outputs, answer);
+    let r = reconciliation_input_coins_sound(h.book, outputs, answer);
     let said = r.answer;
     match said {
         CallAnswer::Done => {
@@ -52,8 +51,7 @@ pub extern "C" fn submission_book_absent_outputs_for_ids(
     if !ok {
         return 1;
     }
-    let b = h.book;
-    let r = absent_outputs_for_ids_sound(b, ids, absent, answer);
+    let r = absent_outputs_for_ids_sound(h.book, ids, absent, answer);
     let said = r.answer;
     match said {
         CallAnswer::Done => {

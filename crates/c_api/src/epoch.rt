@@ -31,8 +31,7 @@ pub extern "C" fn submission_book_begin_replay(
     if !ok {
         return 1;
     }
-    let b = h.book;
-    let r = begin_replay_sound(b, Height(height));
+    let r = begin_replay_sound(h.book, Height(height));
     settle_flag(r, book, answer)
 }
 
@@ -45,8 +44,7 @@ pub extern "C" fn submission_book_finish_replay_if_advanced(book: &mut [u8], hei
     if !ok {
         return 1;
     }
-    let b = h.book;
-    let r = finish_replay_if_advanced_sound(b, Height(height));
+    let r = finish_replay_if_advanced_sound(h.book, Height(height));
     settle_done(r, book)
 }
 
@@ -59,8 +57,7 @@ pub extern "C" fn submission_book_replay_rollback_height(book: &mut [u8], answer
     if !ok {
         return 1;
     }
-    let b = h.book;
-    let r = replay_rollback_height_sound(b);
+    let r = replay_rollback_height_sound(h.book);
     settle_height(r, book, answer)
 }
 
@@ -73,8 +70,7 @@ pub extern "C" fn submission_book_emit_retirement(book: &mut [u8], id: u64) -> u
     if !ok {
         return 1;
     }
-    let b = h.book;
-    let r = emit_retirement_sound(b, SubmissionId(id));
+    let r = emit_retirement_sound(h.book, SubmissionId(id));
     settle_done(r, book)
 }
 
@@ -87,7 +83,6 @@ pub extern "C" fn submission_book_drain_retirements(book: &mut [u8], answer: &mu
     if !ok {
         return 1;
     }
-    let b = h.book;
-    let r = drain_retirements_sound(b);
+    let r = drain_retirements_sound(h.book);
     settle_ids(r, book, answer)
 }

@@ -30,8 +30,7 @@ pub extern "C" fn submission_book_queue_fee_readiness(book: &mut [u8]) -> u8
     if !ok {
         return 1;
     }
-    let b = h.book;
-    let r = queue_fee_readiness_sound(b);
+    let r = queue_fee_readiness_sound(h.book);
     settle_done(r, book)
 }
 
@@ -44,8 +43,7 @@ pub extern "C" fn submission_book_collect_rollback_replay_ids(book: &mut [u8], i
     if !ok {
         return 1;
     }
-    let b = h.book;
-    let r = collect_rollback_replay_ids_sound(b, ids);
+    let r = collect_rollback_replay_ids_sound(h.book, ids);
     settle_done(r, book)
 }
 
@@ -67,9 +65,7 @@ pub extern "C" fn submission_book_queue(book: &mut [u8], delivery: &[u8]) -> u8
     if d.at < delivery.len() {
         return 3;
     }
-    let b = h.book;
-    let value = d.value;
-    let r = queue_sound(b, value);
+    let r = queue_sound(h.book, d.value);
     settle_done(r, book)
 }
 
@@ -92,9 +88,8 @@ pub extern "C" fn submission_book_queue_rebroadcast_epoch(
     if !whole {
         return 3;
     }
-    let b = h.book;
     let value = t.value;
-    let r = queue_rebroadcast_epoch_sound(b, ids, value);
+    let r = queue_rebroadcast_epoch_sound(h.book, ids, value);
     settle_done(r, book)
 }
 
@@ -124,9 +119,8 @@ pub extern "C" fn submission_book_queue_retained_delivery(
     if !known {
         return 3;
     }
-    let b = h.book;
     let trigger_value = t.value;
     let goal_value = g.value;
-    let r = queue_retained_delivery_sound(b, SubmissionId(id), trigger_value, goal_value);
+    let r = queue_retained_delivery_sound(h.book, SubmissionId(id), trigger_value, goal_value);
     settle_done(r, book)
 }

@@ -23,8 +23,7 @@ pub extern "C" fn submission_book_active_ids(book: &mut [u8], answer: &mut [u8])
     if !ok {
         return 1;
     }
-    let b = h.book;
-    let r = active_ids_sound(b);
+    let r = active_ids_sound(h.book);
     settle_ids(r, book, answer)
 }
 
@@ -41,8 +40,7 @@ pub extern "C" fn submission_book_retain_submitted(
     if !ok {
         return 1;
     }
-    let b = h.book;
-    let r = retain_submitted_sound(b, removed);
+    let r = retain_submitted_sound(h.book, removed);
     settle_ids(r, book, answer)
 }
 
@@ -55,8 +53,7 @@ pub extern "C" fn submission_book_clear_local_artifacts(book: &mut [u8]) -> u8
     if !ok {
         return 1;
     }
-    let b = h.book;
-    let r = clear_local_artifacts_sound(b);
+    let r = clear_local_artifacts_sound(h.book);
     settle_done(r, book)
 }
 
@@ -69,7 +66,6 @@ pub extern "C" fn submission_book_restore_runtime(book: &mut [u8]) -> u8
     if !ok {
         return 1;
     }
-    let b = h.book;
-    let r = restore_runtime_sound(b);
+    let r = restore_runtime_sound(h.book);
     settle_done(r, book)
 }

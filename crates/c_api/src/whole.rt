@@ -36,8 +36,7 @@ pub extern "C" fn submission_book_read(book: &mut [u8], archive: &[u8], place: &
         *place = x.place as u64;
         return 13;
     }
-    let b = x.book;
-    put_back(0, b, book)
+    put_back(0, x.book, book)
 }
 
 // The archive of the book, and its length.
@@ -50,12 +49,11 @@ pub extern "C" fn submission_book_write(book: &[u8], archive: &mut [u8], length:
     if !ok {
         return 1;
     }
-    let b = h.book;
-    let n = size_archive(b);
+    let n = size_archive(h.book);
     if archive.len() < n {
         return 12;
     }
-    write_book(archive, b);
+    write_book(archive, h.book);
     *length = n as u64;
     0
 }

@@ -41,8 +41,7 @@ fn written(answer: CallAnswer, b: SubmissionBook, out: &mut [u8]) -> u64 {
     if !done {
         return 0;
     }
-    let parts = b.parts;
-    let Wrote::Bytes(n) = archive::write_archive(parts, out) else {
+    let Wrote::Bytes(n) = archive::write_archive(b.parts, out) else {
         return 0;
     };
     n as u64
@@ -68,8 +67,7 @@ pub extern "C" fn call_bench_stop_attempt(
     let b = book_of(archive);
     let a = stop_attempts(b, token, times);
     let answer = a.answer;
-    let book = a.book;
-    written(answer, book, out)
+    written(answer, a.book, out)
 }
 
 fn acknowledge_attempts(b: SubmissionBook, token: u64, times: u64) -> StatusAnswer {
@@ -92,8 +90,7 @@ pub extern "C" fn call_bench_acknowledge_attempt(
     let b = book_of(archive);
     let a = acknowledge_attempts(b, token, times);
     let answer = a.answer;
-    let book = a.book;
-    written(answer, book, out)
+    written(answer, a.book, out)
 }
 
 fn abandon_attempts(b: SubmissionBook, token: u64, times: u64) -> StatusAnswer {
@@ -116,8 +113,7 @@ pub extern "C" fn call_bench_abandon_attempt(
     let b = book_of(archive);
     let a = abandon_attempts(b, token, times);
     let answer = a.answer;
-    let book = a.book;
-    written(answer, book, out)
+    written(answer, a.book, out)
 }
 
 fn relinquish_completed_attempts(b: SubmissionBook, token: u64, times: u64) -> StatusAnswer {
@@ -140,8 +136,7 @@ pub extern "C" fn call_bench_relinquish_completed_attempt(
     let b = book_of(archive);
     let a = relinquish_completed_attempts(b, token, times);
     let answer = a.answer;
-    let book = a.book;
-    written(answer, book, out)
+    written(answer, a.book, out)
 }
 
 fn fee_intents_for_attempt(b: SubmissionBook, token: u64, times: u64) -> FeeIntentAnswer {
@@ -164,8 +159,7 @@ pub extern "C" fn call_bench_fee_intent_for_attempt(
     let b = book_of(archive);
     let a = fee_intents_for_attempt(b, token, times);
     let answer = a.answer;
-    let book = a.book;
-    written(answer, book, out)
+    written(answer, a.book, out)
 }
 
 fn attempts(b: SubmissionBook, token: u64, times: u64) -> AttemptAnswer {
@@ -188,8 +182,7 @@ pub extern "C" fn call_bench_attempt(
     let b = book_of(archive);
     let a = attempts(b, token, times);
     let answer = a.answer;
-    let book = a.book;
-    written(answer, book, out)
+    written(answer, a.book, out)
 }
 
 fn finalize_attempts(
@@ -221,8 +214,7 @@ pub extern "C" fn call_bench_finalize_attempt(
     let joined = d.intent.bundle;
     let a = finalize_attempts(b, token, joined, times);
     let answer = a.answer;
-    let book = a.book;
-    written(answer, book, out)
+    written(answer, a.book, out)
 }
 
 fn queues(b: SubmissionBook, d: PendingDelivery, times: u64) -> DoneAnswer {
@@ -242,8 +234,7 @@ pub extern "C" fn call_bench_queue(archive: &[u8], held: &[u8], times: u64, out:
     let d = first_delivery(held);
     let a = queues(b, d, times);
     let answer = a.answer;
-    let book = a.book;
-    written(answer, book, out)
+    written(answer, a.book, out)
 }
 
 fn drains(b: SubmissionBook, times: u64) -> DrainAnswer {
@@ -261,6 +252,5 @@ pub extern "C" fn call_bench_drain(archive: &[u8], times: u64, out: &mut [u8]) -
     let b = book_of(archive);
     let a = drains(b, times);
     let answer = a.answer;
-    let book = a.book;
-    written(answer, book, out)
+    written(answer, a.book, out)
 }

@@ -35,9 +35,8 @@ pub fn say(out: &[u8], n: usize) {
 
 // The SHA-256 of the book's archive.
 fn say_digest(b: SubmissionBook) {
-    let parts = b.parts;
     let mut out = io::large_buffer();
-    let Wrote::Bytes(n) = archive::write_archive(parts, &mut out) else {
+    let Wrote::Bytes(n) = archive::write_archive(b.parts, &mut out) else {
         return;
     };
     if 65536 < n {
@@ -65,7 +64,6 @@ pub fn finish_with(n: u8, b: SubmissionBook, at: usize) -> Step {
 
 pub fn finish_done(r: DoneAnswer, at: usize) -> Step {
     let answer = r.answer;
-    let book = r.book;
     let n = refusal_number(answer);
-    finish_with(n, book, at)
+    finish_with(n, r.book, at)
 }

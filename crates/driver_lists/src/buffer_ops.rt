@@ -23,20 +23,23 @@ fn lent_room() -> [u8; 65536]
 }
 
 // The refusal, or 0 with the length written; then the buffer, the first n bytes of the room.
-fn finish_written(r: WrittenAnswer, room: &[u8], n: usize, at: usize) -> Step {
-    let answer = r.answer;
-    let book = r.book;
-    let refusal = refusal_number(answer);
+fn say_written(refusal: u8, length: usize, room: &[u8], n: usize) {
     let mut out = [0u8; 5];
     let head = append_byte(&mut out, 0, refusal);
     if refusal == 0 {
-        let e = append_length(&mut out, head, r.length);
+        let e = append_length(&mut out, head, length);
         say(&out, e);
     } else {
         say(&out, head);
     }
     say(room, n);
-    finish(book, at)
+}
+
+fn finish_written(r: WrittenAnswer, room: &[u8], n: usize, at: usize) -> Step {
+    let answer = r.answer;
+    let refusal = refusal_number(answer);
+    say_written(refusal, r.length, room, n);
+    finish(r.book, at)
 }
 
 fn input_coins_into(b: SubmissionBook, outputs: &[u8], room: &mut [u8], n: usize) -> WrittenAnswer
@@ -111,11 +114,13 @@ fn write_archive(s: &[u8], at: usize, b: SubmissionBook) -> Step {
     finish_written(r, &room, n, l.at)
 }
 
+// 0f, 16 and 1b
 pub fn play(op: u8, s: &[u8], at: usize, b: SubmissionBook) -> Step {
-    match op {
-        0x0f => reconciliation_input_coins(s, at, b),
-        0x16 => absent_outputs_for_ids(s, at, b),
-        0x1b => write_archive(s, at, b),
-        _ => broken(b),
+    if op == 0x0f {
+        return reconciliation_input_coins(s, at, b);
     }
+    if op == 0x16 {
+        return absent_outputs_for_ids(s, at, b);
+    }
+    write_archive(s, at, b)
 }

@@ -11,6 +11,7 @@ use script::kind::read_goal;
 use script::kind::read_trigger;
 use script::list::read_bytes;
 use script::list::read_ids;
+use submission::DoneAnswer;
 use submission::SubmissionBook;
 use wire_bytes::read::read_number;
 
@@ -25,8 +26,7 @@ fn queue(s: &[u8], at: usize, b: SubmissionBook) -> Step {
     if !fit {
         return finish_with(3, b, d.at);
     }
-    let delivery = d.value;
-    let r = b.queue(delivery);
+    let r = b.queue(d.value);
     finish_done(r, d.at)
 }
 
@@ -68,6 +68,13 @@ fn queue_retained_delivery(s: &[u8], at: usize, b: SubmissionBook) -> Step {
     finish_done(r, g.at)
 }
 
+fn number_answer(op: u8, b: SubmissionBook, n: u64) -> DoneAnswer {
+    if op == 0x0d {
+        return b.emit_retirement(SubmissionId(n));
+    }
+    b.finish_replay_if_advanced(Height(n))
+}
+
 // 0d and 12: a number.
 fn play_number(op: u8, s: &[u8], at: usize, b: SubmissionBook) -> Step {
     let n = read_number(s, at);
@@ -75,11 +82,7 @@ fn play_number(op: u8, s: &[u8], at: usize, b: SubmissionBook) -> Step {
     if !ok {
         return broken(b);
     }
-    if op == 0x0d {
-        let r = b.emit_retirement(SubmissionId(n.value));
-        return finish_done(r, n.at);
-    }
-    let r = b.finish_replay_if_advanced(Height(n.value));
+    let r = number_answer(op, b, n.value);
     finish_done(r, n.at)
 }
 
@@ -125,29 +128,45 @@ fn collect_rollback_replay_ids(s: &[u8], at: usize, b: SubmissionBook) -> Step {
     finish_done(r, i.at)
 }
 
-// 03, 18 and 19: no arguments.
-fn play_plain(op: u8, at: usize, b: SubmissionBook) -> Step {
+fn plain_answer(op: u8, b: SubmissionBook) -> DoneAnswer {
     if op == 0x03 {
-        let r = b.queue_fee_readiness();
-        return finish_done(r, at);
+        return b.queue_fee_readiness();
     }
     if op == 0x18 {
-        let r = b.clear_local_artifacts();
-        return finish_done(r, at);
+        return b.clear_local_artifacts();
     }
-    let r = b.restore_runtime();
+    b.restore_runtime()
+}
+
+// 03, 18 and 19: no arguments.
+fn play_plain(op: u8, at: usize, b: SubmissionBook) -> Step {
+    let r = plain_answer(op, b);
     finish_done(r, at)
 }
 
-pub fn play(op: u8, s: &[u8], at: usize, b: SubmissionBook) -> Step {
-    match op {
-        0x01 => queue(s, at, b),
-        0x02 => queue_rebroadcast_epoch(s, at, b),
-        0x04 => queue_retained_delivery(s, at, b),
-        0x0d | 0x12 => play_number(op, s, at, b),
-        0x14 => reconcile_chain_terminality(s, at, b),
-        0x17 => collect_rollback_replay_ids(s, at, b),
-        0x03 | 0x18 | 0x19 => play_plain(op, at, b),
-        _ => broken(b),
+// 01, 02, 04, 14 and 17: arguments of their own.
+fn play_own(op: u8, s: &[u8], at: usize, b: SubmissionBook) -> Step {
+    if op == 0x01 {
+        return queue(s, at, b);
     }
+    if op == 0x02 {
+        return queue_rebroadcast_epoch(s, at, b);
+    }
+    if op == 0x04 {
+        return queue_retained_delivery(s, at, b);
+    }
+    if op == 0x14 {
+        return reconcile_chain_terminality(s, at, b);
+    }
+    collect_rollback_replay_ids(s, at, b)
+}
+
+pub fn play(op: u8, s: &[u8], at: usize, b: SubmissionBook) -> Step {
+    if (op == 0x03) | (op == 0x18) | (op == 0x19) {
+        return play_plain(op, at, b);
+    }
+    if (op == 0x0d) | (op == 0x12) {
+        return play_number(op, s, at, b);
+    }
+    play_own(op, s, at, b)
 }

@@ -2,6 +2,7 @@
 use answers::part::append_byte;
 use answers::value::append_ids;
 use answers::value::refusal_number;
+use book_data::Ids64;
 use driver_frame::Step;
 use driver_frame::broken;
 use driver_frame::finish;
@@ -12,19 +13,21 @@ use script::list::read_ids;
 use submission::IdsAnswer;
 use submission::SubmissionBook;
 
-fn finish_ids(r: IdsAnswer, at: usize) -> Step {
-    let answer = r.answer;
-    let ids = r.ids;
-    let book = r.book;
-    let n = refusal_number(answer);
-    if n != 0 {
-        return finish_with(n, book, at);
-    }
+fn say_ids(ids: Ids64) {
     let mut out = [0u8; 514];
     let head = append_byte(&mut out, 0, 0);
     let e = append_ids(&mut out, head, ids);
     say(&out, e);
-    finish(book, at)
+}
+
+fn finish_ids(r: IdsAnswer, at: usize) -> Step {
+    let answer = r.answer;
+    let n = refusal_number(answer);
+    if n != 0 {
+        return finish_with(n, r.book, at);
+    }
+    say_ids(r.ids);
+    finish(r.book, at)
 }
 
 // 0c
@@ -56,12 +59,26 @@ fn causally_rolled_back_ids(s: &[u8], at: usize, b: SubmissionBook) -> Step {
     finish_ids(r, live_end)
 }
 
-pub fn play(op: u8, s: &[u8], at: usize, b: SubmissionBook) -> Step {
-    match op {
-        0x0c => retain_submitted(s, at, b),
-        0x0e => finish_ids(b.drain_retirements(), at),
-        0x10 => finish_ids(b.active_ids(), at),
-        0x15 => causally_rolled_back_ids(s, at, b),
-        _ => broken(b),
+// 0e and 10: no arguments.
+fn play_plain(op: u8, at: usize, b: SubmissionBook) -> Step {
+    let r = plain_answer(op, b);
+    finish_ids(r, at)
+}
+
+fn plain_answer(op: u8, b: SubmissionBook) -> IdsAnswer {
+    if op == 0x0e {
+        return b.drain_retirements();
     }
+    b.active_ids()
+}
+
+// 0c, 0e, 10 and 15
+pub fn play(op: u8, s: &[u8], at: usize, b: SubmissionBook) -> Step {
+    if op == 0x0c {
+        return retain_submitted(s, at, b);
+    }
+    if op == 0x15 {
+        return causally_rolled_back_ids(s, at, b);
+    }
+    play_plain(op, at, b)
 }

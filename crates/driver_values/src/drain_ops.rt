@@ -10,13 +10,7 @@ use driver_frame::say;
 use submission::DrainAnswer;
 use submission::SubmissionBook;
 
-fn finish_drained(r: DrainAnswer, at: usize) -> Step {
-    let answer = r.answer;
-    let book = r.book;
-    let n = refusal_number(answer);
-    if n != 0 {
-        return finish_with(n, book, at);
-    }
+fn say_drained(r: DrainAnswer) {
     let submissions = r.submissions;
     let failures = r.failures;
     let mut out = io::large_buffer();
@@ -24,7 +18,16 @@ fn finish_drained(r: DrainAnswer, at: usize) -> Step {
     let middle = append_submissions(&mut out, head, submissions, r.submission_count);
     let e = append_failures(&mut out, middle, failures, r.failure_count);
     say(&out, e);
-    finish(book, at)
+}
+
+fn finish_drained(r: DrainAnswer, at: usize) -> Step {
+    let answer = r.answer;
+    let n = refusal_number(answer);
+    if n != 0 {
+        return finish_with(n, r.book, at);
+    }
+    say_drained(r);
+    finish(r.book, at)
 }
 
 pub fn play(at: usize, b: SubmissionBook) -> Step {

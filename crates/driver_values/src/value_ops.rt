@@ -7,12 +7,16 @@ use answers::value::append_optional_finalized;
 use answers::value::append_slot;
 use answers::value::refusal_number;
 use book_data::Height;
+use book_data::OptionalAttempt;
+use book_data::OptionalHeight;
+use book_data::SubmissionFeeIntent;
 use book_data::Token;
 use driver_frame::Step;
 use driver_frame::broken;
 use driver_frame::finish;
 use driver_frame::finish_with;
 use driver_frame::say;
+use replies::FinalizedSubmission;
 use script::cells::read_bundle;
 use script::kind::read_source;
 use submission::AttemptAnswer;
@@ -23,81 +27,90 @@ use submission::HeightAnswer;
 use submission::SubmissionBook;
 use wire_bytes::read::read_number;
 
-fn finish_flag(r: FlagAnswer, at: usize) -> Step {
-    let answer = r.answer;
-    let flag = r.flag;
-    let book = r.book;
-    let n = refusal_number(answer);
-    if n != 0 {
-        return finish_with(n, book, at);
-    }
+fn say_flag(flag: bool) {
     let mut out = [0u8; 2];
     let head = append_byte(&mut out, 0, 0);
     let e = append_flag(&mut out, head, flag);
     say(&out, e);
-    finish(book, at)
+}
+
+fn finish_flag(r: FlagAnswer, at: usize) -> Step {
+    let answer = r.answer;
+    let n = refusal_number(answer);
+    if n != 0 {
+        return finish_with(n, r.book, at);
+    }
+    say_flag(r.flag);
+    finish(r.book, at)
+}
+
+fn say_height(height: OptionalHeight) {
+    let mut out = [0u8; 10];
+    let head = append_byte(&mut out, 0, 0);
+    let e = append_height(&mut out, head, height);
+    say(&out, e);
 }
 
 fn finish_height(r: HeightAnswer, at: usize) -> Step {
     let answer = r.answer;
     let height = r.height;
-    let book = r.book;
     let n = refusal_number(answer);
     if n != 0 {
-        return finish_with(n, book, at);
+        return finish_with(n, r.book, at);
     }
-    let mut out = [0u8; 10];
-    let head = append_byte(&mut out, 0, 0);
-    let e = append_height(&mut out, head, height);
-    say(&out, e);
-    finish(book, at)
+    say_height(height);
+    finish(r.book, at)
 }
 
-fn finish_attempt(r: AttemptAnswer, at: usize) -> Step {
-    let answer = r.answer;
-    let attempt = r.attempt;
-    let book = r.book;
-    let n = refusal_number(answer);
-    if n != 0 {
-        return finish_with(n, book, at);
-    }
+fn say_attempt(attempt: OptionalAttempt) {
     let mut out = [0u8; 80];
     let head = append_byte(&mut out, 0, 0);
     let e = append_slot(&mut out, head, attempt);
     say(&out, e);
-    finish(book, at)
 }
 
-fn finish_fee_intent(r: FeeIntentAnswer, at: usize) -> Step {
+fn finish_attempt(r: AttemptAnswer, at: usize) -> Step {
     let answer = r.answer;
-    let present = r.present;
-    let fee_intent = r.fee_intent;
-    let book = r.book;
     let n = refusal_number(answer);
     if n != 0 {
-        return finish_with(n, book, at);
+        return finish_with(n, r.book, at);
     }
+    say_attempt(r.attempt);
+    finish(r.book, at)
+}
+
+fn say_fee_intent(present: bool, fee_intent: SubmissionFeeIntent) {
     let mut out = [0u8; 43];
     let head = append_byte(&mut out, 0, 0);
     let e = append_optional_fee_intent(&mut out, head, present, fee_intent);
     say(&out, e);
-    finish(book, at)
 }
 
-fn finish_finalized(r: FinalizeAnswer, at: usize) -> Step {
+fn finish_fee_intent(r: FeeIntentAnswer, at: usize) -> Step {
     let answer = r.answer;
-    let present = r.present;
-    let finalized = r.finalized;
-    let book = r.book;
     let n = refusal_number(answer);
     if n != 0 {
-        return finish_with(n, book, at);
+        return finish_with(n, r.book, at);
     }
+    say_fee_intent(r.present, r.fee_intent);
+    finish(r.book, at)
+}
+
+fn say_finalized(present: bool, finalized: FinalizedSubmission) {
     let mut out = [0u8; 1118];
     let head = append_byte(&mut out, 0, 0);
     let e = append_optional_finalized(&mut out, head, present, finalized);
     say(&out, e);
-    finish(book, at)
+}
+
+fn finish_finalized(r: FinalizeAnswer, at: usize) -> Step {
+    let answer = r.answer;
+    let n = refusal_number(answer);
+    if n != 0 {
+        return finish_with(n, r.book, at);
+    }
+    say_finalized(r.present, r.finalized);
+    finish(r.book, at)
 }
 
 // 06
@@ -114,9 +127,26 @@ fn finalize_attempt(s: &[u8], at: usize, b: SubmissionBook) -> Step {
         return finish_with(3, b, j.at);
     }
     let source = f.value;
-    let joined = j.value;
-    let r = b.finalize_attempt(Token(t.value), source, joined);
+    let r = b.finalize_attempt(Token(t.value), source, j.value);
     finish_finalized(r, j.at)
+}
+
+// 07
+fn fee_intent_for_attempt(b: SubmissionBook, token: u64, at: usize) -> Step {
+    let r = b.fee_intent_for_attempt(Token(token));
+    finish_fee_intent(r, at)
+}
+
+// 11
+fn begin_replay(b: SubmissionBook, height: u64, at: usize) -> Step {
+    let r = b.begin_replay(Height(height));
+    finish_flag(r, at)
+}
+
+// 1a
+fn attempt(b: SubmissionBook, token: u64, at: usize) -> Step {
+    let r = b.attempt(Token(token));
+    finish_attempt(r, at)
 }
 
 // 07, 11 and 1a: a number.
@@ -126,18 +156,27 @@ fn play_number(op: u8, s: &[u8], at: usize, b: SubmissionBook) -> Step {
     if !ok {
         return broken(b);
     }
-    match op {
-        0x07 => finish_fee_intent(b.fee_intent_for_attempt(Token(n.value)), n.at),
-        0x11 => finish_flag(b.begin_replay(Height(n.value)), n.at),
-        _ => finish_attempt(b.attempt(Token(n.value)), n.at),
+    if op == 0x07 {
+        return fee_intent_for_attempt(b, n.value, n.at);
     }
+    if op == 0x11 {
+        return begin_replay(b, n.value, n.at);
+    }
+    attempt(b, n.value, n.at)
+}
+
+// 13
+fn replay_rollback_height(at: usize, b: SubmissionBook) -> Step {
+    let r = b.replay_rollback_height();
+    finish_height(r, at)
 }
 
 pub fn play(op: u8, s: &[u8], at: usize, b: SubmissionBook) -> Step {
-    match op {
-        0x06 => finalize_attempt(s, at, b),
-        0x13 => finish_height(b.replay_rollback_height(), at),
-        0x07 | 0x11 | 0x1a => play_number(op, s, at, b),
-        _ => broken(b),
+    if op == 0x06 {
+        return finalize_attempt(s, at, b);
     }
+    if op == 0x13 {
+        return replay_rollback_height(at, b);
+    }
+    play_number(op, s, at, b)
 }

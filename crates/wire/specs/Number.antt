@@ -1,13 +1,14 @@
 -- Big-endian numbers: the bytes of a number and the number of bytes undo each other, at every width.
 use Prim.Native.Nat.{ℕ, zero, suc, _+_, _-_, _*_, _/_, _%_, _^_, _≤_, _<_}
 use mathlib.Core.Path.{_≡_, refl, sym, ap, _∙_, subst}
+use mathlib.Core.Bool.{Bool, true, false}
 use mathlib.Core.List.{List, [], _∷_, _++_}
 use native.Mathlib.Nat.{pow-suc}
 use native.Mathlib.Numerals.{add-one}
 use native.Mathlib.Omega.{arith}
 use lib.ListN.{length, getD, take, drop, length-append, List·getD-append}
 use lib.Seq.{take-suc, take-all, getD-take, length-take-le, getD-at}
-use Rattle.wire.specs.Wire.{be, beFrom, encMany}
+use Rattle.wire.specs.Wire.{be, beFrom, encMany, encOpt}
 use Rattle.wire.specs.Lawful.{IsBytes}
 
 pub be-length : (w n : ℕ) → length (be w n) ≡ w
@@ -20,6 +21,12 @@ pub numbers-length : (l : List ℕ) → length (encMany (be 8) l) ≡ length l *
 unfolding encMany
 numbers-length [] = refl
 numbers-length (x ∷ l) = omega (arith, length-append (be 8 x) (encMany (be 8) l), be-length 8 x, numbers-length l)
+
+-- an optional part behind its count
+pub opt-size : (b : Bool) (k : ℕ) (l : List ℕ) → length l ≤ k → length (encOpt b l) ≤ 1 + k
+unfolding encOpt
+opt-size false k l h = omega (arith, be-length 1 0)
+opt-size true k l h = omega (arith, length-append (be 1 1) l, be-length 1 1)
 
 pub from-snoc : (acc : ℕ) (l : List ℕ) (x : ℕ) → beFrom acc (l ++ (x ∷ [])) ≡ beFrom acc l * 256 + x
 unfolding beFrom

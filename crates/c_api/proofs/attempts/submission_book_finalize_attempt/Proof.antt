@@ -42,7 +42,7 @@ returns-3 : tie.Need-returns-3
 returns-3 c = gives-three finalForm (c .before .before .before .before .before .before .before .before .before .before .args .book .now) (c .before .before .before .before .before .before .before .before .before .before .args .answer .now) (c .before .before .before .before .before .held .result .book) (c .before .before .before .before .before .held .ensures .present (not-false _ (c .before .before .before .before .if1 .left))) (given (sourceIn (c .before .before .before .before .before .before .before .before .before .before .args .source)) (λ (s : SubmissionFeeSource). given (joinedIn (c .before .before .before .before .before .before .before .before .before .before .args .source) (c .before .before .before .before .before .before .before .before .before .before .args .joined .now)) (λ (j : SpendBundle). finalizeAttempt (c .before .before .before .before .before .before .before .before .before .before .args .token) (sourceOf s) j))) (given-some (λ (s : SubmissionFeeSource). given (joinedIn (c .before .before .before .before .before .before .before .before .before .before .args .source) (c .before .before .before .before .before .before .before .before .before .before .args .joined .now)) (λ (j : SpendBundle). finalizeAttempt (c .before .before .before .before .before .before .before .before .before .before .args .token) (sourceOf s) j)) (source-in (c .before .before .before .before .before .before .before .before .before .before .args .source) (c .before .before .before .if2 .left)) ∙ given-none (λ (j : SpendBundle). finalizeAttempt (c .before .before .before .before .before .before .before .before .before .before .args .token) (sourceOf (sourceFrom (c .before .before .before .before .before .before .before .before .before .before .args .source))) j) (c .before .joined-in .ensures .absent (not-true _ (c .if3 .taken))))
 
 finalize-attempt-sound-requires : tie.Need-finalize-attempt-sound-requires
-finalize-attempt-sound-requires c κs = (c .before .before .before .before .before .before .before .held .ensures .present (not-false _ (c .before .before .before .before .before .before .if1 .left))) .sound
+finalize-attempt-sound-requires c κs = (c .before .before .before .before .before .held .ensures .present (not-false _ (c .before .before .before .before .if1 .left))) .sound
 
 settle-final-requires : tie.Need-settle-final-requires
 settle-final-requires c κs = search needs
@@ -54,7 +54,7 @@ same-length-5 : tie.Need-same-length-5
 same-length-5 c = search needs
 
 returns-4 : tie.Need-returns-4
-returns-4 c = final-given (c .before .before .before .before .before .before .before .before .before .before .before .before .before .before .before .before .before .before .before .before .args .book .now) (c .before .before .before .before .before .before .before .before .before .before .before .before .before .before .before .before .before .before .before .before .args .answer .now) (c .before .before .before .before .before .before .before .before .before .before .before .before .before .before .before .held .result .book) (c .before .before .before .before .before .before .before .before .before .before .before .before .before .before .before .held .ensures .present (not-false _ (c .before .before .before .before .before .before .before .before .before .before .before .before .before .before .if1 .left))) (given (sourceIn (c .before .before .before .before .before .before .before .before .before .before .before .before .before .before .before .before .before .before .before .before .args .source)) (λ (s : SubmissionFeeSource). given (joinedIn (c .before .before .before .before .before .before .before .before .before .before .before .before .before .before .before .before .before .before .before .before .args .source) (c .before .before .before .before .before .before .before .before .before .before .before .before .before .before .before .before .before .before .before .before .args .joined .now)) (λ (j : SpendBundle). finalizeAttempt (c .before .before .before .before .before .before .before .before .before .before .before .before .before .before .before .before .before .before .before .before .args .token) (sourceOf s) j))) (c .before .before .before .before .before .before .before .finalize-attempt-sound .result) (final-as (c .before .before .before .before .before .before .before .before .before .before .before .before .before .before .before .held .result .book) (sym (given-some (λ (s : SubmissionFeeSource). given (joinedIn (c .before .before .before .before .before .before .before .before .before .before .before .before .before .before .before .before .before .before .before .before .args .source) (c .before .before .before .before .before .before .before .before .before .before .before .before .before .before .before .before .before .before .before .before .args .joined .now)) (λ (j : SpendBundle). finalizeAttempt (c .before .before .before .before .before .before .before .before .before .before .before .before .before .before .before .before .before .before .before .before .args .token) (sourceOf s) j)) (source-in (c .before .before .before .before .before .before .before .before .before .before .before .before .before .before .before .before .before .before .before .before .args .source) (c .before .before .before .before .before .before .before .before .before .before .before .before .before .if2 .left)) ∙ given-some (λ (j : SpendBundle). finalizeAttempt (c .before .before .before .before .before .before .before .before .before .before .before .before .before .before .before .before .before .before .before .before .args .token) (sourceOf (sourceFrom (c .before .before .before .before .before .before .before .before .before .before .before .before .before .before .before .before .before .before .before .before .args .source))) j) (c .before .before .before .before .before .before .before .before .before .before .before .joined-in .ensures .present (not-false _ (c .before .before .before .before .before .before .before .before .before .before .if3 .left))))) (c .before .before .before .before .before .before .before .finalize-attempt-sound .ensures ∙ ap (λ (s : SubmissionFeeSource). finalizeReply (c .before .before .before .before .before .before .before .before .before .before .before .before .before .before .before .held .result .book) (runBook (finalizeAttempt (c .before .before .before .before .before .before .before .before .before .before .before .before .before .before .before .before .before .before .before .before .args .token) (sourceOf s) (c .before .before .before .before .before .before .before .before .before .before .before .joined-in .result .bundle)) (view (c .before .before .before .before .before .before .before .before .before .before .before .before .before .before .before .held .result .book)))) (c .before .before .before .before .before .before .before .before .before .before .before .before .source-from .ensures))) (c .before .before .before .before .settle-final .ensures)
+returns-4 c = final-given (c .before .before .before .before .before .before .before .before .before .before .before .before .before .before .before .before .before .before .args .book .now) (c .before .before .before .before .before .before .before .before .before .before .before .before .before .before .before .before .before .before .args .answer .now) (c .before .before .before .before .before .before .before .before .before .before .before .before .before .held .result .book) (c .before .before .before .before .before .before .before .before .before .before .before .before .before .held .ensures .present (not-false _ (c .before .before .before .before .before .before .before .before .before .before .before .before .if1 .left))) (given (sourceIn (c .before .before .before .before .before .before .before .before .before .before .before .before .before .before .before .before .before .before .args .source)) (λ (s : SubmissionFeeSource). given (joinedIn (c .before .before .before .before .before .before .before .before .before .before .before .before .before .before .before .before .before .before .args .source) (c .before .before .before .before .before .before .before .before .before .before .before .before .before .before .before .before .before .before .args .joined .now)) (λ (j : SpendBundle). finalizeAttempt (c .before .before .before .before .before .before .before .before .before .before .before .before .before .before .before .before .before .before .args .token) (sourceOf s) j))) (c .before .before .before .before .before .before .before .finalize-attempt-sound .result) (final-as (c .before .before .before .before .before .before .before .before .before .before .before .before .before .held .result .book) (sym (given-some (λ (s : SubmissionFeeSource). given (joinedIn (c .before .before .before .before .before .before .before .before .before .before .before .before .before .before .before .before .before .before .args .source) (c .before .before .before .before .before .before .before .before .before .before .before .before .before .before .before .before .before .before .args .joined .now)) (λ (j : SpendBundle). finalizeAttempt (c .before .before .before .before .before .before .before .before .before .before .before .before .before .before .before .before .before .before .args .token) (sourceOf s) j)) (source-in (c .before .before .before .before .before .before .before .before .before .before .before .before .before .before .before .before .before .before .args .source) (c .before .before .before .before .before .before .before .before .before .before .before .if2 .left)) ∙ given-some (λ (j : SpendBundle). finalizeAttempt (c .before .before .before .before .before .before .before .before .before .before .before .before .before .before .before .before .before .before .args .token) (sourceOf (sourceFrom (c .before .before .before .before .before .before .before .before .before .before .before .before .before .before .before .before .before .before .args .source))) j) (c .before .before .before .before .before .before .before .before .before .joined-in .ensures .present (not-false _ (c .before .before .before .before .before .before .before .before .if3 .left))))) (c .before .before .before .before .before .before .before .finalize-attempt-sound .ensures ∙ ap (λ (s : SubmissionFeeSource). finalizeReply (c .before .before .before .before .before .before .before .before .before .before .before .before .before .held .result .book) (runBook (finalizeAttempt (c .before .before .before .before .before .before .before .before .before .before .before .before .before .before .before .before .before .before .args .token) (sourceOf s) (c .before .before .before .before .before .before .before .before .before .joined-in .result .bundle)) (view (c .before .before .before .before .before .before .before .before .before .before .before .before .before .held .result .book)))) (c .before .before .before .before .before .before .before .before .before .before .source-from .ensures))) (c .before .before .before .before .settle-final .ensures)
 
 pub submission-book-finalize-attempt-spec : {M : Type 1} → statement M
 submission-book-finalize-attempt-spec =

@@ -27,7 +27,7 @@ returns-2 : tie.Need-returns-2
 returns-2 c = gives-book-three noForm (c .before .before .before .before .before .before .before .before .args .book .now) (c .before .before .held .result .book) (c .before .before .held .ensures .present (not-false _ (c .before .if1 .left))) (given (flagIn (c .before .before .before .before .before .before .before .before .args .reorg)) (λ (f : Bool). reconcileChainTerminality (c .before .before .before .before .before .before .before .before .args .observed .now) (c .before .before .before .before .before .before .before .before .args .spent .now) f (c .before .before .before .before .before .before .before .before .args .rolled-back .now))) (given-none (λ (f : Bool). reconcileChainTerminality (c .before .before .before .before .before .before .before .before .args .observed .now) (c .before .before .before .before .before .before .before .before .args .spent .now) f (c .before .before .before .before .before .before .before .before .args .rolled-back .now)) (flag-over (c .before .before .before .before .before .before .before .before .args .reorg) (c .if2 .taken)))
 
 reconcile-chain-terminality-sound-requires : tie.Need-reconcile-chain-terminality-sound-requires
-reconcile-chain-terminality-sound-requires c κs = (c .before .before .before .held .ensures .present (not-false _ (c .before .before .if1 .left))) .sound
+reconcile-chain-terminality-sound-requires c κs = (c .before .before .held .ensures .present (not-false _ (c .before .if1 .left))) .sound
 
 settle-done-requires : tie.Need-settle-done-requires
 settle-done-requires c κs = search needs
@@ -36,7 +36,7 @@ same-length-3 : tie.Need-same-length-3
 same-length-3 c = search needs
 
 returns-3 : tie.Need-returns-3
-returns-3 c = done-given (c .before .before .before .before .before .before .before .before .before .before .before .before .before .before .args .book .now) (c .before .before .before .before .before .before .before .before .held .result .book) (c .before .before .before .before .before .before .before .before .held .ensures .present (not-false _ (c .before .before .before .before .before .before .before .if1 .left))) (given (flagIn (c .before .before .before .before .before .before .before .before .before .before .before .before .before .before .args .reorg)) (λ (f : Bool). reconcileChainTerminality (c .before .before .before .before .before .before .before .before .before .before .before .before .before .before .args .observed .now) (c .before .before .before .before .before .before .before .before .before .before .before .before .before .before .args .spent .now) f (c .before .before .before .before .before .before .before .before .before .before .before .before .before .before .args .rolled-back .now))) (c .before .before .before .before .reconcile-chain-terminality-sound .result) (done-as (c .before .before .before .before .before .before .before .before .held .result .book) (sym (given-some (λ (f : Bool). reconcileChainTerminality (c .before .before .before .before .before .before .before .before .before .before .before .before .before .before .args .observed .now) (c .before .before .before .before .before .before .before .before .before .before .before .before .before .before .args .spent .now) f (c .before .before .before .before .before .before .before .before .before .before .before .before .before .before .args .rolled-back .now)) (flag-in (c .before .before .before .before .before .before .before .before .before .before .before .before .before .before .args .reorg) (c .before .before .before .before .before .before .if2 .left)))) (c .before .before .before .before .reconcile-chain-terminality-sound .ensures)) (c .before .before .settle-done .ensures)
+returns-3 c = done-given (c .before .before .before .before .before .before .before .before .before .before .before .before .before .args .book .now) (c .before .before .before .before .before .before .before .held .result .book) (c .before .before .before .before .before .before .before .held .ensures .present (not-false _ (c .before .before .before .before .before .before .if1 .left))) (given (flagIn (c .before .before .before .before .before .before .before .before .before .before .before .before .before .args .reorg)) (λ (f : Bool). reconcileChainTerminality (c .before .before .before .before .before .before .before .before .before .before .before .before .before .args .observed .now) (c .before .before .before .before .before .before .before .before .before .before .before .before .before .args .spent .now) f (c .before .before .before .before .before .before .before .before .before .before .before .before .before .args .rolled-back .now))) (c .before .before .before .before .reconcile-chain-terminality-sound .result) (done-as (c .before .before .before .before .before .before .before .held .result .book) (sym (given-some (λ (f : Bool). reconcileChainTerminality (c .before .before .before .before .before .before .before .before .before .before .before .before .before .args .observed .now) (c .before .before .before .before .before .before .before .before .before .before .before .before .before .args .spent .now) f (c .before .before .before .before .before .before .before .before .before .before .before .before .before .args .rolled-back .now)) (flag-in (c .before .before .before .before .before .before .before .before .before .before .before .before .before .args .reorg) (c .before .before .before .before .before .if2 .left)))) (c .before .before .before .before .reconcile-chain-terminality-sound .ensures)) (c .before .before .settle-done .ensures)
 
 pub submission-book-reconcile-chain-terminality-spec : {M : Type 1} → statement M
 submission-book-reconcile-chain-terminality-spec =

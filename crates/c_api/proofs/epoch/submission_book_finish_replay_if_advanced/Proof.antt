@@ -17,7 +17,7 @@ returns : tie.Need-returns
 returns c = gives-book-absent noForm (finishReplayIfAdvanced (record { 0 = c .before .before .before .before .args .height })) (c .before .before .before .before .args .book .now) (c .before .held .ensures .absent (not-true _ (c .if1 .taken)))
 
 finish-replay-if-advanced-sound-requires : tie.Need-finish-replay-if-advanced-sound-requires
-finish-replay-if-advanced-sound-requires c κs = c .before .before .held .ensures .present (not-false _ (c .before .if1 .left)) .sound
+finish-replay-if-advanced-sound-requires c κs = c .before .held .ensures .present (not-false _ (c .if1 .left)) .sound
 
 settle-done-requires : tie.Need-settle-done-requires
 settle-done-requires c κs = search needs
@@ -26,7 +26,7 @@ same-length-2 : tie.Need-same-length-2
 same-length-2 c = search needs
 
 returns-2 : tie.Need-returns-2
-returns-2 c = done-given (c .before .before .before .before .before .before .before .before .before .before .args .book .now) (c .before .before .before .before .before .before .before .held .result .book) (c .before .before .before .before .before .before .before .held .ensures .present (not-false _ (c .before .before .before .before .before .before .if1 .left))) (finishReplayIfAdvanced (record { 0 = c .before .before .before .before .before .before .before .before .before .before .args .height })) (c .before .before .before .before .finish-replay-if-advanced-sound .result) (c .before .before .before .before .finish-replay-if-advanced-sound .ensures) (c .before .before .settle-done .ensures)
+returns-2 c = done-given (c .before .before .before .before .before .before .before .before .before .args .book .now) (c .before .before .before .before .before .before .held .result .book) (c .before .before .before .before .before .before .held .ensures .present (not-false _ (c .before .before .before .before .before .if1 .left))) (finishReplayIfAdvanced (record { 0 = c .before .before .before .before .before .before .before .before .before .args .height })) (c .before .before .before .before .finish-replay-if-advanced-sound .result) (c .before .before .before .before .finish-replay-if-advanced-sound .ensures) (c .before .before .settle-done .ensures)
 
 pub submission-book-finish-replay-if-advanced-spec : {M : Type 1} → statement M
 submission-book-finish-replay-if-advanced-spec =

@@ -17,7 +17,7 @@ returns : tie.Need-returns
 returns c = gives-book-absent noForm (collectRollbackReplayIds (c .before .before .before .before .before .args .ids .now)) (c .before .before .before .before .before .args .book .now) (c .before .held .ensures .absent (not-true _ (c .if1 .taken)))
 
 collect-rollback-replay-ids-sound-requires : tie.Need-collect-rollback-replay-ids-sound-requires
-collect-rollback-replay-ids-sound-requires c κs = c .before .before .held .ensures .present (not-false _ (c .before .if1 .left)) .sound
+collect-rollback-replay-ids-sound-requires c κs = c .before .held .ensures .present (not-false _ (c .if1 .left)) .sound
 
 settle-done-requires : tie.Need-settle-done-requires
 settle-done-requires c κs = search needs
@@ -26,7 +26,7 @@ same-length-2 : tie.Need-same-length-2
 same-length-2 c = search needs
 
 returns-2 : tie.Need-returns-2
-returns-2 c = done-given (c .before .before .before .before .before .before .before .before .before .before .before .args .book .now) (c .before .before .before .before .before .before .before .held .result .book) (c .before .before .before .before .before .before .before .held .ensures .present (not-false _ (c .before .before .before .before .before .before .if1 .left))) (collectRollbackReplayIds (c .before .before .before .before .before .before .before .before .before .before .before .args .ids .now)) (c .before .before .before .before .collect-rollback-replay-ids-sound .result) (c .before .before .before .before .collect-rollback-replay-ids-sound .ensures) (c .before .before .settle-done .ensures)
+returns-2 c = done-given (c .before .before .before .before .before .before .before .before .before .before .args .book .now) (c .before .before .before .before .before .before .held .result .book) (c .before .before .before .before .before .before .held .ensures .present (not-false _ (c .before .before .before .before .before .if1 .left))) (collectRollbackReplayIds (c .before .before .before .before .before .before .before .before .before .before .args .ids .now)) (c .before .before .before .before .collect-rollback-replay-ids-sound .result) (c .before .before .before .before .collect-rollback-replay-ids-sound .ensures) (c .before .before .settle-done .ensures)
 
 pub submission-book-collect-rollback-replay-ids-spec : {M : Type 1} → statement M
 submission-book-collect-rollback-replay-ids-spec =

@@ -15,7 +15,7 @@ returns : tie.Need-returns
 returns c = gives-absent idsForm (activeIds) (c .before .before .before .before .before .args .book .now) (c .before .before .before .before .before .args .answer .now) (c .before .held .ensures .absent (not-true _ (c .if1 .taken)))
 
 active-ids-sound-requires : tie.Need-active-ids-sound-requires
-active-ids-sound-requires c κs = c .before .before .held .ensures .present (not-false _ (c .before .if1 .left)) .sound
+active-ids-sound-requires c κs = c .before .held .ensures .present (not-false _ (c .if1 .left)) .sound
 
 settle-ids-requires : tie.Need-settle-ids-requires
 settle-ids-requires c κs = search needs
@@ -27,7 +27,7 @@ same-length-3 : tie.Need-same-length-3
 same-length-3 c = search needs
 
 returns-2 : tie.Need-returns-2
-returns-2 c = ids-given (c .before .before .before .before .before .before .before .before .before .before .before .before .before .before .args .book .now) (c .before .before .before .before .before .before .before .before .before .before .before .before .before .before .args .answer .now) (c .before .before .before .before .before .before .before .before .before .before .held .result .book) (c .before .before .before .before .before .before .before .before .before .before .held .ensures .present (not-false _ (c .before .before .before .before .before .before .before .before .before .if1 .left))) (activeIds) (c .before .before .before .before .before .before .before .active-ids-sound .result) (c .before .before .before .before .before .before .before .active-ids-sound .ensures) (c .before .before .before .before .settle-ids .ensures)
+returns-2 c = ids-given (c .before .before .before .before .before .before .before .before .before .before .before .before .before .args .book .now) (c .before .before .before .before .before .before .before .before .before .before .before .before .before .args .answer .now) (c .before .before .before .before .before .before .before .before .before .held .result .book) (c .before .before .before .before .before .before .before .before .before .held .ensures .present (not-false _ (c .before .before .before .before .before .before .before .before .if1 .left))) (activeIds) (c .before .before .before .before .before .before .before .active-ids-sound .result) (c .before .before .before .before .before .before .before .active-ids-sound .ensures) (c .before .before .before .before .settle-ids .ensures)
 
 pub submission-book-active-ids-spec : {M : Type 1} → statement M
 submission-book-active-ids-spec =

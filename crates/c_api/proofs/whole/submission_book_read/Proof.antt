@@ -17,7 +17,7 @@ same-length : tie.Need-same-length
 same-length c = search needs
 
 returns-2 : tie.Need-returns-2
-returns-2 c = read-whole (c .before .before .before .before .before .before .before .before .before .args .book .now) (c .before .before .before .before .before .before .before .before .before .args .place .now) (c .before .before .before .before .before .before .read-archive .result) (readArchive (c .before .before .before .before .before .before .before .before .before .args .archive .now)) (c .before .before .before .before .before .before .read-archive .ensures) (c .before .before .before .before .before .if1 .left) (c .before .before .put-back .ensures)
+returns-2 c = read-whole (c .before .before .before .before .before .before .before .before .args .book .now) (c .before .before .before .before .before .before .before .before .args .place .now) (c .before .before .before .before .before .read-archive .result) (readArchive (c .before .before .before .before .before .before .before .before .args .archive .now)) (c .before .before .before .before .before .read-archive .ensures) (c .before .before .before .before .if1 .left) (c .before .before .put-back .ensures)
 
 pub submission-book-read-spec : {M : Type 1} → statement M
 submission-book-read-spec =
