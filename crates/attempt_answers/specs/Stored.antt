@@ -1,10 +1,11 @@
--- Two changes of one submission, by id, are one store at its place.
+-- The submission at a place of the book's cells; two changes of one submission, by id, are one store at its place.
 use Prim.Native.Nat.{ℕ, _<_}
 use mathlib.Core.Bool.{Bool, true, false}
 use mathlib.Core.List.{List, [], _∷_, map}
 use mathlib.Core.Path.{_≡_, refl, ap, _∙_}
+use native.Mathlib.Omega.{arith}
 use lib.Dec.{eqb}
-use lib.ListN.{length, length-set}
+use lib.ListN.{length, getD, length-set}
 use Rattle.lists.specs.Lists.{distinctb}
 use Rattle.book_data.specs.Zero.{zeroSubmitted}
 use Rattle.book_data.specs.Model.{Book, view, back}
@@ -18,10 +19,19 @@ use Rattle.rules.specs.Rule.{Revision}
 use Rattle.rules.specs.Steps.{withSubmitted, withEntry, withSlots, reviseBook, markBook}
 use Rattle.rules.specs.Steps.Entry.{revised}
 use Rattle.rule_laws.specs.Sound.Parts.{revised-id}
-use Rattle.book_cells.specs.Normal.{Normal, normal-of}
+use Rattle.ids.specs.Counted.{counted-get}
+use Rattle.book_cells.specs.Normal.{Normal, normal-of, submitted-are}
 use Rattle.book_cells.specs.PlaceLaws.{change-at}
 use Rattle.book_change.specs.Changes.{storedAt}
 use Rattle.attempt_answers.specs.Live.{at}
+
+-- what the code reads at a place of the list
+module _ (b : BookData) (n : Normal b) (k : ℕ) (within : k < length (view b .submitted)) where
+  pub read-at : (d : SubmittedTx) → getD (b .submitted) k d ≡ at (view b) k
+  read-at d = counted-get (submitted-are b n) k d zeroSubmitted within
+
+  pub within-16 : k < 16
+  within-16 = let f = n .fits .submitted in omega arith
 
 -- two changes of the elements of one key are one
 module _ {A : Type 0} (key : A → ℕ) (f g : A → A) (keeps : (x : A) → key (f x) ≡ key x) where

@@ -4,8 +4,6 @@ use attempt_answers::live_place;
 use book_cells::AttemptPlace;
 use book_cells::Place;
 use book_cells::find_attempt;
-use book_cells::submitted_at;
-use book_change::store_submitted;
 use book_data::BookData;
 use book_data::SpendBundle;
 use book_data::SubmissionDeliveryGoal;
@@ -240,7 +238,7 @@ fn finalize_live(
     requires { ⌜ (soundb b ≡ true) × (k < length (view b .submitted)) × (soundSource (sourceOf source) joined ≡ true) ⌝ }
     ensures { λ r. ⌜ r ≡ finalizeReply b (runBook (finalizeLive (sourceOf source) joined (at (view b) k)) (view b)) ⌝ }
 {
-    let s = submitted_at(b, k);
+    let s = b.submitted[k];
     let a = s.slots.active_attempt.attempt;
     if a.finalized_variant_fingerprint.present {
         return finalize_refused(b, 5);
@@ -305,7 +303,12 @@ fn finalize_attached(b: BookData, k: usize, s: SubmittedTx, joined: SpendBundle)
 }
 
 // The submission is stored with the final fingerprint in its live attempt.
-fn finalize_as(b: BookData, k: usize, s: SubmittedTx, last: FinalizedSubmission) -> FinalizeReply
+fn finalize_as(
+    mut b: BookData,
+    k: usize,
+    s: SubmittedTx,
+    last: FinalizedSubmission,
+) -> FinalizeReply
     requires { ⌜ Normal b × (k < length (view b .submitted)) ⌝ }
     ensures { λ r. ⌜ r ≡ finalizedReply b k s last ⌝ }
 {
@@ -314,11 +317,11 @@ fn finalize_as(b: BookData, k: usize, s: SubmittedTx, last: FinalizedSubmission)
     let slots = finalized(old, f);
     let mut next = s;
     next.slots = slots;
-    let out = store_submitted(b, k, next);
+    b.submitted[k] = next;
     FinalizeReply {
         answer: CallAnswer::Done,
         present: true,
         finalized: last,
-        book: out,
+        book: b,
     }
 }

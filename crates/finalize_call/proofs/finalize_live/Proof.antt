@@ -7,25 +7,59 @@ use Rattle.replies.specs.Reply.{finalizeReply}
 use Rattle.replies.specs.Values.{sourceOf}
 use Rattle.book_cells.specs.Normal.{sound-normal}
 use Rattle.attempt_answers.specs.Answers.{compared, of-read}
+use Rattle.attempt_answers.specs.Stored.{read-at, within-16}
 use Rattle.finalize_call.specs.Tests.{live-finalised, live-invalid, live-other, live-on}
 use Rattle.finalize_call.proofs.finalize_live.Statement.{statement}
 use Rattle.finalize_call.proofs.finalize_live.Tie as tie
 
-submitted-at-requires : tie.Need-submitted-at-requires
-submitted-at-requires c κs = (sound-normal (c .args .b) (c .pre .0), c .pre .1)
-
 returns : tie.Need-returns
-returns c = c .finalize-refused .ensures ∙ ap (finalizeReply (c .before .before .before .before .args .b)) (of-read (finalizeLive (sourceOf (c .before .before .before .before .args .source)) (c .before .before .before .before .args .joined)) (view (c .before .before .before .before .args .b)) (c .before .before .before .submitted-at .ensures) (live-finalised (sourceOf (c .before .before .before .before .args .source)) (c .before .before .before .before .args .joined) (c .before .before .before .submitted-at .result) (view (c .before .before .before .before .args .b)) (c .before .if1 .taken)))
+returns c = let z = c .before .before .before .before in
+    c .finalize-refused .ensures
+    ∙ ap (finalizeReply (z .args .t1))
+    (of-read (finalizeLive (sourceOf (z .args .source)) (z .args .joined)) (view (z .args .t1)) (read-at (z .args .t1) (sound-normal (z .args .t1) (z .pre .0)) (z .args .k) (z .pre .1) _)
+    (live-finalised (sourceOf (z .args .source)) (z .args .joined) _ (view (z .args .t1)) (c .before .if1 .taken)))
 
 returns-2 : tie.Need-returns-2
-returns-2 c = c .finalize-refused2 .ensures ∙ ap (finalizeReply (c .before .before .before .before .before .before .before .args .b)) (of-read (finalizeLive (sourceOf (c .before .before .before .before .before .before .before .args .source)) (c .before .before .before .before .before .before .before .args .joined)) (view (c .before .before .before .before .before .before .before .args .b)) (c .before .before .before .before .before .before .submitted-at .ensures) (live-invalid (sourceOf (c .before .before .before .before .before .before .before .args .source)) (c .before .before .before .before .before .before .before .args .joined) (c .before .before .before .before .before .before .submitted-at .result) (view (c .before .before .before .before .before .before .before .args .b)) (c .before .before .before .before .if1 .left) (sym (c .before .before .validate .ensures) ∙ not-true _ (c .before .if2 .taken))))
+returns-2 c = let z = c .before .before .before .before .before .before .before in
+    c .finalize-refused2 .ensures
+    ∙ ap (finalizeReply (z .args .t1))
+    (of-read (finalizeLive (sourceOf (z .args .source)) (z .args .joined)) (view (z .args .t1)) (read-at (z .args .t1) (sound-normal (z .args .t1) (z .pre .0)) (z .args .k) (z .pre .1) _)
+    (live-invalid (sourceOf (z .args .source)) (z .args .joined) _ (view (z .args .t1)) (c .before .before .before .before .if1 .left) (sym (c .before .before .validate .ensures) ∙ not-true _ (c .before .if2 .taken))))
 
 returns-3 : tie.Need-returns-3
-returns-3 c = c .finalize-refused3 .ensures ∙ ap (finalizeReply (c .before .before .before .before .before .before .before .before .before .before .before .before .before .args .b)) (of-read (finalizeLive (sourceOf (c .before .before .before .before .before .before .before .before .before .before .before .before .before .args .source)) (c .before .before .before .before .before .before .before .before .before .before .before .before .before .args .joined)) (view (c .before .before .before .before .before .before .before .before .before .before .before .before .before .args .b)) (c .before .before .before .before .before .before .before .before .before .before .before .before .submitted-at .ensures) (live-other (sourceOf (c .before .before .before .before .before .before .before .before .before .before .before .before .before .args .source)) (c .before .before .before .before .before .before .before .before .before .before .before .before .before .args .joined) (c .before .before .before .before .before .before .before .before .before .before .before .before .submitted-at .result) (view (c .before .before .before .before .before .before .before .before .before .before .before .before .before .args .b)) (c .before .before .before .before .before .before .before .before .before .before .if1 .left) (sym (c .before .before .before .before .before .before .before .before .validate .ensures) ∙ not-false _ (c .before .before .before .before .before .before .before .if2 .left)) (compared (c .before .before .same32 .ensures) (c .before .before .before .before .before .before .current-variant-fingerprint .ensures) refl (not-true _ (c .before .if3 .taken)))))
+returns-3 c = let z = c .before .before .before .before .before .before .before .before .before .before .before .before .before in
+    c .finalize-refused3 .ensures
+    ∙ ap (finalizeReply (z .args .t1))
+    (of-read (finalizeLive (sourceOf (z .args .source)) (z .args .joined)) (view (z .args .t1)) (read-at (z .args .t1) (sound-normal (z .args .t1) (z .pre .0)) (z .args .k) (z .pre .1) _)
+    (live-other (sourceOf (z .args .source)) (z .args .joined) _ (view (z .args .t1)) (c .before .before .before .before .before .before .before .before .before .before .if1 .left) (sym (c .before .before .before .before .before .before .before .before .validate .ensures) ∙ not-false _ (c .before .before .before .before .before .before .before .if2 .left))
+    (compared (c .before .before .same32 .ensures) (c .before .before .before .before .before .before .current-variant-fingerprint .ensures) refl (not-true _ (c .before .if3 .taken)))))
+
+finalize-with-requires : tie.Need-finalize-with-requires
+finalize-with-requires c κs = let z = c .before .before .before .before .before .before .before .before .before .before .before .before in
+    (record { standing = record { sound = z .pre .0; within = z .pre .1; read = (read-at (z .args .t1) (sound-normal (z .args .t1) (z .pre .0)) (z .args .k) (z .pre .1) _) }; current = c .before .before .before .before .before .current-variant-fingerprint .ensures }, z .pre .2)
 
 returns-4 : tie.Need-returns-4
-returns-4 c = c .finalize-with .ensures ∙ ap (finalizeReply (c .before .before .before .before .before .before .before .before .before .before .before .before .before .args .b)) (of-read (finalizeLive (sourceOf (c .before .before .before .before .before .before .before .before .before .before .before .before .before .args .source)) (c .before .before .before .before .before .before .before .before .before .before .before .before .before .args .joined)) (view (c .before .before .before .before .before .before .before .before .before .before .before .before .before .args .b)) (c .before .before .before .before .before .before .before .before .before .before .before .before .submitted-at .ensures) (live-on (sourceOf (c .before .before .before .before .before .before .before .before .before .before .before .before .before .args .source)) (c .before .before .before .before .before .before .before .before .before .before .before .before .before .args .joined) (c .before .before .before .before .before .before .before .before .before .before .before .before .submitted-at .result) (view (c .before .before .before .before .before .before .before .before .before .before .before .before .before .args .b)) (c .before .before .before .before .before .before .before .before .before .before .if1 .left) (sym (c .before .before .before .before .before .before .before .before .validate .ensures) ∙ not-false _ (c .before .before .before .before .before .before .before .if2 .left)) (compared (c .before .before .same32 .ensures) (c .before .before .before .before .before .before .current-variant-fingerprint .ensures) refl (not-false _ (c .before .if3 .left)))))
+returns-4 c = let z = c .before .before .before .before .before .before .before .before .before .before .before .before .before in
+    c .finalize-with .ensures
+    ∙ ap (finalizeReply (z .args .t1))
+    (of-read (finalizeLive (sourceOf (z .args .source)) (z .args .joined)) (view (z .args .t1)) (read-at (z .args .t1) (sound-normal (z .args .t1) (z .pre .0)) (z .args .k) (z .pre .1) _)
+    (live-on (sourceOf (z .args .source)) (z .args .joined) _ (view (z .args .t1)) (c .before .before .before .before .before .before .before .before .before .before .if1 .left) (sym (c .before .before .before .before .before .before .before .before .validate .ensures) ∙ not-false _ (c .before .before .before .before .before .before .before .if2 .left))
+    (compared (c .before .before .same32 .ensures) (c .before .before .before .before .before .before .current-variant-fingerprint .ensures) refl (not-false _ (c .before .if3 .left)))))
 
 pub finalize-live-spec : {M : Type 1} → statement M
 finalize-live-spec =
-    tie.close (tie.spec submitted-at-requires (λ c κs. search needs) returns (λ c κs. search needs) (λ c κs. search needs) returns-2 (λ c κs. search needs) (λ c κs. search needs) (λ c κs. search needs) returns-3 (λ c κs. search needs) returns-4)
+    tie.close
+    (tie.spec
+    (λ c. search (needs, within-16 (c .args .t1) (sound-normal (c .args .t1) (c .pre .0)) (c .args .k) (c .pre .1)))
+    (λ c. search (needs, within-16 (c .args .t1) (sound-normal (c .args .t1) (c .pre .0)) (c .args .k) (c .pre .1)))
+    (λ c κs. search needs)
+    returns
+    (λ c κs. search needs)
+    (λ c κs. search needs)
+    returns-2
+    (λ c κs. search needs)
+    (λ c κs. search needs)
+    (λ c κs. search needs)
+    returns-3
+    finalize-with-requires
+    returns-4)
