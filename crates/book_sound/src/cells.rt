@@ -8,12 +8,13 @@ ghost use lib.ListN.{take};
 ghost use Rattle.lists.specs.Lists.{allb, elemb, distinctb, flatMap, tailOf, isZero, risingb};
 ghost use Rattle.book_data.specs.Zero.{isZeroSubmitted, isZeroDelivery};
 ghost use Rattle.book_data.specs.Model.{list16, list64, ids16};
-ghost use Rattle.book_data.specs.Sound.{soundSubmitted, soundDelivery, idOf, tokensOf};
+ghost use Rattle.book_data.specs.Sound.{soundSubmitted, soundDelivery, idOf, slotTokens, tokensOf};
 use crate::is_sound_delivery;
 use crate::is_sound_submitted;
 use crate::numbers::all_among;
 use crate::numbers::first;
 use crate::numbers::zeros_from;
+use book_data::AttemptSlots;
 use book_data::Ids16;
 use book_data::Ids64;
 use book_data::PendingDelivery;
@@ -66,20 +67,6 @@ pub fn ids64_tail(x: Ids64) -> bool
 }
 
 // The first n cells are sound.
-pub fn sound_submissions(a: [SubmittedTx; 16], n: usize) -> bool
-    ensures { λ r. ⌜ r ≡ allb soundSubmitted (take n a) ⌝ }
-{
-    let k = at_most(n, 16);
-    let mut ok = true;
-    let mut i = 0;
-    while i < k {
-        let x = a[i];
-        ok = ok & is_sound_submitted(x);
-        i += 1;
-    }
-    ok
-}
-
 pub fn sound_deliveries(a: [PendingDelivery; 16], n: usize) -> bool
     ensures { λ r. ⌜ r ≡ allb soundDelivery (take n a) ⌝ }
 {
@@ -92,23 +79,6 @@ pub fn sound_deliveries(a: [PendingDelivery; 16], n: usize) -> bool
         i += 1;
     }
     ok
-}
-
-// The ids of the first n submissions.
-pub fn ids_of(a: [SubmittedTx; 16], n: usize) -> Ids16
-    ensures { λ r. ⌜ r ≡ ids16 (map idOf (take n a)) ⌝ }
-{
-    let k = at_most(n, 16);
-    let mut items = [0u64; 16];
-    let mut i = 0;
-    while i < k {
-        items[i] = a[i].entry.id.0;
-        i += 1;
-    }
-    Ids16 {
-        count: k,
-        items: items,
-    }
 }
 
 pub struct Tokens {
@@ -131,30 +101,57 @@ fn push_if(t: Tokens, wanted: bool, x: u64) -> Tokens
     t
 }
 
-// The tokens that the slots of the first n submissions hold.
-pub fn tokens_of(a: [SubmittedTx; 16], n: usize) -> Tokens
-    ensures { λ r. ⌜ take (r .count) (r .items) ≡ flatMap tokensOf (take n a) ⌝ }
+// The tokens that a submission's slots hold.
+fn push_attempts(t: Tokens, s: AttemptSlots) -> Tokens
+    requires { ⌜ t .count + 1 < 32 ⌝ }
+    ensures { λ r. ⌜ (r .count ≤ t .count + 2) × (take (r .count) (r .items) ≡ take (t .count) (t .items) ++ slotTokens s) ⌝ }
+{
+    let active = push_if(
+        t,
+        s.active_attempt.present,
+        s.active_attempt.attempt.token.0,
+    );
+    push_if(
+        active,
+        s.completed_attempt.present,
+        s.completed_attempt.attempt.token.0,
+    )
+}
+
+pub struct Gathered {
+    pub sound: bool,
+    pub ids: Ids16,
+    pub tokens: Tokens,
+}
+
+// Of the first n submissions: that they are sound, their ids, and the tokens that their slots hold. One loop, since each function
+// that reads cells moves all of them.
+pub fn gather(a: [SubmittedTx; 16], n: usize) -> Gathered
+    ensures { λ r. ⌜ (r .sound ≡ allb soundSubmitted (take n a)) × (r .ids ≡ ids16 (map idOf (take n a))) × (take (r .tokens .count) (r .tokens .items) ≡ flatMap tokensOf (take n a)) ⌝ }
 {
     let k = at_most(n, 16);
+    let mut ok = true;
+    let mut items = [0u64; 16];
     let mut out = Tokens {
         count: 0,
         items: [0u64; 32],
     };
     let mut i = 0;
     while i < k {
-        out = push_if(
-            out,
-            a[i].slots.active_attempt.present,
-            a[i].slots.active_attempt.attempt.token.0,
-        );
-        out = push_if(
-            out,
-            a[i].slots.completed_attempt.present,
-            a[i].slots.completed_attempt.attempt.token.0,
-        );
+        let x = a[i];
+        items[i] = x.entry.id.0;
+        out = push_attempts(out, x.slots);
+        ok = ok & is_sound_submitted(x);
         i += 1;
     }
-    out
+    Gathered {
+        sound: ok,
+        ids: Ids16 {
+            count: k,
+            items: items,
+        },
+        tokens: out,
+    }
 }
 
 pub fn distinct_tokens(t: Tokens) -> bool

@@ -1,7 +1,9 @@
 // Tests of soundness. Each answers exactly its definition in book_data's `Sound`, for every value.
 ghost use mathlib.Core.Path.{_≡_};
+ghost use mathlib.Core.Bool.{cond, _&&_};
 ghost use lib.ListN.{take};
 ghost use Rattle.lists.specs.Lists.{allb, tailOf, isZero};
+ghost use Rattle.book_data.specs.Zero.{isZeroSpend};
 ghost use Rattle.book_data.specs.Sound.{soundSpend, soundBundle, readableBundle, soundFeeIntent, soundHash, soundAttempt, soundSlots, soundVariant, soundEntry, soundSubmitted, soundIntent, soundDelivery, soundCells, soundLists, soundb};
 ghost use Rattle.book_data.specs.Model.{view};
 use crate::cells::among16;
@@ -9,15 +11,13 @@ use crate::cells::delivery_tail;
 use crate::cells::distinct_tokens;
 use crate::cells::distinct16;
 use crate::cells::distinct64;
-use crate::cells::ids_of;
+use crate::cells::gather;
 use crate::cells::ids16_tail;
 use crate::cells::ids64_tail;
 use crate::cells::rising16;
 use crate::cells::sound_deliveries;
-use crate::cells::sound_submissions;
 use crate::cells::submitted_tail;
 use crate::cells::tokens_below;
-use crate::cells::tokens_of;
 use crate::numbers::zero_bytes_from;
 use book_data::AttemptSlots;
 use book_data::BookData;
@@ -32,7 +32,6 @@ use book_data::SubmissionFeeIntent;
 use book_data::SubmittedEntry;
 use book_data::SubmittedTx;
 use book_data::zero::zero_outputs;
-use book_data::zero::zero_spends;
 use lists::at_most;
 use lists::zero32;
 
@@ -58,16 +57,25 @@ pub fn is_sound_spend(s: CoinSpend) -> bool
     (n <= 73) & c & (k <= 4) & o & (s.readable | (k == 0))
 }
 
-// The first n spends are sound.
-fn sound_spends(a: [CoinSpend; 4], n: usize) -> bool
-    ensures { λ r. ⌜ r ≡ allb soundSpend (take n a) ⌝ }
+// A cell in use is sound, another one zero.
+fn sound_or_zero(s: CoinSpend, used: bool) -> bool
+    ensures { λ r. ⌜ r ≡ cond used (soundSpend s) (isZeroSpend s) ⌝ }
 {
-    let k = at_most(n, 4);
+    if used {
+        return is_sound_spend(s);
+    }
+    s.is_zero()
+}
+
+// The first n spends are sound and the others zero.
+fn sound_spends(a: [CoinSpend; 4], n: usize) -> bool
+    ensures { λ r. ⌜ r ≡ (tailOf 4 isZeroSpend n a && allb soundSpend (take n a)) ⌝ }
+{
     let mut ok = true;
     let mut i = 0;
-    while i < k {
+    while i < 4 {
         let x = a[i];
-        ok = ok & is_sound_spend(x);
+        ok = ok & sound_or_zero(x, i < n);
         i += 1;
     }
     ok
@@ -92,9 +100,8 @@ pub fn is_sound_bundle(b: SpendBundle) -> bool
 {
     let spends = b.spends;
     let n = b.count as usize;
-    let z = zero_spends(spends, n);
     let s = sound_spends(spends, n);
-    (n <= 4) & z & s
+    (n <= 4) & s
 }
 
 pub fn is_readable_bundle(b: SpendBundle) -> bool
@@ -219,9 +226,9 @@ fn sound_lists(b: BookData) -> bool
     let pending = b.pending_deliveries;
     let retired = b.retired_submission_ids;
     let replayed = b.replay_epoch.replayed_submission_ids;
-    let ids = ids_of(submitted, n);
-    let tokens = tokens_of(submitted, n);
-    let s = sound_submissions(submitted, n);
+    let g = gather(submitted, n);
+    let ids = g.ids;
+    let tokens = g.tokens;
     let i = distinct16(ids);
     let t = distinct_tokens(tokens);
     let l = tokens_below(tokens, b.next_delivery_attempt_token);
@@ -229,7 +236,7 @@ fn sound_lists(b: BookData) -> bool
     let d = distinct64(retired);
     let u = rising16(replayed);
     let k = among16(replayed, ids);
-    s & i & t & l & p & d & u & k
+    g.sound & i & t & l & p & d & u & k
 }
 
 // The door of every call: the book is sound.

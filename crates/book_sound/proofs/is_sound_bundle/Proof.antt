@@ -1,11 +1,20 @@
-use Rattle.book_data.specs.Sound.{soundBundle}
+use Rattle.book_data.specs.Zero.{isZeroSpend}
+use Rattle.book_data.specs.Sound.{soundBundle, soundSpend}
+use Rattle.lists.specs.Lists.{allb, tailOf}
 use borrow.Author.Needs.{needs}
+use mathlib.Core.Bool.{Bool, _&&_}
+use mathlib.Core.Path.{sym, ap, _∙_}
+use lib.Dec.{leb}
+use lib.ListN.{take}
+use Rattle.book_sound.specs.Cells.{and-assoc}
 use Rattle.book_sound.proofs.is_sound_bundle.Statement.{statement}
 use Rattle.book_sound.proofs.is_sound_bundle.Tie as tie
 
 returns : tie.Need-returns
 unfolding soundBundle
-returns c = cc
+returns c = let b = c .before .before .before .args .b in
+    ap (λ (r : Bool). leb (b .count) 4 && r) (c .sound-spends .ensures)
+    ∙ sym (and-assoc (leb (b .count) 4) (tailOf 4 isZeroSpend (b .count) (b .spends)) (allb soundSpend (take (b .count) (b .spends))))
 
 pub is-sound-bundle-spec : {M : Type 1} → statement M
-is-sound-bundle-spec = tie.close (tie.spec (λ c. search needs) (λ c κs. search needs) (λ c κs. search needs) returns)
+is-sound-bundle-spec = tie.close (tie.spec (λ c. search needs) (λ c κs. search needs) returns)

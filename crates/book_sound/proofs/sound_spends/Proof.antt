@@ -1,29 +1,32 @@
-use native.Mathlib.Nat.{min-le-right}
-use Rattle.lists.specs.Lists.{allb}
-use Rattle.lists.specs.Laws.{all-turn-by, all-done, counted-step, counted-end, take-cut}
+use Rattle.book_data.specs.Zero.{isZeroSpend}
 use Rattle.book_data.specs.Sound.{soundSpend}
 use borrow.Author.Needs.{needs}
-use mathlib.Core.Path.{_≡_, refl, ap, _∙_}
+use mathlib.Core.Path.{_≡_}
 use mathlib.Core.Bool.{_&&_}
-use Prim.Native.Nat.{_-_, _≤_}
-use lib.ListN.{length, take, drop}
+use Prim.Native.Nat.{_-_}
+use lib.ListN.{length, drop}
+use Rattle.book_sound.specs.Cells.{usedb, used-begin, used-turn, used-done}
 use Rattle.book_sound.proofs.sound_spends.Statement.{statement}
 use Rattle.book_sound.proofs.sound_spends.Tie as tie
 
 abbrev Inv-loop : tie.InvT-loop
-Inv-loop n a k ok₀ i₀ ok i = (i ≤ k) × (k ≤ 4) × (length a ≡ 4) × (allb soundSpend (take k a) ≡ (ok && allb soundSpend (drop i (take k a))))
+Inv-loop n a ok₀ i₀ ok i = (length a ≡ 4) × (usedb soundSpend isZeroSpend n a ≡ (ok && usedb soundSpend isZeroSpend (n - i) (drop i a)))
 
 abbrev μ-loop : tie.MeasureT-loop
-μ-loop n a k ok₀ i₀ ok i = k - i
+μ-loop n a ok₀ i₀ ok i = 4 - i
 
 loop-holds : tie.Need-loop-holds Inv-loop μ-loop
-loop-holds c = (search needs, rw (c .at-most .ensures) (min-le-right (c .before .args .n) 4), search needs, refl)
+loop-holds c = (search needs, used-begin soundSpend isZeroSpend (c .args .n) (c .args .t1))
 
 loop-again : tie.Need-loop-again Inv-loop μ-loop
-loop-again c = (search needs, search needs, search needs, all-turn-by soundSpend (c .before .before .before .loop .ok) (c .is-sound-spend .ensures) (counted-step (c .before .before .before .before .before .args .t1) (c .before .before .before .before .at-most .result) (c .before .before .before .loop .i) _ (c .before .before .loop-test .taken) (search needs)) (c .before .before .before .loop .inv .3))
+loop-again c = let l = c .before .before .before .loop in
+    let z = c .before .before .before .before .args in
+    (search needs, used-turn soundSpend isZeroSpend (z .n) (l .i) (z .t1) _ (l .ok) (search needs) (c .sound-or-zero .ensures) (l .inv .1))
 
 returns : tie.Need-returns Inv-loop μ-loop
-returns c = all-done soundSpend (c .before .loop .ok) (counted-end (c .before .before .before .args .t1) (c .before .before .at-most .result) (c .before .loop .i) (c .loop-test .left) (search needs)) (c .before .loop .inv .3) ∙ ap (allb soundSpend) (take-cut 4 (c .before .before .before .args .n) (c .before .before .at-most .result) (c .before .before .before .args .t1) (search needs) (c .before .before .at-most .ensures))
+returns c = let l = c .before .loop in
+    let z = c .before .before .args in
+    used-done soundSpend isZeroSpend (z .n) (l .i) 4 (z .t1) (l .ok) (l .inv .0) (search needs) (l .inv .1)
 
 pub sound-spends-spec : {M : Type 1} → statement M
 sound-spends-spec =
@@ -31,7 +34,6 @@ sound-spends-spec =
     (tie.spec
     Inv-loop
     μ-loop
-    (λ c κs. search needs)
     loop-holds
     (λ c. search needs)
     (λ c. search needs)
