@@ -1,3 +1,5 @@
 pub mod Ready
 pub mod Finalizing
 pub mod Tests
+pub mod Decision
+pub mod Decided

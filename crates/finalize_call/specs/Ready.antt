@@ -1,14 +1,12 @@
--- What the parts of `finalize_attempt` start from.
+-- What the laws of `finalize_attempt` start from.
 use Prim.Native.Nat.{ℕ, _<_}
 use mathlib.Core.Bool.{true}
-use mathlib.Core.List.{List}
 use mathlib.Core.Path.{_≡_}
 use lib.ListN.{length}
 use Rattle.book_data.specs.Model.{view}
 use Rattle.book_data.specs.Sound.{soundb}
 use Rattle.book_data.specs.declared.BookData.{BookData}
 use Rattle.book_data.specs.declared.SubmittedTx.{SubmittedTx}
-use Rattle.rules.specs.Parts.{currentFingerprint}
 use Rattle.attempt_answers.specs.Live.{at}
 
 -- s stands at place k of the sound book b
@@ -16,8 +14,3 @@ pub record Standing (b : BookData) (k : ℕ) (s : SubmittedTx) : Type 0 where
   pub sound : soundb b ≡ true
   pub within : k < length (view b .submitted)
   pub read : s ≡ at (view b) k
-
--- and the fingerprint of its current variant is f
-pub record Hashed (b : BookData) (k : ℕ) (s : SubmittedTx) (f : List ℕ) : Type 0 where
-  pub standing : Standing b k s
-  pub current : f ≡ currentFingerprint (s .entry)

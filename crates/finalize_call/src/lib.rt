@@ -37,16 +37,16 @@ ghost use Rattle.book_data.specs.Model.{view};
 ghost use Rattle.book_data.specs.Sound.{soundb, soundBundle};
 ghost use Rattle.rules.specs.Call.{finalized as finalizedIs};
 ghost use Rattle.rules.specs.Parts.{currentFingerprint, currentAcknowledged};
-ghost use Rattle.rules.specs.Rule.{undone};
-ghost use Rattle.rules.specs.Steps.{runBook};
+ghost use Rattle.rules.specs.Rule.{undone, attach as attaches};
+ghost use Rattle.rules.specs.Steps.{withEntry, runBook};
+ghost use Rattle.rules.specs.Steps.Entry.{revised};
 ghost use Rattle.rules.specs.Calls.Finalized.{unusedFee, currentFinal, attachedFinal};
-ghost use Rattle.rules.specs.Calls.FinalizeAttempt.{isJoined, isNoSource, soundSource, finalizeWith, finalizeLive, finalizeAttempt};
+ghost use Rattle.rules.specs.Calls.FinalizeAttempt.{isJoined, isNoSource, soundSource, finalizeLive, finalizeAttempt};
 ghost use Rattle.replies.specs.Reply.{outcomeOf, finalizeReply};
 ghost use Rattle.replies.specs.Values.{sourceOf, finalOf, zeroFinal};
 ghost use Rattle.book_cells.specs.Normal.{Normal};
 ghost use Rattle.attempt_answers.specs.Live.{inactive, at};
-ghost use Rattle.finalize_call.specs.Ready.{Standing, Hashed};
-ghost use Rattle.finalize_call.specs.Finalizing.{finalizedReply, attaching};
+ghost use Rattle.finalize_call.specs.Decision.{decision, finalAs, notAsked};
 
 // ---- the fee source
 fn is_joined(source: SubmissionFeeSource) -> bool
@@ -191,6 +191,78 @@ fn attached_final(joined: SpendBundle, e: SubmittedEntry) -> FinalizedSubmission
     }
 }
 
+// ---- what becomes of the submission
+// The answer, and the submission as it is stored; or refusal 9.
+pub struct Decision {
+    pub refused: bool,
+    pub last: FinalizedSubmission,
+    pub next: SubmittedTx,
+}
+
+fn decide(s: SubmittedTx, f: [u8; 32], source: SubmissionFeeSource, joined: SpendBundle) -> Decision
+    requires { ⌜ (f ≡ currentFingerprint (s .entry)) × (soundSource (sourceOf source) joined ≡ true) ⌝ }
+    ensures { λ r. ⌜ r ≡ decision (sourceOf source) joined s ⌝ }
+{
+    let e = s.entry;
+    let a = s.slots.active_attempt.attempt;
+    let goal = a.goal;
+    let open = fee_unresolved(e);
+    if !open {
+        let none = is_not_requested(source);
+        if !none {
+            return unasked(s);
+        }
+        let last = current_final(goal, e, f);
+        return decided(s, last);
+    }
+    let join = is_joined(source);
+    if !join {
+        let last = unused_fee(goal, e, f);
+        return decided(s, last);
+    }
+    attached(s, joined)
+}
+
+// A fee source without an unresolved fee.
+fn unasked(s: SubmittedTx) -> Decision
+    ensures { λ r. ⌜ r ≡ notAsked s ⌝ }
+{
+    Decision {
+        refused: true,
+        last: zero_finalized(),
+        next: s,
+    }
+}
+
+// The joined bundle is the variant from here on.
+fn attached(s: SubmittedTx, joined: SpendBundle) -> Decision
+    requires { ⌜ soundBundle joined ≡ true ⌝ }
+    ensures { λ r. ⌜ r ≡ finalAs (finalOf (attachedFinal joined (s .entry))) (withEntry (revised (attaches joined)) s) ⌝ }
+{
+    let e = s.entry;
+    let last = attached_final(joined, e);
+    let entry = attach(e, joined);
+    let mut next = s;
+    next.entry = entry;
+    decided(next, last)
+}
+
+// The final fingerprint goes into the live attempt.
+fn decided(s: SubmittedTx, last: FinalizedSubmission) -> Decision
+    ensures { λ r. ⌜ r ≡ finalAs last s ⌝ }
+{
+    let f = last.variant_fingerprint;
+    let old = s.slots;
+    let slots = finalized(old, f);
+    let mut next = s;
+    next.slots = slots;
+    Decision {
+        refused: false,
+        last: last,
+        next: next,
+    }
+}
+
 // ---- the call
 pub fn finalize_attempt(
     b: BookData,
@@ -228,9 +300,9 @@ pub fn finalize_attempt_sound(
     finalize_live(b, k, source, joined)
 }
 
-// Refusals 5, 7 and 8.
+// Refusals 5, 7 and 8, and 9 where the fee says so; else the submission is stored as decided.
 fn finalize_live(
-    b: BookData,
+    mut b: BookData,
     k: usize,
     source: SubmissionFeeSource,
     joined: SpendBundle,
@@ -254,69 +326,12 @@ fn finalize_live(
     if !same {
         return finalize_refused(b, 8);
     }
-    finalize_with(b, k, s, f, source, joined)
-}
-
-// Refusal 9, or the final variant.
-fn finalize_with(
-    b: BookData,
-    k: usize,
-    s: SubmittedTx,
-    f: [u8; 32],
-    source: SubmissionFeeSource,
-    joined: SpendBundle,
-) -> FinalizeReply
-    requires { ⌜ Hashed b k s f × (soundSource (sourceOf source) joined ≡ true) ⌝ }
-    ensures { λ r. ⌜ r ≡ finalizeReply b (runBook (finalizeWith (sourceOf source) joined s) (view b)) ⌝ }
-{
-    let e = s.entry;
-    let a = s.slots.active_attempt.attempt;
-    let goal = a.goal;
-    let open = fee_unresolved(e);
-    if !open {
-        let none = is_not_requested(source);
-        if !none {
-            return finalize_refused(b, 9);
-        }
-        let last = current_final(goal, e, f);
-        return finalize_as(b, k, s, last);
+    let d = decide(s, f, source, joined);
+    if d.refused {
+        return finalize_refused(b, 9);
     }
-    let join = is_joined(source);
-    if !join {
-        let last = unused_fee(goal, e, f);
-        return finalize_as(b, k, s, last);
-    }
-    finalize_attached(b, k, s, joined)
-}
-
-// The joined bundle is the variant from here on.
-fn finalize_attached(b: BookData, k: usize, s: SubmittedTx, joined: SpendBundle) -> FinalizeReply
-    requires { ⌜ Standing b k s × (soundBundle joined ≡ true) ⌝ }
-    ensures { λ r. ⌜ r ≡ finalizeReply b (runBook (attaching joined s) (view b)) ⌝ }
-{
-    let e = s.entry;
-    let last = attached_final(joined, e);
-    let entry = attach(e, joined);
-    let mut next = s;
-    next.entry = entry;
-    finalize_as(b, k, next, last)
-}
-
-// The submission is stored with the final fingerprint in its live attempt.
-fn finalize_as(
-    mut b: BookData,
-    k: usize,
-    s: SubmittedTx,
-    last: FinalizedSubmission,
-) -> FinalizeReply
-    requires { ⌜ Normal b × (k < length (view b .submitted)) ⌝ }
-    ensures { λ r. ⌜ r ≡ finalizedReply b k s last ⌝ }
-{
-    let f = last.variant_fingerprint;
-    let old = s.slots;
-    let slots = finalized(old, f);
-    let mut next = s;
-    next.slots = slots;
+    let last = d.last;
+    let next = d.next;
     b.submitted[k] = next;
     FinalizeReply {
         answer: CallAnswer::Done,

@@ -1,14 +1,20 @@
 use borrow.Author.Needs.{needs}
+use mathlib.Core.Bool.{true}
 use mathlib.Core.Path.{refl, sym, ap, _∙_}
 use borrow.Author.Tests.{not-true, not-false}
 use Rattle.book_data.specs.Model.{view}
+use Rattle.book_data.specs.declared.BookData.{BookData}
 use Rattle.rules.specs.Calls.FinalizeAttempt.{finalizeLive}
 use Rattle.replies.specs.Reply.{finalizeReply}
 use Rattle.replies.specs.Values.{sourceOf}
+use Rattle.replies.specs.declared.FinalizeReply.{FinalizeReply}
+use Rattle.replies.specs.declared.CallAnswer.the-variants.{Done}
 use Rattle.book_cells.specs.Normal.{sound-normal}
+use Rattle.book_change.specs.ChangeLaws.{store-is}
 use Rattle.attempt_answers.specs.Answers.{compared, of-read}
 use Rattle.attempt_answers.specs.Stored.{read-at, within-16}
 use Rattle.finalize_call.specs.Tests.{live-finalised, live-invalid, live-other, live-on}
+use Rattle.finalize_call.specs.Decided.{decided-refused, decided-stored}
 use Rattle.finalize_call.proofs.finalize_live.Statement.{statement}
 use Rattle.finalize_call.proofs.finalize_live.Tie as tie
 
@@ -34,17 +40,27 @@ returns-3 c = let z = c .before .before .before .before .before .before .before 
     (live-other (sourceOf (z .args .source)) (z .args .joined) _ (view (z .args .t1)) (c .before .before .before .before .before .before .before .before .before .before .if1 .left) (sym (c .before .before .before .before .before .before .before .before .validate .ensures) ∙ not-false _ (c .before .before .before .before .before .before .before .if2 .left))
     (compared (c .before .before .same32 .ensures) (c .before .before .before .before .before .before .current-variant-fingerprint .ensures) refl (not-true _ (c .before .if3 .taken)))))
 
-finalize-with-requires : tie.Need-finalize-with-requires
-finalize-with-requires c κs = let z = c .before .before .before .before .before .before .before .before .before .before .before .before in
-    (record { standing = record { sound = z .pre .0; within = z .pre .1; read = (read-at (z .args .t1) (sound-normal (z .args .t1) (z .pre .0)) (z .args .k) (z .pre .1) _) }; current = c .before .before .before .before .before .current-variant-fingerprint .ensures }, z .pre .2)
+decide-requires : tie.Need-decide-requires
+decide-requires c κs = (c .before .before .before .before .before .current-variant-fingerprint .ensures, c .before .before .before .before .before .before .before .before .before .before .before .before .pre .2)
 
 returns-4 : tie.Need-returns-4
-returns-4 c = let z = c .before .before .before .before .before .before .before .before .before .before .before .before .before in
-    c .finalize-with .ensures
+returns-4 c = let z = c .before .before .before .before .before .before .before .before .before .before .before .before .before .before .before in
+    c .finalize-refused4 .ensures
+    ∙ decided-refused (z .args .t1) (z .args .k) _ (record { sound = z .pre .0; within = z .pre .1; read = read-at (z .args .t1) (sound-normal (z .args .t1) (z .pre .0)) (z .args .k) (z .pre .1) _ }) (sourceOf (z .args .source)) (z .args .joined) (c .before .before .decide .ensures) (c .before .if4 .taken)
     ∙ ap (finalizeReply (z .args .t1))
     (of-read (finalizeLive (sourceOf (z .args .source)) (z .args .joined)) (view (z .args .t1)) (read-at (z .args .t1) (sound-normal (z .args .t1) (z .pre .0)) (z .args .k) (z .pre .1) _)
-    (live-on (sourceOf (z .args .source)) (z .args .joined) _ (view (z .args .t1)) (c .before .before .before .before .before .before .before .before .before .before .if1 .left) (sym (c .before .before .before .before .before .before .before .before .validate .ensures) ∙ not-false _ (c .before .before .before .before .before .before .before .if2 .left))
-    (compared (c .before .before .same32 .ensures) (c .before .before .before .before .before .before .current-variant-fingerprint .ensures) refl (not-false _ (c .before .if3 .left)))))
+    (live-on (sourceOf (z .args .source)) (z .args .joined) _ (view (z .args .t1)) (c .before .before .before .before .before .before .before .before .before .before .before .before .if1 .left) (sym (c .before .before .before .before .before .before .before .before .before .before .validate .ensures) ∙ not-false _ (c .before .before .before .before .before .before .before .before .before .if2 .left))
+    (compared (c .before .before .before .before .same32 .ensures) (c .before .before .before .before .before .before .before .before .current-variant-fingerprint .ensures) refl (not-false _ (c .before .before .before .if3 .left)))))
+
+returns-5 : tie.Need-returns-5
+returns-5 c = let z = c .before .before .before .before .before .before .before .before .before .before .before .before .before .before .before .before in
+    let d = c .before .before .before .decide in
+    ap {B = FinalizeReply} (λ (x : BookData). record { answer = Done; present = true; finalized = d .result .last; book = x }) (store-is (z .args .t1) (sound-normal (z .args .t1) (z .pre .0)) (z .args .k) (d .result .next) (z .pre .1))
+    ∙ decided-stored (z .args .t1) (z .args .k) _ (record { sound = z .pre .0; within = z .pre .1; read = read-at (z .args .t1) (sound-normal (z .args .t1) (z .pre .0)) (z .args .k) (z .pre .1) _ }) (sourceOf (z .args .source)) (z .args .joined) (d .ensures) (c .before .before .if4 .left)
+    ∙ ap (finalizeReply (z .args .t1))
+    (of-read (finalizeLive (sourceOf (z .args .source)) (z .args .joined)) (view (z .args .t1)) (read-at (z .args .t1) (sound-normal (z .args .t1) (z .pre .0)) (z .args .k) (z .pre .1) _)
+    (live-on (sourceOf (z .args .source)) (z .args .joined) _ (view (z .args .t1)) (c .before .before .before .before .before .before .before .before .before .before .before .before .before .if1 .left) (sym (c .before .before .before .before .before .before .before .before .before .before .before .validate .ensures) ∙ not-false _ (c .before .before .before .before .before .before .before .before .before .before .if2 .left))
+    (compared (c .before .before .before .before .before .same32 .ensures) (c .before .before .before .before .before .before .before .before .before .current-variant-fingerprint .ensures) refl (not-false _ (c .before .before .before .before .if3 .left)))))
 
 pub finalize-live-spec : {M : Type 1} → statement M
 finalize-live-spec =
@@ -61,5 +77,9 @@ finalize-live-spec =
     (λ c κs. search needs)
     (λ c κs. search needs)
     returns-3
-    finalize-with-requires
-    returns-4)
+    decide-requires
+    (λ c κs. search needs)
+    returns-4
+    (λ c. let z = c .before .before .before .before .before .before .before .before .before .before .before .before .before .before .before .before in search (needs, within-16 (z .args .t1) (sound-normal (z .args .t1) (z .pre .0)) (z .args .k) (z .pre .1)))
+    (λ c. let z = c .before .before .before .before .before .before .before .before .before .before .before .before .before .before .before .before in search (needs, within-16 (z .args .t1) (sound-normal (z .args .t1) (z .pre .0)) (z .args .k) (z .pre .1)))
+    returns-5)
