@@ -1,13 +1,15 @@
 -- Every call's rules are paced, so for every call 10 goes by the paper's sentence.
 use Prim.Native.Nat.{ℕ, suc}
-use mathlib.Core.Bool.{Bool, true, false, cond, not, _&&_, _||_}
+use mathlib.Core.Bool.{Bool, true, false, cond, not, _&&_, _||_, true≢false}
 use mathlib.Core.List.{List, [], _∷_, map}
 use mathlib.Core.Option.{Option, none, some}
-use mathlib.Core.Path.{_≡_, refl}
+use mathlib.Core.Path.{_≡_, refl, ap, sym, _∙_}
 use native.Mathlib.Omega.{arith}
 use lib.Dec.{eqb, leb}
 use lib.ListN.{length}
 use Rattle.lists.specs.Bytes.{eqs}
+use borrow.Author.Tests.{eqb-true}
+use Rattle.lists.specs.Laws.{and-split}
 use Rattle.lists.specs.Lists.{anyb, filterb, flatMap, elemb, rising}
 use Rattle.coin_string.specs.CoinIds.{idListb, idsIn}
 use Rattle.coin_string.specs.CoinList.{coinsIn, coinListb}
@@ -25,14 +27,14 @@ use Rattle.book_data.specs.declared.SubmissionChainTerminality.{SubmissionChain
 use Rattle.book_data.specs.declared.SubmissionChainTerminality.the-variants.{Landed}
 use Rattle.book_data.specs.Model.{Book}
 use Rattle.book_data.specs.Sound.{readableBundle, soundDelivery, idOf}
-use Rattle.rules.specs.Books.{answerBook}
+use Rattle.rules.specs.Books.{callBook, answerBook}
 use Rattle.rules.specs.Call.{FeeSource, Call, Cause, Value}
 use Rattle.rules.specs.Calls.{rules}
 use Rattle.rules.specs.CoinLists.{encodeCoins}
 use Rattle.rules.specs.Doors.{idsOk}
 use Rattle.rules.specs.Keyed.{pick}
 use Rattle.rules.specs.Parts.{currentFingerprint, feeUnresolved, activeEntry, intentOf, validate}
-use Rattle.rules.specs.Rule.{done, DrainedSubmission, reopen, revise, replay, Rule, undo, stop, look, act, turn, _>>=_, _>>_, step, Outcome, ended, undone, stopped, logged, guarded, grows, full, run, refused, answered}
+use Rattle.rules.specs.Rule.{done, DrainedSubmission, reopen, revise, replay, Rule, undo, stop, look, act, turn, _>>=_, _>>_, step, Outcome, ended, undone, stopped, logged, guarded, grows, full, run, Answer, answer, refused, answered, left}
 use Rattle.rules.specs.Steps.{onBook, runBook}
 use Rattle.rules.specs.Steps.Slots.{resolved}
 use Rattle.rules.specs.Calls.AbandonAttempt.{abandonLive, abandonAttempt}
@@ -60,7 +62,7 @@ use Rattle.rules.specs.Calls.RetainSubmitted.{toRemove, retainSubmitted}
 use Rattle.rules.specs.Calls.StopAttempt.{stopLive, stopAttempt}
 use Rattle.rule_laws.specs.Sound.Facts.{short-of}
 use Rattle.rule_laws.specs.Sound.Run.{SoundBook}
-use Rattle.rule_laws.specs.StepRule.Free.{runFree, booksAfter, isRefusal, PacedTo, Settled}
+use Rattle.rule_laws.specs.StepRule.Free.{runFree, booksAfter, isRefusal, turnsAway, PacedTo, Settled}
 use Rattle.rule_laws.specs.StepRule.Paced.{step-rule}
 
 no-shrink : (g : Bool) → (g && false) ≡ false
@@ -347,33 +349,94 @@ pub full-by-steps : (encode : Book → List ℕ) (c : Call) (b : Book) → Sound
 full-by-steps encode c b s = step-rule false (rules encode c) b (paced encode c) (short-of b (s .fits))
 
 -- ---- the numbers
-abbrev Numbered : {A : Type 0} → Outcome Book A → Type 0
-Numbered (ended b xs a) = Unit {0}
-Numbered (undone n) = isRefusal n ≡ true
-Numbered (stopped b xs n) = isRefusal n ≡ true
+-- turned away by a number that `ok` allows, or stopped by 11, or neither
+abbrev Numbered : {A : Type 0} → (ℕ → Bool) → Outcome Book A → Type 0
+Numbered ok (ended b xs a) = Unit {0}
+Numbered ok (undone n) = ok n ≡ true
+Numbered ok (stopped b xs n) = n ≡ 11
 
-numbered-logged : {A : Type 0} (t : Bool) (xs : List DrainedSubmission) (k : Outcome Book A) → Numbered k → Numbered (guarded t (logged xs k))
-numbered-logged true xs k h = refl
-numbered-logged false xs (ended b ys a) h = h
-numbered-logged false xs (undone n) h = h
-numbered-logged false xs (stopped b ys n) h = h
+numbered-logged : {A : Type 0} (ok : ℕ → Bool) (xs : List DrainedSubmission) (k : Outcome Book A) → Numbered ok k → Numbered ok (logged xs k)
+numbered-logged ok xs (ended b ys a) h = h
+numbered-logged ok xs (undone n) h = h
+numbered-logged ok xs (stopped b ys n) h = h
 
-numbered : {A : Type 0} (P : Bool → A → Type 0) (g : Bool) (r : Rule A) (b : Book) → PacedTo P g r → Numbered (runBook r b)
+numbered-guarded : {A : Type 0} (t : Bool) (k : Outcome Book A) → Numbered isRefusal k → Numbered isRefusal (guarded t k)
+numbered-guarded true k h = refl
+numbered-guarded false k h = h
+
+-- 10 is not among what the rules may say
+not-ten : turnsAway 10 ≡ false
+not-ten = refl
+
+never-ten : (n : ℕ) → turnsAway n ≡ true → eqb n 10 ≡ false
+never-ten n h = go (eqb n 10) refl
+  where
+    go : (t : Bool) → eqb n 10 ≡ t → t ≡ false
+    go true e = absurd (true≢false (sym h ∙ ap turnsAway (eqb-true n 10 e) ∙ not-ten))
+    go false e = refl
+
+is-refusal : (n : ℕ) → turnsAway n ≡ true → isRefusal n ≡ true
+is-refusal n h =
+    let u = and-split (isRefusal n && not (eqb n 10)) (not (eqb n 11)) h in
+    and-split (isRefusal n) (not (eqb n 10)) (u .0) .0
+
+numbered : {A : Type 0} (P : Bool → A → Type 0) (g : Bool) (r : Rule A) (b : Book) → PacedTo P g r → Numbered isRefusal (runBook r b)
 unfolding run
 numbered P g (done a) b p = tt
-numbered P g (undo n) b p = p .1
+numbered P g (undo n) b p = is-refusal n (p .1)
 numbered P g (stop n) b p = p
 numbered P g (look k) b p = numbered P g (k b) b (p b)
 numbered P g (act q r) b p =
-    numbered-logged (grows q && full (onBook q b .after)) (onBook q b .out) (runBook r (onBook q b .after)) (numbered P (g || grows q) r (onBook q b .after) (p .1))
+    let c = onBook q b .after in
+    numbered-guarded (grows q && full c) (logged (onBook q b .out) (runBook r c))
+    (numbered-logged isRefusal (onBook q b .out) (runBook r c) (numbered P (g || grows q) r c (p .1)))
 numbered P g (turn r) b p = numbered P false r b p
+
+-- the unlimited rules never say 10
+numbered-free : {A : Type 0} (P : Bool → A → Type 0) (g : Bool) (r : Rule A) (b : Book) → PacedTo P g r → Numbered turnsAway (runFree r b)
+unfolding runFree
+numbered-free P g (done a) b p = tt
+numbered-free P g (undo n) b p = p .1
+numbered-free P g (stop n) b p = p
+numbered-free P g (look k) b p = numbered-free P g (k b) b (p b)
+numbered-free P g (act q r) b p =
+    numbered-logged turnsAway (onBook q b .out) (runFree r (onBook q b .after)) (numbered-free P (g || grows q) r (onBook q b .after) (p .1))
+numbered-free P g (turn r) b p = numbered-free P false r b p
+
+abbrev pub refusedBy : {A : Type 0} → ℕ → Answer A → Bool
+refusedBy n (answer xs a) = false
+refusedBy n (refused m) = eqb m n
+
+-- "A call is refused as full exactly if, after some step of the unlimited rules, retained, queue or retirements exceed their limit": for
+-- no other reason, since its rules do not say 10 themselves
+pub refused-full : (encode : Book → List ℕ) (c : Call) (b : Book) → SoundBook b
+    → refusedBy 10 (answerBook encode c b) ≡ anyb full (booksAfter (rules encode c) b)
+unfolding answerBook
+refused-full encode c b s = ap (λ (k : Outcome Book Value). refusedBy 10 (answered k)) (full-by-steps encode c b s)
+    ∙ go (anyb full (booksAfter (rules encode c) b)) (runFree (rules encode c) b) (numbered-free Settled false (rules encode c) b (paced encode c))
+  where
+    go : (t : Bool) (k : Outcome Book Value) → Numbered turnsAway k → refusedBy 10 (answered (guarded t k)) ≡ t
+    go true k h = refl
+    go false (ended b′ xs v) h = refl
+    go false (undone n) h = never-ten n h
+    go false (stopped b′ xs n) h = ap (λ (m : ℕ). eqb m 10) h
 
 -- behind the door for 1 a call is refused by a number from 2 to 12 or not at all
 pub refused-by : (encode : Book → List ℕ) (c : Call) (b : Book) (n : ℕ) → answerBook encode c b ≡ refused n → isRefusal n ≡ true
 unfolding answerBook
 refused-by encode c b n e = go (runBook (rules encode c) b) (numbered Settled false (rules encode c) b (paced encode c)) e
   where
-    go : (k : Outcome Book Value) → Numbered k → answered k ≡ refused n → isRefusal n ≡ true
+    go : (k : Outcome Book Value) → Numbered isRefusal k → answered k ≡ refused n → isRefusal n ≡ true
     go (ended b′ xs v) h q = absurd (let z : _≡_ {A = ℕ} 0 1 = cc in omega arith)
     go (undone m) h q = let z : m ≡ n = cc in rw z at h
-    go (stopped b′ xs m) h q = let z : m ≡ n = cc in rw z at h
+    go (stopped b′ xs m) h q = let z : m ≡ n = cc in ap isRefusal (sym z ∙ h)
+
+-- "All leave book and buffers unchanged, but 11"
+pub refused-leaves : (encode : Book → List ℕ) (c : Call) (b : Book) (n : ℕ) → answerBook encode c b ≡ refused n → eqb n 11 ≡ false → callBook encode c b ≡ b
+unfolding answerBook callBook
+refused-leaves encode c b n e m = go (runBook (rules encode c) b) (numbered Settled false (rules encode c) b (paced encode c)) e
+  where
+    go : (k : Outcome Book Value) → Numbered isRefusal k → answered k ≡ refused n → left b k ≡ b
+    go (ended b′ xs v) h q = absurd (let z : _≡_ {A = ℕ} 0 1 = cc in omega arith)
+    go (undone l) h q = refl
+    go (stopped b′ xs l) h q = let z : l ≡ n = cc in absurd (true≢false (sym (ap (λ (x : ℕ). eqb x 11) (sym z ∙ h)) ∙ m))

@@ -1,9 +1,9 @@
 -- The unlimited rules, and the books that they leave after each candidate or id.
 use Prim.Native.Nat.{ℕ}
-use mathlib.Core.Bool.{Bool, true, false, _&&_, _||_}
+use mathlib.Core.Bool.{Bool, true, false, not, _&&_, _||_}
 use mathlib.Core.List.{List, [], _∷_}
 use mathlib.Core.Path.{_≡_}
-use lib.Dec.{leb}
+use lib.Dec.{eqb, leb}
 use Rattle.book_data.specs.Model.{Book}
 use Rattle.rules.specs.Rule.{done, Note, enqueue, unqueue, retire, unreplay, unqueueAll, unretireAll, beginEpoch, endEpoch, Step, note, revise, retain, emit, remove, setAside, finalise, replay, Rule, undo, stop, look, act, turn, Outcome, ended, undone, stopped, logged, grows}
 use Rattle.rules.specs.Steps.{onBook}
@@ -48,16 +48,20 @@ shrinks (setAside i) = false
 shrinks (finalise i v) = false
 shrinks (replay i) = false
 
--- the numbers by which the rules of a call may turn it away: 1 is the door's and 13 the reader's
+-- the numbers by which a call may be refused behind the door: 1 is the door's and 13 the reader's
 abbrev pub isRefusal : ℕ → Bool
 isRefusal n = leb 2 n && leb n 12
 
+-- those that its rules may give without a trace: 10 comes from the limits alone, and 11 leaves what was done before it
+abbrev pub turnsAway : ℕ → Bool
+turnsAway n = isRefusal n && not (eqb n 10) && not (eqb n 11)
+
 -- rules in which no list gets shorter between a growth and the end of its candidate or id; P is asked where they end, and the Bool says
--- whether a list has grown since the last such end. They are refused by the paper's numbers alone
+-- whether a list has grown since the last such end. They say none but the paper's numbers, and never 10
 abbrev pub PacedTo : {A : Type 0} → (Bool → A → Type 0) → Bool → Rule A → Type 0
 PacedTo P g (done a) = P g a
-PacedTo P g (undo n) = (g ≡ false) × (isRefusal n ≡ true)
-PacedTo P g (stop n) = isRefusal n ≡ true
+PacedTo P g (undo n) = (g ≡ false) × (turnsAway n ≡ true)
+PacedTo P g (stop n) = n ≡ 11
 PacedTo P g (look k) = (b : Book) → PacedTo P g (k b)
 PacedTo P g (act p r) = ((g && shrinks p) ≡ false) × PacedTo P (g || grows p) r
 PacedTo P g (turn r) = PacedTo P false r
