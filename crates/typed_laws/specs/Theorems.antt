@@ -1,6 +1,5 @@
 -- Every call with arguments within their types leaves a book within the types; so the archive of every list of calls is read back.
 use Prim.Native.Nat.{ℕ, _≤_}
-use mathlib.Core.Bool.{Bool, true, false, _&&_}
 use mathlib.Core.List.{List, [], _∷_}
 use mathlib.Core.Path.{_≡_, sym, ap, _∙_}
 use native.Mathlib.Omega.{arith}
@@ -18,44 +17,22 @@ use Rattle.rules.specs.Books.{callBook, bookAfter}
 use Rattle.rules.specs.Call.{Call}
 use Rattle.rules.specs.Calls.{rules}
 use Rattle.rules.specs.Opened.{opened}
-use Rattle.rules.specs.Rule.{DrainedSubmission, done, undo, stop, look, act, turn, Rule, Outcome, ended, undone, stopped, logged, guarded, grows, full, run, left}
-use Rattle.rules.specs.Steps.{onBook, runBook}
+use Rattle.rules.specs.Rule.{Rule, Outcome, ended, undone, stopped, left}
+use Rattle.rules.specs.Steps.{runBook}
+use Rattle.rule_laws.specs.Held.{Leaves, held-run}
 use Rattle.rule_laws.specs.Sound.Run.{SoundBook, sound-after, sound-opened}
 use Rattle.typed_laws.specs.Calls.{typed}
 use Rattle.typed_laws.specs.Steps.{typed-step}
-use Rattle.typed_laws.specs.Typing.{Within, TypedTo, TypedCall}
-
-abbrev Leaves : {A : Type 0} → Outcome Book A → Type 0
-Leaves (ended b xs a) = Within b
-Leaves (undone n) = Unit {0}
-Leaves (stopped b xs n) = Within b
-
-leaves-logged : {A : Type 0} (t : Bool) (xs : List DrainedSubmission) (k : Outcome Book A) → Leaves k → Leaves (guarded t (logged xs k))
-leaves-logged true xs k h = tt
-leaves-logged false xs (ended b ys a) h = h
-leaves-logged false xs (undone n) h = h
-leaves-logged false xs (stopped b ys n) h = h
-
-leaves : {A : Type 0} (P : A → Type 0) (r : Rule A) (b : Book) → Within b → TypedTo P b r → Leaves (runBook r b)
-unfolding run
-leaves P (done a) b w h = w
-leaves P (undo n) b w h = tt
-leaves P (stop n) b w h = w
-leaves P (look k) b w h = leaves P (k b) b w h
-leaves P (act p r) b w h =
-    let c = onBook p b .after in
-    let x = typed-step p b w (h .0) in
-    leaves-logged (grows p && full c) (onBook p b .out) (runBook r c) (leaves P r c x (h .1 c x))
-leaves P (turn r) b w h = leaves P r b w h
+use Rattle.typed_laws.specs.Typing.{Within, TypedStep, AnyStop, TypedTo, TypedCall}
 
 -- the book that rules leave
 pub within-left : {A : Type 0} (P : A → Type 0) (r : Rule A) (b : Book) → Within b → TypedTo P b r → Within (left b (runBook r b))
-within-left {A} P r b w h = go (runBook r b) (leaves P r b w h)
+within-left {A} P r b w h = go (runBook r b) (held-run Within TypedStep AnyStop typed-step P r b w h)
   where
-    go : (k : Outcome Book A) → Leaves k → Within (left b k)
+    go : (k : Outcome Book A) → Leaves Within TypedStep AnyStop k → Within (left b k)
     go (ended c xs a) x = x
     go (undone n) x = w
-    go (stopped c xs n) x = x
+    go (stopped c xs n) x = x .0
 
 pub within-call : (encode : Book → List ℕ) (c : Call) (b : Book) → TypedCall c → Within b → Within (callBook encode c b)
 unfolding callBook

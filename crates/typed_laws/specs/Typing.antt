@@ -1,12 +1,14 @@
 -- A book within the program's types, and rules whose steps keep it there.
 use Prim.Native.Nat.{ℕ, suc}
-use mathlib.Core.Bool.{Bool, true, false, cond}
+use mathlib.Core.Bool.{Bool, cond}
 use mathlib.Core.List.{List}
 use Rattle.book_data.specs.declared.PendingDelivery.{PendingDelivery}
 use Rattle.book_data.specs.Model.{Book}
 use Rattle.book_data.specs.Typed.{Every, U64, Bytes, TypedHeight, TypedOptionalHeight, TypedBundle, TypedIntent, TypedSubmitted, TypedDelivery}
 use Rattle.rules.specs.Call.{FeeSource, Call, Value}
-use Rattle.rules.specs.Rule.{Revision, tighten, acknowledge, attach, terminality, reopen, Note, enqueue, unqueue, retire, unreplay, unqueueAll, unretireAll, beginEpoch, endEpoch, Step, note, revise, retain, emit, remove, setAside, finalise, replay, Rule, done, undo, stop, look, act, turn, _>>=_}
+use Rattle.rules.specs.Rule.{Revision, tighten, acknowledge, attach, terminality, reopen, Note, enqueue, unqueue, retire, unreplay, unqueueAll, unretireAll, beginEpoch, endEpoch, Step, note, revise, retain, emit, remove, setAside, finalise, replay, Rule, _>>=_}
+use Rattle.rule_laws.specs.Held
+use Rattle.rule_laws.specs.Held.{HeldTo, held-bind, held-cond}
 
 -- each number is within its type and each array has its length; the lists' own lengths are the sound book's affair
 pub record Within (b : Book) : Type 0 where
@@ -46,15 +48,13 @@ TypedStep (setAside i) b = Unit {0}
 TypedStep (finalise i v) b = Bytes 32 v
 TypedStep (replay i) b = U64 i
 
--- rules that keep the book b within the types; P is asked where they end. Behind a step the book is any that is within them: a rule that
--- needs to know more of it looks again
+-- nothing is asked of a stop
+abbrev pub AnyStop : ℕ → Book → Type 0
+AnyStop n b = Unit {0}
+
+-- rules that keep the book b within the types; P is asked where they end
 abbrev pub TypedTo : {A : Type 0} → (A → Type 0) → Book → Rule A → Type 0
-TypedTo P b (done a) = P a
-TypedTo P b (undo n) = Unit {0}
-TypedTo P b (stop n) = Unit {0}
-TypedTo P b (look k) = TypedTo P b (k b)
-TypedTo P b (act p r) = TypedStep p b × ((c : Book) → Within c → TypedTo P c r)
-TypedTo P b (turn r) = TypedTo P b r
+TypedTo = HeldTo Within TypedStep AnyStop
 
 -- what a call is handed is within its types; ids that are only looked for may be any
 abbrev pub TypedCall : Call → Type 0
@@ -88,16 +88,10 @@ TypedCall (Call.WriteArchive room) = Unit {0}
 
 -- ---- rules one after the other
 abbrev pub Then : {A B : Type 0} → (B → Type 0) → (A → Rule B) → A → Type 0
-Then P f a = (c : Book) → Within c → TypedTo P c (f a)
+Then = Held.Then Within TypedStep AnyStop
 
 pub typed-bind : {A B : Type 0} (P : B → Type 0) (m : Rule A) (f : A → Rule B) (b : Book) → Within b → TypedTo (Then P f) b m → TypedTo P b (m >>= f)
-typed-bind P (done a) f b w h = h b w
-typed-bind P (undo n) f b w h = tt
-typed-bind P (stop n) f b w h = tt
-typed-bind P (look k) f b w h = typed-bind P (k b) f b w h
-typed-bind P (act p r) f b w h = (h .0, λ c x. typed-bind P r f c x (h .1 c x))
-typed-bind P (turn r) f b w h = typed-bind P r f b w h
+typed-bind = held-bind Within TypedStep AnyStop
 
 pub typed-cond : {A : Type 0} (P : A → Type 0) (b : Book) (t : Bool) (x y : Rule A) → TypedTo P b x → TypedTo P b y → TypedTo P b (cond t x y)
-typed-cond P b true x y h k = h
-typed-cond P b false x y h k = k
+typed-cond P b t x y h k = held-cond Within TypedStep AnyStop P b t x y (λ e. h) (λ e. k)

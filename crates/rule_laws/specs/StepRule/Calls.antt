@@ -62,7 +62,7 @@ use Rattle.rules.specs.Calls.RetainSubmitted.{toRemove, retainSubmitted}
 use Rattle.rules.specs.Calls.StopAttempt.{stopLive, stopAttempt}
 use Rattle.rule_laws.specs.Sound.Facts.{short-of}
 use Rattle.rule_laws.specs.Sound.Run.{SoundBook}
-use Rattle.rule_laws.specs.StepRule.Free.{runFree, booksAfter, isRefusal, turnsAway, PacedTo, Settled}
+use Rattle.rule_laws.specs.StepRule.Free.{runFree, booksAfter, isRefusal, undoes, turnsAway, PacedTo, Settled}
 use Rattle.rule_laws.specs.StepRule.Paced.{step-rule}
 
 no-shrink : (g : Bool) → (g && false) ≡ false
@@ -350,7 +350,7 @@ full-by-steps encode c b s = step-rule false (rules encode c) b (paced encode c)
 
 -- ---- the numbers
 -- turned away by a number that `ok` allows, or stopped by 11, or neither
-abbrev Numbered : {A : Type 0} → (ℕ → Bool) → Outcome Book A → Type 0
+abbrev pub Numbered : {A : Type 0} → (ℕ → Bool) → Outcome Book A → Type 0
 Numbered ok (ended b xs a) = Unit {0}
 Numbered ok (undone n) = ok n ≡ true
 Numbered ok (stopped b xs n) = n ≡ 11
@@ -360,7 +360,7 @@ numbered-logged ok xs (ended b ys a) h = h
 numbered-logged ok xs (undone n) h = h
 numbered-logged ok xs (stopped b ys n) h = h
 
-numbered-guarded : {A : Type 0} (t : Bool) (k : Outcome Book A) → Numbered isRefusal k → Numbered isRefusal (guarded t k)
+numbered-guarded : {A : Type 0} (t : Bool) (k : Outcome Book A) → Numbered undoes k → Numbered undoes (guarded t k)
 numbered-guarded true k h = refl
 numbered-guarded false k h = h
 
@@ -375,22 +375,20 @@ never-ten n h = go (eqb n 10) refl
     go true e = absurd (true≢false (sym h ∙ ap turnsAway (eqb-true n 10 e) ∙ not-ten))
     go false e = refl
 
-is-refusal : (n : ℕ) → turnsAway n ≡ true → isRefusal n ≡ true
-is-refusal n h =
-    let u = and-split (isRefusal n && not (eqb n 10)) (not (eqb n 11)) h in
-    and-split (isRefusal n) (not (eqb n 10)) (u .0) .0
-
-numbered : {A : Type 0} (P : Bool → A → Type 0) (g : Bool) (r : Rule A) (b : Book) → PacedTo P g r → Numbered isRefusal (runBook r b)
+numbered : {A : Type 0} (P : Bool → A → Type 0) (g : Bool) (r : Rule A) (b : Book) → PacedTo P g r → Numbered undoes (runBook r b)
 unfolding run
 numbered P g (done a) b p = tt
-numbered P g (undo n) b p = is-refusal n (p .1)
+numbered P g (undo n) b p = and-split (undoes n) (not (eqb n 10)) (p .1) .0
 numbered P g (stop n) b p = p
 numbered P g (look k) b p = numbered P g (k b) b (p b)
 numbered P g (act q r) b p =
     let c = onBook q b .after in
     numbered-guarded (grows q && full c) (logged (onBook q b .out) (runBook r c))
-    (numbered-logged isRefusal (onBook q b .out) (runBook r c) (numbered P (g || grows q) r c (p .1)))
+    (numbered-logged undoes (onBook q b .out) (runBook r c) (numbered P (g || grows q) r c (p .1)))
 numbered P g (turn r) b p = numbered P false r b p
+
+pub numbered-call : (encode : Book → List ℕ) (c : Call) (b : Book) → Numbered undoes (runBook (rules encode c) b)
+numbered-call encode c b = numbered Settled false (rules encode c) b (paced encode c)
 
 -- the unlimited rules never say 10
 numbered-free : {A : Type 0} (P : Bool → A → Type 0) (g : Bool) (r : Rule A) (b : Book) → PacedTo P g r → Numbered turnsAway (runFree r b)
@@ -424,19 +422,19 @@ refused-full encode c b s = ap (λ (k : Outcome Book Value). refusedBy 10 (answe
 -- behind the door for 1 a call is refused by a number from 2 to 12 or not at all
 pub refused-by : (encode : Book → List ℕ) (c : Call) (b : Book) (n : ℕ) → answerBook encode c b ≡ refused n → isRefusal n ≡ true
 unfolding answerBook
-refused-by encode c b n e = go (runBook (rules encode c) b) (numbered Settled false (rules encode c) b (paced encode c)) e
+refused-by encode c b n e = go (runBook (rules encode c) b) (numbered-call encode c b) e
   where
-    go : (k : Outcome Book Value) → Numbered isRefusal k → answered k ≡ refused n → isRefusal n ≡ true
+    go : (k : Outcome Book Value) → Numbered undoes k → answered k ≡ refused n → isRefusal n ≡ true
     go (ended b′ xs v) h q = absurd (let z : _≡_ {A = ℕ} 0 1 = cc in omega arith)
-    go (undone m) h q = let z : m ≡ n = cc in rw z at h
+    go (undone m) h q = let z : m ≡ n = cc in and-split (isRefusal n) (not (eqb n 11)) (rw z at h) .0
     go (stopped b′ xs m) h q = let z : m ≡ n = cc in ap isRefusal (sym z ∙ h)
 
 -- "All leave book and buffers unchanged, but 11"
 pub refused-leaves : (encode : Book → List ℕ) (c : Call) (b : Book) (n : ℕ) → answerBook encode c b ≡ refused n → eqb n 11 ≡ false → callBook encode c b ≡ b
 unfolding answerBook callBook
-refused-leaves encode c b n e m = go (runBook (rules encode c) b) (numbered Settled false (rules encode c) b (paced encode c)) e
+refused-leaves encode c b n e m = go (runBook (rules encode c) b) (numbered-call encode c b) e
   where
-    go : (k : Outcome Book Value) → Numbered isRefusal k → answered k ≡ refused n → left b k ≡ b
+    go : (k : Outcome Book Value) → Numbered undoes k → answered k ≡ refused n → left b k ≡ b
     go (ended b′ xs v) h q = absurd (let z : _≡_ {A = ℕ} 0 1 = cc in omega arith)
     go (undone l) h q = refl
     go (stopped b′ xs l) h q = let z : l ≡ n = cc in absurd (true≢false (sym (ap (λ (x : ℕ). eqb x 11) (sym z ∙ h)) ∙ m))

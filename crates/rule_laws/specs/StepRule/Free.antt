@@ -52,9 +52,13 @@ shrinks (replay i) = false
 abbrev pub isRefusal : ℕ → Bool
 isRefusal n = leb 2 n && leb n 12
 
--- those that its rules may give without a trace: 10 comes from the limits alone, and 11 leaves what was done before it
+-- those that leave no trace: behind an 11 stays what was done before it
+abbrev pub undoes : ℕ → Bool
+undoes n = isRefusal n && not (eqb n 11)
+
+-- those that the rules may say so: 10 comes from the limits alone
 abbrev pub turnsAway : ℕ → Bool
-turnsAway n = isRefusal n && not (eqb n 10) && not (eqb n 11)
+turnsAway n = undoes n && not (eqb n 10)
 
 -- rules in which no list gets shorter between a growth and the end of its candidate or id; P is asked where they end, and the Bool says
 -- whether a list has grown since the last such end. They say none but the paper's numbers, and never 10
