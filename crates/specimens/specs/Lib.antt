@@ -1,2 +1,4 @@
+pub mod Play
+pub mod Pieces
 pub mod Table
 pub mod Further
