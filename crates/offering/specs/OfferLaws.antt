@@ -6,16 +6,15 @@ use mathlib.Core.Path.{_≡_, refl, ap, sym, _∙_}
 use native.Mathlib.Omega.{arith}
 use lib.ListN.{length, getD}
 use borrow.Author.Tests.{lt-ltb, le-ltb}
-use Rattle.lists.specs.Laws.{all-at, and-both}
+use Rattle.lists.specs.Laws.{all-at}
 use Rattle.book_data.specs.declared.BookData.{BookData}
 use Rattle.book_data.specs.declared.DeliveryTrigger.{DeliveryTrigger}
 use Rattle.book_data.specs.declared.PendingDelivery.{PendingDelivery}
 use Rattle.book_data.specs.declared.SubmissionDeliveryGoal.{SubmissionDeliveryGoal}
-use Rattle.book_data.specs.declared.SubmittedEntry.{SubmittedEntry}
 use Rattle.book_data.specs.declared.SubmittedTx.{SubmittedTx}
 use Rattle.book_data.specs.Model.{Book, view, back}
-use Rattle.book_data.specs.Sound.{soundb, soundIntent, soundEntry, soundSubmitted, soundDelivery}
-use Rattle.book_data.specs.SoundLaws.{sound, sound-entry, sound-submitted}
+use Rattle.book_data.specs.Sound.{soundb, soundSubmitted, soundDelivery}
+use Rattle.book_data.specs.SoundLaws.{sound, sound-submitted}
 use Rattle.book_data.specs.Zero.{zeroSubmitted}
 use Rattle.book_cells.specs.Normal.{sound-normal, pending-are}
 use Rattle.book_cells.specs.declared.Place.the-variants.{At, Nothing}
@@ -25,6 +24,7 @@ use Rattle.rules.specs.Keyed.{pick}
 use Rattle.rules.specs.Rule.{done, enqueue, note, step, Rule, ended, undone, full, run}
 use Rattle.rules.specs.Steps.{noteBook, onBook, runBook}
 use Rattle.rules.specs.Calls.Offer.{isQueued, deliverable, redelivery, offerTo, offer}
+use Rattle.rule_laws.specs.Guards.Calls.{redelivery-sound}
 use Rattle.sound_steps.specs.Acts.{act-full, act-silent}
 use Rattle.sound_steps.specs.Holds.{Holds, holds-sound, holds-view, holds-soundb, holds-step}
 use Rattle.sound_steps.specs.Room.{full-enqueue}
@@ -58,11 +58,6 @@ module _ (b : BookData) (h : soundb b ≡ true) (d : PendingDelivery) (s : sound
             act-silent (note (enqueue d)) (done tt) (view b) free refl
             ∙ ap (λ (m : Book). ended m [] tt) (sym (holds-view k));
       }
-
--- a retained submission's own intent is sound
-pub redelivery-sound : (trigger : DeliveryTrigger) (g : SubmissionDeliveryGoal) (e : SubmittedEntry) → soundEntry e ≡ true → soundDelivery (redelivery trigger g e) ≡ true
-unfolding soundDelivery soundIntent redelivery
-redelivery-sound trigger g e h = let s = sound-entry e h in and-both (s .base) (s .fee-intent)
 
 -- ---- an offer, by the place of the submission and the two tests
 module _ (b : BookData) (h : soundb b ≡ true) (i : ℕ) (trigger : DeliveryTrigger) (g : SubmissionDeliveryGoal) where
