@@ -10,11 +10,11 @@ use Rattle.book_data.specs.declared.OptionalId.the-variants.{NoId}
 use Rattle.book_data.specs.declared.SubmissionChainTerminality.the-variants.{Active, InputSpent, Landed}
 use Rattle.book_data.specs.Sound.{soundLists}
 use Rattle.book_data.specs.Zero.{zeroBundle, zeroFeeIntent}
-use Rattle.rules.specs.Call.{NoSource, Joined, Call, IdCollides, OutputsUnreadable, ExpectedOutputs, SubmissionIdSource, Applied, Stale, noValue, failures, finalized, feeIntentIs, statusIs, idsAre, written}
+use Rattle.rules.specs.Call.{NoSource, Joined, SourceFailed, Call, IdCollides, OutputsUnreadable, ExpectedOutputs, SubmissionIdSource, Applied, Stale, noValue, failures, finalized, feeIntentIs, statusIs, idsAre, written}
 use Rattle.rules.specs.Opened.{opened}
 use Rattle.rules.specs.Rule.{Initial, Other, answer, refused}
 use Rattle.rules.specs.Examples.Pieces.{height, byId, delivery, drained, failing, entryOf, spending, seventhId, noCoins, liveSlot, seventh, feeOf3, feeOpen, drainedSlot, joinedEmpty, holding}
-use Rattle.specimens.specs.Pieces.{entryFor, payment, secondOutput, unreadable, failingAs, retaining, unattempted}
+use Rattle.specimens.specs.Pieces.{entryFor, attachedToBase, payment, secondOutput, unreadable, failingAs, retaining, unattempted}
 use Rattle.specimens.specs.Play.{play}
 use Rattle.specimens.specs.Table.{Row, listed, staged, given, wanted, specimensIn}
 
@@ -34,6 +34,23 @@ attempts =
           ∷ Call.FeeIntentForAttempt 5 ∷ Call.AcknowledgeAttempt 5 ∷ Call.RelinquishCompletedAttempt 5 ∷ Call.FinalizeAttempt 5 NoSource zeroBundle ∷ [];
       answers = answer [] (feeIntentIs (some feeOf3)) ∷ refused 6 ∷ answer [] (finalized (some joinedEmpty)) ∷ refused 5
           ∷ answer [] (feeIntentIs (some zeroFeeIntent)) ∷ answer [] (statusIs Applied) ∷ answer [] (statusIs Applied) ∷ answer [] (finalized none) ∷ [];
+      leaves = (6 ∷ []) ∷ (2 ∷ []) ∷ (1 ∷ []) ∷ (0 ∷ []) ∷ [] ∷ [] ∷ [] ∷ [];
+    } ∷ [])
+    -- finalising refused: 7, attached without a fee bundle; 8, drained with another bundle; 9, a fee source that is not asked for
+    ∷ listed (record {
+      start = holding (attachedToBase (entryFor 1 zeroBundle Active)) (drainedSlot 5) [];
+      calls = Call.FinalizeAttempt 5 NoSource zeroBundle ∷ [];
+      answers = refused 7 ∷ [];
+      leaves = (6 ∷ []) ∷ (2 ∷ []) ∷ (1 ∷ []) ∷ (0 ∷ []) ∷ [] ∷ [] ∷ [] ∷ [];
+    } ∷ record {
+      start = holding (entryFor 1 zeroBundle Active) (liveSlot 5) [];
+      calls = Call.FinalizeAttempt 5 SourceFailed zeroBundle ∷ [];
+      answers = refused 8 ∷ [];
+      leaves = (6 ∷ []) ∷ (2 ∷ []) ∷ (1 ∷ []) ∷ (0 ∷ []) ∷ [] ∷ [] ∷ [] ∷ [];
+    } ∷ record {
+      start = holding (entryFor 1 zeroBundle Active) (drainedSlot 5) [];
+      calls = Call.FinalizeAttempt 5 SourceFailed zeroBundle ∷ [];
+      answers = refused 9 ∷ [];
       leaves = (6 ∷ []) ∷ (2 ∷ []) ∷ (1 ∷ []) ∷ (0 ∷ []) ∷ [] ∷ [] ∷ [] ∷ [];
     } ∷ [])
     -- InputSpent is rolled back where its input is live again, and Active after that report
@@ -102,7 +119,7 @@ drains =
     ∷ []
 
 pub attempts-hold : map given attempts ≡ map wanted attempts
-unfolding play height holding seventh feeOpen feeOf3 drainedSlot joinedEmpty zeroBundle spending liveSlot delivery byId drained seventhId noCoins zeroFeeIntent Fips.K Fips.H0 Fips.pad Fips.schedule Fips.round Fips.rounds Fips.plus Fips.hashed
+unfolding play height holding entryFor attachedToBase seventh feeOpen feeOf3 drainedSlot joinedEmpty zeroBundle spending liveSlot delivery byId drained seventhId noCoins zeroFeeIntent Fips.K Fips.H0 Fips.pad Fips.schedule Fips.round Fips.rounds Fips.plus Fips.hashed
 attempts-hold = refl
 
 pub chain-holds : map given chain ≡ map wanted chain
@@ -115,5 +132,5 @@ drains-hold = refl
 
 -- every list starts from a sound book
 pub further-sound : allb (λ s. soundLists (s .start)) (flatMap specimensIn (attempts ++ chain ++ drains)) ≡ true
-unfolding soundLists opened holding seventh feeOpen feeOf3 drainedSlot zeroBundle spending liveSlot zeroFeeIntent entryFor payment retaining unattempted
+unfolding soundLists opened holding seventh feeOpen feeOf3 drainedSlot zeroBundle spending liveSlot zeroFeeIntent entryFor attachedToBase payment retaining unattempted
 further-sound = refl

@@ -12,11 +12,12 @@ use Rattle.book_data.specs.declared.OptionalId.the-variants.{NoId}
 use Rattle.book_data.specs.declared.SubmissionDeliveryGoal.the-variants.{EnsureBroadcast}
 use Rattle.book_data.specs.declared.DeliveryTrigger.the-variants.{Protocol}
 use Rattle.book_data.specs.declared.SubmissionChainTerminality.{SubmissionChainTerminality}
-use Rattle.book_data.specs.declared.FeeResolution.the-variants.{NotRequested}
+use Rattle.book_data.specs.declared.FeeResolution.the-variants.{NotRequested, Attached}
 use Rattle.book_data.specs.Model.{Book}
 use Rattle.book_data.specs.Zero.{zeros, zeroOutput, zeroSpend, zeroFeeIntent, zeroHash, noSlots, baseVariant}
 use Rattle.rules.specs.Call.{Cause, Failure}
 use Rattle.rules.specs.Parts.{intentOf}
+use Rattle.rules.specs.Steps.Entry.{withStatus, withResolution}
 use Rattle.rules.specs.Examples.Pieces.{seventhId}
 
 -- a submission of this bundle
@@ -31,6 +32,10 @@ entryFor i s c = record {
   «wallet_acknowledged_variant» = zeroHash;
   status = record { «fee_resolution» = NotRequested; «chain_terminality» = c; expiry = NoHeight };
 }
+
+-- sound, but `validate` fails: the fee counts as attached and the variant is the base
+unfoldable pub attachedToBase : SubmittedEntry → SubmittedEntry
+attachedToBase e = withStatus (withResolution Attached (e .status)) e
 
 -- one spend, of the coin 07, that makes two coins, of the amounts 1 and 2
 unfoldable pub payment : SpendBundle
