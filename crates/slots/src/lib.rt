@@ -156,3 +156,12 @@ pub fn stop_in_place(s: &mut AttemptSlots)
 {
     *s = stopped(*s);
 }
+
+// The slots, lent to `stop_in_place` and handed back.
+pub fn stop_lent(s: AttemptSlots) -> AttemptSlots
+    ensures { λ r. ⌜ r ≡ slotsAside s ⌝ }
+{
+    let mut t = s;
+    stop_in_place(&mut t);
+    t
+}

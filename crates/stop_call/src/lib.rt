@@ -12,7 +12,7 @@ use book_data::Token;
 use book_sound::is_sound;
 use replies::StatusReply;
 use replies::SubmissionAttemptStatus;
-use slots::stopped;
+use slots::stop_lent;
 ghost use Prim.Native.Nat.{_<_};
 ghost use mathlib.Core.Bool.{true};
 ghost use mathlib.Core.Path.{_≡_};
@@ -52,7 +52,7 @@ fn stop_live(b: BookData, k: usize) -> StatusReply
 {
     let s = submitted_at(b, k);
     let old = s.slots;
-    let slots = stopped(old);
+    let slots = stop_lent(old);
     let mut next = s;
     next.slots = slots;
     let out = store_submitted(b, k, next);

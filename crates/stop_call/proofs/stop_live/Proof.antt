@@ -12,7 +12,7 @@ store-submitted-requires : tie.Need-store-submitted-requires
 store-submitted-requires c κs = (sound-normal (c .before .before .before .args .b) (c .before .before .before .pre .0), c .before .before .before .pre .1)
 
 returns : tie.Need-returns
-returns c = c .status-done .ensures ∙ stop-answer (c .before .before .before .before .before .args .b) (c .before .before .before .before .before .pre .0) (c .before .before .before .before .before .args .k) (c .before .before .before .before .before .pre .1) (c .before .before .before .before .submitted-at .ensures) (c .before .before .stopped .ensures) (c .before .store-submitted .ensures)
+returns c = c .status-done .ensures ∙ stop-answer (c .before .before .before .before .before .args .b) (c .before .before .before .before .before .pre .0) (c .before .before .before .before .before .args .k) (c .before .before .before .before .before .pre .1) (c .before .before .before .before .submitted-at .ensures) (c .before .before .stop-lent .ensures) (c .before .store-submitted .ensures)
 
 pub stop-live-spec : {M : Type 1} → statement M
 stop-live-spec =
