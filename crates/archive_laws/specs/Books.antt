@@ -26,20 +26,20 @@ use Rattle.book_data.specs.declared.SubmittedTx.{SubmittedTx}
 use Rattle.book_data.specs.declared.PendingDelivery.{PendingDelivery}
 use Rattle.archive_form.specs.Encode.{encodeSubmitted, encodeDelivery, encodeNumbers, encodeModel}
 use Rattle.archive_form.specs.Parse.{above, parseSubmitted, parseDelivery, parseRetired, parseReplayed, Numbers, parseNumbers, parseModel}
-use Rattle.archive_laws.specs.Cells.{every-from, from-every, every-test, test-every, every-map, every-both}
+use Rattle.archive_laws.specs.Cells.{six, every-from, from-every, every-test, test-every, every-map, every-both}
 use Rattle.archive_laws.specs.Parts.{height-lawful}
 use Rattle.archive_laws.specs.Entries.{GoodSubmitted, submitted-lawful, GoodDelivery, delivery-lawful}
 use Rattle.archive_laws.specs.Rules.{whole-from, from-whole, from-both, from-map, distinct-grow, distinct-last, distinct-start, keys-grow, keys-last, keys-start, Held, FreshSlots, slots-grow, slots-last, slots-start, rising-grow, rising-last, rising-start}
 
 -- ---- the numbers section
-record GoodNumbers (n : Numbers) : Type 0 where
+pub record GoodNumbers (n : Numbers) : Type 0 where
   pub token : n .token < 256 ^ 8
   pub id : n .id < 256 ^ 8
 
-encNumbers : Numbers → List ℕ
+unfoldable pub encNumbers : Numbers → List ℕ
 encNumbers n = be 1 2 ++ be 8 (n .token) ++ be 8 (n .id)
 
-numbers-lawful : Lawful GoodNumbers encNumbers parseNumbers
+pub numbers-lawful : Lawful GoodNumbers encNumbers parseNumbers
 unfolding encNumbers parseNumbers
 numbers-lawful =
     recode encNumbers (λ n x. ap (λ (l : List ℕ). be 1 2 ++ (be 8 (n .token) ++ l)) (append-nil (be 8 (n .id))) ∙ sym (append-assoc (be 1 2) (be 8 (n .token)) (be 8 (n .id))))
@@ -49,17 +49,17 @@ numbers-lawful =
     finish (record { token = t; id = i }) (((record { token = gt; id = gi }, sym (eqb-true k 2 (gk .1))), refl), refl) (λ n x j. record { token = x .0 .1 j; id = x .1 j })))))
 
 -- ---- retired and replayed ids
-abbrev GoodRetired : List ℕ → ℕ → Type 0
+abbrev pub GoodRetired : List ℕ → ℕ → Type 0
 GoodRetired before x = (x < 256 ^ 8) × (not (elemb x before) ≡ true)
 
-abbrev GoodReplayed : List ℕ → List ℕ → ℕ → Type 0
+abbrev pub GoodReplayed : List ℕ → List ℕ → ℕ → Type 0
 GoodReplayed retained before x = (x < 256 ^ 8) × ((above before x && elemb x retained) ≡ true)
 
-retired-lawful : (before : List ℕ) → Lawful (GoodRetired before) (be 8) (parseRetired before)
+pub retired-lawful : (before : List ℕ) → Lawful (GoodRetired before) (be 8) (parseRetired before)
 unfolding parseRetired
 retired-lawful before = checked-lawful (λ x. not (elemb x before)) (number-lawful 8)
 
-replayed-lawful : (retained before : List ℕ) → Lawful (GoodReplayed retained before) (be 8) (parseReplayed retained before)
+pub replayed-lawful : (retained before : List ℕ) → Lawful (GoodReplayed retained before) (be 8) (parseReplayed retained before)
 unfolding parseReplayed
 replayed-lawful retained before = checked-lawful (λ x. above before x && elemb x retained) (number-lawful 8)
 
@@ -73,12 +73,12 @@ pub record GoodModel (m : Book) : Type 0 where
   pub rollback : TypedOptionalHeight (m .rollback)
   pub replayed : AllFrom (GoodReplayed (map idOf (m .submitted))) [] (m .replayed) × (length (m .replayed) ≤ 16)
 
-queue-lawful : Lawful (λ l. Every GoodDelivery l × (length l ≤ 16)) (encList encodeDelivery) (listOf 16 parseDelivery)
+pub queue-lawful : Lawful (λ l. Every GoodDelivery l × (length l ≤ 16)) (encList encodeDelivery) (listOf 16 parseDelivery)
 queue-lawful =
     regood (λ l x. (from-every GoodDelivery [] l (x .0), x .1)) (λ l x. (every-from GoodDelivery [] l (x .0), x .1))
     (listFrom-lawful 16 zeroDelivery (λ b d. GoodDelivery d) (omega arith) (λ before. delivery-lawful))
 
-abbrev numbersOf : Book → Numbers
+abbrev pub numbersOf : Book → Numbers
 numbersOf m = record { token = m .nextToken .0; id = m .nextId .0 }
 
 modelOf : Numbers → List SubmittedTx → List PendingDelivery → List ℕ → OptionalHeight → List ℕ → Book
@@ -88,10 +88,7 @@ model-bytes : (m : Book) → encNumbers (numbersOf m) ++ (encList encodeSubmitte
 unfolding encodeModel encNumbers encodeNumbers
 model-bytes m =
     ap (λ (l : List ℕ). encodeNumbers m ++ (encList encodeSubmitted (m .submitted) ++ (encList encodeDelivery (m .pending) ++ (encList (be 8) (m .retired) ++ (encodeHeight (m .rollback) ++ l))))) (append-nil (encList (be 8) (m .replayed)))
-    ∙ nested (encodeNumbers m) (encList encodeSubmitted (m .submitted)) (encList encodeDelivery (m .pending)) (encList (be 8) (m .retired)) (encodeHeight (m .rollback)) (encList (be 8) (m .replayed))
-  where
-    nested : (a b c d e f : List ℕ) → a ++ (b ++ (c ++ (d ++ (e ++ f)))) ≡ a ++ b ++ c ++ d ++ e ++ f
-    nested a b c d e f = sym (simp append-assoc)
+    ∙ six (encodeNumbers m) (encList encodeSubmitted (m .submitted)) (encList encodeDelivery (m .pending)) (encList (be 8) (m .retired)) (encodeHeight (m .rollback)) (encList (be 8) (m .replayed))
 
 pub model-lawful : Lawful GoodModel encodeModel parseModel
 unfolding parseModel modelOf

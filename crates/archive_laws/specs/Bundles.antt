@@ -33,7 +33,7 @@ output-lawful =
     finish (record { «puzzle_hash» = h; amount = n }) ((record { hash = gh; amount = gn }, refl), refl) (λ o x i. record { «puzzle_hash» = x .0 .1 i; amount = x .1 i }))))
 
 -- ---- the run of a spend
-record GoodRun (r : Run) : Type 0 where
+pub record GoodRun (r : Run) : Type 0 where
   pub typed : Every TypedOutput (r .outputs)
   pub few : length (r .outputs) ≤ 4
   pub none : r .readable ≡ false → r .outputs ≡ []
@@ -43,12 +43,12 @@ outputs-lawful =
     regood (λ l x. (from-every TypedOutput [] l (x .0), x .1)) (λ l x. (every-from TypedOutput [] l (x .0), x .1))
     (listFrom-lawful 4 zeroOutput (λ b o. TypedOutput o) (omega arith) (λ before. output-lawful))
 
-run-bytes : (b : Bool) (os : List Output) → encOpt b (encList encodeOutput os) ≡ encodeRun b os
+pub run-bytes : (b : Bool) (os : List Output) → encOpt b (encList encodeOutput os) ≡ encodeRun b os
 unfolding encOpt encList encodeRun
 run-bytes false os = refl
 run-bytes true os = sym (append-assoc (be 1 1) (be 1 (length os)) (encMany encodeOutput os))
 
-mark-rule : (base b : Bool) → (not base || leb 1 (mark b)) ≡ (not base || b)
+pub mark-rule : (base b : Bool) → (not base || leb 1 (mark b)) ≡ (not base || b)
 unfolding mark
 mark-rule base false = refl
 mark-rule base true = refl
@@ -86,10 +86,10 @@ none-of : (b : Bool) (os : List Output) → (b ≡ false → os ≡ []) → (b |
 none-of true os h = refl
 none-of false os h = eq-eqb (length os) 0 (ap length (h refl))
 
-abbrev runOf : CoinSpend → Run
+abbrev pub runOf : CoinSpend → Run
 runOf s = record { readable = s .readable; outputs = outputsOf s }
 
-run-good : (s : CoinSpend) → TypedSpend s → SoundSpend s → GoodRun (runOf s)
+pub run-good : (s : CoinSpend) → TypedSpend s → SoundSpend s → GoodRun (runOf s)
 run-good s t f = record {
   typed = every-take TypedOutput (s .«output_count») (s .outputs) (t .outputs .each);
   few = omega (arith, f .outputs .used, f .outputs .count);
@@ -132,10 +132,10 @@ spend-is s f =
       outputs = sym (f .outputs .held) i;
     }
 
-abbrev coinOf : CoinSpend → List ℕ
+abbrev pub coinOf : CoinSpend → List ℕ
 coinOf s = take (s .«coin_len») (s .coin)
 
-coin-lawful : Lawful (λ l. Every U8 l × (length l ≤ 73)) (λ l. be 1 (length l) ++ l) (counted 73 run)
+pub coin-lawful : Lawful (λ l. Every U8 l × (length l ≤ 73)) (λ l. be 1 (length l) ++ l) (counted 73 run)
 coin-lawful =
     counted-lawful 73 length (Every U8) (omega arith)
     (λ k. regood (λ l x. record { long = x .1; each = x .0 }) (λ l x. (x .each, x .long)) (bytes-lawful k))
@@ -148,21 +148,21 @@ spend-bytes s f =
     ∙ ap (λ (k : ℕ). (be 1 k ++ coinOf s) ++ (s .digest ++ encodeRun (s .readable) (outputsOf s))) a
     ∙ sym (append-assoc (be 1 (s .«coin_len») ++ coinOf s) (s .digest) (encodeRun (s .readable) (outputsOf s)))
 
+pub coin-good : (base : Bool) (s : CoinSpend) → GoodSpend base s → Every U8 (coinOf s) × (length (coinOf s) ≤ 73)
+coin-good base s x =
+    let f = sound-spend s (x .sound) in
+    (every-take U8 (s .«coin_len») (s .coin) (x .typed .coin .each), omega (arith, f .coin .used, f .coin .count))
+
 pub spend-lawful : (base : Bool) → Lawful (GoodSpend base) encodeSpend (parseSpend base)
 unfolding parseSpend spend-of
 spend-lawful base =
     recode encodeSpend (λ s x. spend-bytes s (sound-spend s (x .sound)))
-    (step coinOf coin-lawful (λ s x. coin-good s x) (λ c gc.
+    (step coinOf coin-lawful (coin-good base) (λ c gc.
     step (λ (s : CoinSpend). s .digest) (bytes-lawful 32) (λ s x. x .0 .typed .digest) (λ d gd.
     step runOf (run-lawful base) (λ s x. (run-good s (x .0 .0 .typed) (sound-spend s (x .0 .0 .sound)), x .0 .0 .readable)) (λ r gr.
     finish (spend-of c d r) (((spend-of-good base c d r (gc .0) (gc .1) gd (gr .0) (gr .1), take-cells 73 0 c), refl), run-of c d r)
     (λ s x. spend-is s (sound-spend s (x .0 .0 .0 .sound)) ∙ λ i. spend-of (x .0 .0 .1 i) (x .0 .1 i) (x .1 i))))))
   where
-    coin-good : (s : CoinSpend) → GoodSpend base s → Every U8 (coinOf s) × (length (coinOf s) ≤ 73)
-    coin-good s x =
-        let f = sound-spend s (x .sound) in
-        (every-take U8 (s .«coin_len») (s .coin) (x .typed .coin .each), omega (arith, f .coin .used, f .coin .count))
-
     run-of : (c d : List ℕ) (r : Run) → runOf (spend-of c d r) ≡ r
     run-of c d r = λ i. record { readable = r .readable; outputs = take-cells 4 zeroOutput (r .outputs) i }
 
@@ -182,7 +182,7 @@ spends-good base l t h k =
     (every-both TypedSpend (λ s. (soundSpend s ≡ true) × ((not base || s .readable) ≡ true)) l t
     (every-both (λ s. soundSpend s ≡ true) (λ s. (not base || s .readable) ≡ true) l (every-test soundSpend l h) (every-test (λ s. not base || s .readable) l k)))
 
-bundle-good : (base : Bool) (b : SpendBundle) → GoodBundle base b → Every (GoodSpend base) (spendsOf b) × (length (spendsOf b) ≤ 4)
+pub bundle-good : (base : Bool) (b : SpendBundle) → GoodBundle base b → Every (GoodSpend base) (spendsOf b) × (length (spendsOf b) ≤ 4)
 bundle-good base b g =
     let f = sound-bundle b (g .sound) in
     (spends-good base (spendsOf b) (every-take TypedSpend (b .count) (b .spends) (g .typed .spends .each)) (f .each) (g .readable), omega (arith, f .spends .used, f .spends .count))

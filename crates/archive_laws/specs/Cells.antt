@@ -1,7 +1,7 @@
 -- What the elements of a list have, in counted cells and in a list that is read element by element.
 use mathlib.Core.Path.{_≡_, refl, sym, ap, _∙_, subst}
 use mathlib.Core.Bool.{Bool, true, false, _&&_}
-use mathlib.Core.List.{List, [], _∷_, _++_}
+use mathlib.Core.List.{List, [], _∷_, _++_, append-assoc}
 use Prim.Native.Nat.{ℕ, zero, suc, _-_, _<_, _≤_}
 use native.Mathlib.Omega.{arith}
 use lib.ListN.{length, getD, take, replicate}
@@ -12,6 +12,13 @@ use Rattle.wire.specs.Wire.{run}
 use Rattle.wire.specs.Lawful.{Lawful, IsBytes, regood}
 use Rattle.wire.specs.Items.{RunOf, run-lawful, AllFrom}
 use Rattle.book_data.specs.Typed.{Every, U8, Array, Bytes}
+
+-- parts one after the other: as they are read and as they are written
+pub five : (a b c d e : List ℕ) → a ++ (b ++ (c ++ (d ++ e))) ≡ a ++ b ++ c ++ d ++ e
+five a b c d e = sym (simp append-assoc)
+
+pub six : (a b c d e f : List ℕ) → a ++ (b ++ (c ++ (d ++ (e ++ f)))) ≡ a ++ b ++ c ++ d ++ e ++ f
+six a b c d e f = sym (simp append-assoc)
 
 -- a chain a && b && c of true tests
 pub all-true : (a : Bool) (bs : List Bool) → a ≡ true → Trues bs → ands a bs ≡ true

@@ -49,7 +49,7 @@ pub record GoodSlots (next : ℕ) (held : List ℕ) (s : AttemptSlots) : Type 0 
   pub live : GoodSlot next held (s .«active_attempt»)
   pub aside : GoodSlot next (held ++ attemptToken (s .«active_attempt»)) (s .«completed_attempt»)
 
-slots-lawful : (next : ℕ) (held : List ℕ) → Lawful (GoodSlots next held) encodeSlots (parseSlots next held)
+pub slots-lawful : (next : ℕ) (held : List ℕ) → Lawful (GoodSlots next held) encodeSlots (parseSlots next held)
 unfolding encodeSlots parseSlots
 slots-lawful next held =
     recode encodeSlots (λ s x. ap (λ (l : List ℕ). encodeSlot (s .«active_attempt») ++ l) (append-nil (encodeSlot (s .«completed_attempt»))))
@@ -58,7 +58,7 @@ slots-lawful next held =
     finish (record { «active_attempt» = a; «completed_attempt» = c }) ((record { live = ga; aside = gc }, refl), refl) (λ s x i. record { «active_attempt» = x .0 .1 i; «completed_attempt» = x .1 i }))))
 
 -- ---- what stands behind the bundles
-record GoodFacts (f : Facts) : Type 0 where
+pub record GoodFacts (f : Facts) : Type 0 where
   pub fee : GoodFeeIntent (f .feeIntent)
   pub acknowledged : GoodHash (f .acknowledged)
   pub expiry : TypedOptionalHeight (f .expiry)
@@ -66,7 +66,7 @@ record GoodFacts (f : Facts) : Type 0 where
 encFacts : Facts → List ℕ
 encFacts f = be 1 (resolutionNumber (f .resolution)) ++ encodeFeeIntent (f .feeIntent) ++ encodeHash (f .acknowledged) ++ be 1 (chainNumber (f .chain)) ++ encodeHeight (f .expiry)
 
-abbrev factsOf : SubmittedEntry → Facts
+abbrev pub factsOf : SubmittedEntry → Facts
 factsOf e = record { resolution = e .status .«fee_resolution»; feeIntent = e .«fee_intent»; acknowledged = e .«wallet_acknowledged_variant»; chain = e .status .«chain_terminality»; expiry = e .status .expiry }
 
 facts-same : (e : SubmittedEntry) → encFacts (factsOf e) ≡ encodeFacts e
@@ -103,12 +103,12 @@ pub record GoodSubmitted (next : ℕ) (before : List SubmittedTx) (t : Submitted
   pub live : allb (freshToken next (heldBy before)) (attemptToken (t .slots .«active_attempt»)) ≡ true
   pub aside : allb (freshToken next (heldBy before ++ attemptToken (t .slots .«active_attempt»))) (attemptToken (t .slots .«completed_attempt»)) ≡ true
 
-record SubmittedFacts (t : SubmittedTx) : Type 0 where
+pub record SubmittedFacts (t : SubmittedTx) : Type 0 where
   pub active : soundAttempt (t .slots .«active_attempt») ≡ true
   pub completed : soundAttempt (t .slots .«completed_attempt») ≡ true
   pub entry : SoundEntry (t .entry)
 
-submitted-facts : (t : SubmittedTx) → soundSubmitted t ≡ true → SubmittedFacts t
+pub submitted-facts : (t : SubmittedTx) → soundSubmitted t ≡ true → SubmittedFacts t
 unfolding soundSlots
 submitted-facts t h =
     let p = sound-submitted t h in
@@ -119,7 +119,7 @@ facts-submitted : (t : SubmittedTx) → SubmittedFacts t → soundSubmitted t �
 unfolding soundSlots
 facts-submitted t f = submitted-sound t (record { slots = and-both (f .active) (f .completed); entry = entry-sound (t .entry) (f .entry) })
 
-slots-good : (next : ℕ) (before : List SubmittedTx) (t : SubmittedTx) → GoodSubmitted next before t → GoodSlots next (heldBy before) (t .slots)
+pub slots-good : (next : ℕ) (before : List SubmittedTx) (t : SubmittedTx) → GoodSubmitted next before t → GoodSlots next (heldBy before) (t .slots)
 slots-good next before t g =
     let f = submitted-facts t (g .sound) in
     record {
@@ -128,7 +128,7 @@ slots-good next before t g =
     }
 
 -- a base bundle: every run can be read
-base-good : (b : SpendBundle) → TypedBundle b → soundBundle b ≡ true → readableBundle b ≡ true → GoodBundle true b
+pub base-good : (b : SpendBundle) → TypedBundle b → soundBundle b ≡ true → readableBundle b ≡ true → GoodBundle true b
 unfolding readableBundle
 base-good b t s r = record { typed = t; sound = s; readable = r }
 
@@ -195,7 +195,7 @@ pub record GoodDelivery (d : PendingDelivery) : Type 0 where
   pub typed : TypedDelivery d
   pub sound : soundDelivery d ≡ true
 
-delivery-facts : (d : PendingDelivery) → soundDelivery d ≡ true → (soundBundle (d .intent .bundle) ≡ true) × (soundFeeIntent (d .intent .«fee_intent») ≡ true)
+pub delivery-facts : (d : PendingDelivery) → soundDelivery d ≡ true → (soundBundle (d .intent .bundle) ≡ true) × (soundFeeIntent (d .intent .«fee_intent») ≡ true)
 unfolding soundDelivery soundIntent
 delivery-facts d h = and-split (soundBundle (d .intent .bundle)) (soundFeeIntent (d .intent .«fee_intent»)) h
 

@@ -7,4 +7,7 @@ pub mod Books
 pub mod Back
 pub mod Theorems
 pub mod Sizes
+pub mod Items
+pub mod Stops
+pub mod ItemLaws
 pub mod Places

@@ -171,7 +171,7 @@ pub record GoodFeeIntent (f : SubmissionFeeIntent) : Type 0 where
   pub typed : TypedFeeIntent f
   pub sound : soundFeeIntent f ≡ true
 
-kind-small : (k : FeeIntentKind) → kindNumber k ≤ 2
+pub kind-small : (k : FeeIntentKind) → kindNumber k ≤ 2
 kind-small AlreadyPaid = omega arith
 kind-small NoFeeConfigured = omega arith
 kind-small Attach = omega arith
@@ -279,11 +279,11 @@ pub record GoodSlot (next : ℕ) (held : List ℕ) (a : OptionalAttempt) : Type 
   pub fresh : allb (freshToken next held) (attemptToken a) ≡ true
 
 -- the facts of a slot that holds an attempt
-slot-hash : (a : OptionalAttempt) → soundAttempt a ≡ true → a .present ≡ true → soundHash (a .attempt .«finalized_variant_fingerprint») ≡ true
+pub slot-hash : (a : OptionalAttempt) → soundAttempt a ≡ true → a .present ≡ true → soundHash (a .attempt .«finalized_variant_fingerprint») ≡ true
 unfolding soundAttempt
 slot-hash a h e = ap (λ (b : Bool). cond b (soundHash (a .attempt .«finalized_variant_fingerprint»)) (isNoAttempt a)) (sym e) ∙ h
 
-slot-fresh : (next : ℕ) (held : List ℕ) (a : OptionalAttempt) → allb (freshToken next held) (attemptToken a) ≡ true → a .present ≡ true → freshToken next held (a .attempt .token .0) ≡ true
+pub slot-fresh : (next : ℕ) (held : List ℕ) (a : OptionalAttempt) → allb (freshToken next held) (attemptToken a) ≡ true → a .present ≡ true → freshToken next held (a .attempt .token .0) ≡ true
 slot-fresh next held a h e =
     and-split (freshToken next held (a .attempt .token .0)) true (ap (λ (b : Bool). allb (freshToken next held) (cond b (a .attempt .token .0 ∷ []) [])) (sym e) ∙ h) .0
 
@@ -342,7 +342,7 @@ pub record GoodVariant (v : SubmissionBroadcastVariant) : Type 0 where
 pub any-bundle : (b : SpendBundle) → TypedBundle b → soundBundle b ≡ true → GoodBundle false b
 any-bundle b t h = record { typed = t; sound = h; readable = all-always (spendsOf b) }
 
-variant-bundle : (v : SubmissionBroadcastVariant) → GoodVariant v → v .«fee_bearing» ≡ true → GoodBundle false (v .bundle)
+pub variant-bundle : (v : SubmissionBroadcastVariant) → GoodVariant v → v .«fee_bearing» ≡ true → GoodBundle false (v .bundle)
 unfolding soundVariant
 variant-bundle v g e = any-bundle (v .bundle) (g .typed .bundle) (ap (λ (b : Bool). cond b (soundBundle (v .bundle)) (isBaseVariant v)) (sym e) ∙ g .sound)
 

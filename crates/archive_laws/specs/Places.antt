@@ -1,22 +1,39 @@
--- Where an archive is refused: inside the bytes, and no bytes that agree with them up to there are refused earlier, so that
+-- Where an archive is refused. Paper 01: "the start of the first item (number, kind, count, byte run) that is cut short or breaks a rule when
+-- read in order; bytes left over: the first of them." Besides: the place is inside the bytes, and no bytes that agree with them up to there are refused earlier, so that
 -- everything before the place is in order whatever follows it.
-use mathlib.Core.Path.{_≡_, refl, ap, _∙_}
+use mathlib.Core.Path.{_≡_, refl, sym, ap, _∙_, subst}
 use mathlib.Core.Bool.{Bool, true, false, not, _&&_, _||_}
-use mathlib.Core.List.{List, _++_, map}
-use Prim.Native.Nat.{ℕ, zero, suc, _≤_, zero-le}
+use mathlib.Core.List.{List, _∷_, _++_, map}
+use Prim.Native.Nat.{ℕ, zero, suc, _+_, _≤_, _<_, zero-le}
+use native.Mathlib.Nat.{zero-add}
 use native.Mathlib.Omega.{arith}
 use lib.Dec.{eqb, leb}
-use lib.ListN.{length, take}
-use Rattle.lists.specs.Lists.{cells, elemb, flatMap}
-use Rattle.wire.specs.Wire.{Ans, got, bad, run, number, end}
-use Rattle.wire.specs.Steady.{Steady, Item, steady-bind, steady-done, steady-run, steady-number, number-item, checked-item, upTo-item, steady-mapped, steady-optional, steady-optionalBy, steady-counted, steady-list, end-place, end-first, end-start}
+use lib.ListN.{length, take, drop, length-take, length-append, take-append-drop}
+use lib.Seq.{drop-at}
+use borrow.Author.Tests.{leb-true}
+use Rattle.lists.specs.Lists.{elemb, flatMap}
+use Rattle.wire.specs.Wire.{Ans, got, bad, andThen, pick, run, number, end}
+use Rattle.wire.specs.Lawful.{Spans}
+use Rattle.wire.specs.Steady.{Steady, steady-bind, steady-done, steady-run, steady-number, number-item, checked-item, upTo-item, steady-mapped, steady-optional, steady-optionalBy, steady-counted, steady-list, end-place, end-first}
+use Rattle.wire.specs.Steady.{end-start}
 use Rattle.book_data.specs.Zero.{noAttempt, baseVariant, zeroHash}
-use Rattle.book_data.specs.Sound.{idOf, attemptToken, tokensOf}
-use Rattle.book_data.specs.Model.{Book}
-use Rattle.book_data.specs.declared.OptionalHeight.the-variants.{NoHeight, At}
-use Rattle.book_data.specs.declared.OptionalId.the-variants.{NoId, Of}
+use Rattle.book_data.specs.Sound.{idOf, attemptToken, tokensOf, soundb}
+use Rattle.book_data.specs.SoundLaws.{sound, lists-sound}
+use Rattle.book_data.specs.Model.{Book, view}
+use Rattle.book_data.specs.Typed.{Typed}
+use Rattle.book_data.specs.declared.OptionalHeight.the-variants.{NoHeight}
+use Rattle.book_data.specs.declared.OptionalId.the-variants.{NoId}
 use Rattle.book_data.specs.declared.SubmittedTx.{SubmittedTx}
-use Rattle.archive_form.specs.Parse.{parseOutput, unreadable, parseRun, parseSpend, parseBundle, parseHeight, parseId, parseAttached, parseFeeIntent, goalOf, triggerOf, chainOf, resolutionOf, parseGoal, parseTrigger, parseChain, parseResolution, parseHash, freshToken, parseSlot, parseSlots, parseVariant, parseFacts, parseSubmitted, parseDelivery, parseRetired, above, parseReplayed, parseNumbers, parseModel, parseWhole, readArchive, ArchiveRead, book, broken, archiveRead}
+use Rattle.book_data.specs.declared.BookData.{BookData}
+use Rattle.archive_form.specs.Encode.{encodeModel, encodeBook}
+use Rattle.archive_laws.specs.Back.{view-typed}
+use Rattle.archive_laws.specs.Books.{GoodModel, model-good, model-lawful}
+use Rattle.archive_laws.specs.Items.{Item, bytesOf, itemsBook}
+use Rattle.archive_laws.specs.Stops.{Breaks, Stops, stops-here}
+use Rattle.archive_laws.specs.ItemLaws.{model-placed}
+use Rattle.archive_form.specs.Parse.{parseOutput, unreadable, parseRun, parseSpend, parseBundle, parseHeight, parseId, parseAttached, parseFeeIntent, goalOf, triggerOf, chainOf, resolutionOf, parseGoal, parseTrigger, parseChain}
+use Rattle.archive_form.specs.Parse.{parseResolution, parseHash, freshToken, parseSlot, parseSlots, parseVariant, parseFacts, parseSubmitted, parseDelivery, parseRetired, above, parseReplayed, parseNumbers, parseModel, parseWhole}
+use Rattle.archive_form.specs.Parse.{readArchive, broken, archiveRead}
 
 output-steady : Steady parseOutput
 unfolding parseOutput
@@ -138,3 +155,48 @@ refusal-place s k h = end-place model-steady end-start s 0 k zero-le (broken-bad
 pub refusal-first : (s t : List ℕ) (k j : ℕ) → readArchive s ≡ broken k → take k t ≡ take k s → readArchive t ≡ broken j → k ≤ j
 unfolding readArchive parseWhole
 refusal-first s t k j h w h′ = end-first model-steady end-start s t 0 k j zero-le (broken-bad (parseWhole s 0) k h) w (broken-bad (parseWhole t 0) j h′)
+
+-- ---- the item where it is refused
+-- bytes are left behind the place
+end-bad : {A : Type 0} (a : A) (s : List ℕ) (at : ℕ) → at < length s → end a s at ≡ bad at
+unfolding end
+end-bad a s at h = go (leb (length s) at) refl
+  where
+    go : (x : Bool) → leb (length s) at ≡ x → pick x (got a at) (bad at) ≡ bad at
+    go false e = refl
+    go true e = absurd (let z = leb-true (length s) at e in omega arith)
+
+module _ (b : BookData) (t : Typed b) (h : soundb b ≡ true) where
+  good : GoodModel (view b)
+  good = model-good (view b) (view-typed b t h) (lists-sound (view b) (sound b h .lists))
+
+  -- the items are the archive
+  pub items-whole : bytesOf (itemsBook b) ≡ encodeBook b
+  unfolding itemsBook encodeBook
+  items-whole = model-placed (view b) good .whole
+
+  -- bytes that agree with an archive up to an item, and there are cut short or break the item's rule, are refused at the item's start
+  pub refused-at : (before : List Item) (x : Item) (after : List Item) → itemsBook b ≡ before ++ (x ∷ after)
+      → (s : List ℕ) → take (length (bytesOf before)) s ≡ bytesOf before → Breaks x s (length (bytesOf before)) → readArchive s ≡ broken (length (bytesOf before))
+  unfolding itemsBook readArchive parseWhole
+  refused-at before x after e s w c =
+      let k = length (bytesOf before) in
+      let l : length (take k s) ≡ k = ap length w in
+      let spans : Spans s 0 k (bytesOf before) = record {
+        ends = sym (zero-add k);
+        inside = omega (arith, length-take k s);
+        holds = sym (take-append-drop k s) ∙ ap (λ (y : List ℕ). y ++ drop k s) w;
+      } in
+      ap (λ (r : Ans Book). archiveRead (andThen r (λ m e. end m s e)))
+      (model-placed (view b) good .stops s 0 k zero-le (subst (λ (is : List Item). Stops is s 0 k) (sym e) (stops-here before x after s 0 k spans c)))
+
+  -- bytes left over are refused at the first of them
+  pub refused-behind : (y : ℕ) (ys : List ℕ) → readArchive (encodeBook b ++ (y ∷ ys)) ≡ broken (length (encodeBook b))
+  unfolding readArchive parseWhole encodeBook
+  refused-behind y ys =
+      let l = encodeModel (view b) in
+      let s = l ++ (y ∷ ys) in
+      let n = length l in
+      let spans : Spans s 0 n l = record { ends = sym (zero-add n); inside = omega (arith, length-append l (y ∷ ys)); holds = ap (λ (t : List ℕ). l ++ t) (sym (drop-at l (y ∷ ys) n refl)) } in
+      ap (λ (r : Ans Book). archiveRead (andThen r (λ m e. end m s e))) (model-lawful .reads s 0 n (view b) good spans)
+      ∙ ap archiveRead (end-bad (view b) s n (omega (arith, length-append l (y ∷ ys))))
