@@ -4,7 +4,7 @@ use Prim.Native.Nat.{ℕ, _+_, _-_, _≤_}
 use mathlib.Core.Bool.{false}
 use mathlib.Core.List.{List, [], _∷_, _++_, map, List·Memᴰ}
 use mathlib.Core.Logic.{_⊎_}
-use mathlib.Core.Path.{_≡_, refl, ap}
+use mathlib.Core.Path.{_≡_, refl, ap, subst}
 use native.Mathlib.Omega.{arith}
 use lib.ListN.{length}
 use Rattle.book_data.specs.declared.SubmittedTx.{SubmittedTx}
@@ -15,13 +15,14 @@ use Rattle.rules.specs.Call.{Call, Value}
 use Rattle.rules.specs.Calls.{rules}
 use Rattle.rules.specs.Keyed.{pick}
 use Rattle.rules.specs.Opened.{opened}
-use Rattle.rules.specs.Rule.{book, Answer, answered, left}
+use Rattle.rules.specs.Rule.{book, DrainedSubmission, Outcome, ended, undone, stopped, Answer, answer, answered, left, issuedBy}
+use Rattle.rules.specs.Steps.{runBook}
 use Rattle.ledger.specs.Account.Counts.{count, counts}
-use Rattle.ledger.specs.Account.Exact.{Exact, exact, one-open, one-slot, single}
+use Rattle.ledger.specs.Account.Exact.{Exact, exact, one-open, one-slot, single, told-fates}
 use Rattle.ledger.specs.Account.Tokens.{downTo, next-token, tokens-run}
-use Rattle.ledger.specs.Ledger.{live, aside, displaced, struck, Row, Ledger, rowToken, begun}
+use Rattle.ledger.specs.Ledger.{live, aside, displaced, struck, Row, Ledger, rowId, rowToken, begun}
 use Rattle.ledger.specs.Run.{runLedger, Continued, agrees, good, good-left, left-carry, answered-carry, issued-carry}
-use Rattle.ledger.specs.Tidy.{Open, history, Tidy, grown, Chained}
+use Rattle.ledger.specs.Tidy.{Open, Fits, history, Tidy, grown, Chained}
 use Rattle.ledger.specs.View.{bookOf}
 
 module _ (encode : Book → List ℕ) where
@@ -50,6 +51,8 @@ module _ (encode : Book → List ℕ) where
     pub next : bookAfter encode cs (opened o n) .nextToken .0 ≡ ledgerAfter cs (begun o n) .nextToken
     pub since : o ≤ ledgerAfter cs (begun o n) .nextToken
     pub tokens : map rowToken (ledgerAfter cs (begun o n) .rows) ≡ downTo o (ledgerAfter cs (begun o n) .nextToken - o)
+    -- of the tokens of one submission all but the last are displaced; the last is struck out where the submission was removed, else live or set aside
+    pub fate : (i : ℕ) → Fits (pick idOf i (bookAfter encode cs (opened o n) .submitted)) (pick rowId i (ledgerAfter cs (begun o n) .rows))
     -- each has one of the four fates
     pub fates : count displaced (ledgerAfter cs (begun o n) .rows) + count struck (ledgerAfter cs (begun o n) .rows) + count aside (ledgerAfter cs (begun o n) .rows) + count live (ledgerAfter cs (begun o n) .rows)
         ≡ ledgerAfter cs (begun o n) .nextToken - o
@@ -64,6 +67,9 @@ module _ (encode : Book → List ℕ) where
     pub predecessors : (before : List Call) (c : Call) (after : List Call) → cs ≡ before ++ c ∷ after
         → Chained (history (ledgerAfter before (begun o n))) (issuedBook encode c (bookAfter encode before (opened o n)))
         × (history (ledgerAfter (before ++ c ∷ []) (begun o n)) ≡ grown (issuedBook encode c (bookAfter encode before (opened o n))) (history (ledgerAfter before (begun o n))))
+    -- "In the answer of every drain in the list each submission names as predecessor the last token issued to it before"
+    pub named : (before : List Call) (c : Call) (after : List Call) → cs ≡ before ++ c ∷ after → (xs : List DrainedSubmission) (v : Value)
+        → answerBook encode c (bookAfter encode before (opened o n)) ≡ answer xs v → Chained (history (ledgerAfter before (begun o n))) xs
 
   -- ---- the proof
   record Stepped (o : ℕ) (c : Call) (l : Ledger) : Type 0 where
@@ -123,6 +129,15 @@ module _ (encode : Book → List ℕ) where
       rw (← book-begun o n, a .book, ledger-append before (c ∷ []) (begun o n), ledger-one c (ledgerAfter before (begun o n)))
       (s .goes .chained, s .goes .grows)
 
+  issued-answer : (k : Outcome Book Value) (xs : List DrainedSubmission) (v : Value) → answered k ≡ answer xs v → issuedBy k ≡ xs
+  issued-answer (ended b ys w) xs v e = cc
+  issued-answer (undone m) xs v e = absurd (let z : _≡_ {A = ℕ} 0 1 = cc in omega arith)
+  issued-answer (stopped b ys m) xs v e = absurd (let z : _≡_ {A = ℕ} 0 1 = cc in omega arith)
+
+  issued-is : (c : Call) (b : Book) (xs : List DrainedSubmission) (v : Value) → answerBook encode c b ≡ answer xs v → issuedBook encode c b ≡ xs
+  unfolding answerBook issuedBook
+  issued-is c b xs v e = issued-answer (runBook (rules encode c) b) xs v e
+
   -- for every list of calls on a book just opened
   pub ledger-theorem : (o n : ℕ) (cs : List Call) → Accounted o n cs
   ledger-theorem o n cs = record {
@@ -131,6 +146,7 @@ module _ (encode : Book → List ℕ) where
     next = rw e (unfold bookOf in refl);
     since = omega (arith, next-token l t);
     tokens = tokens-run l t;
+    fate = rw e (told-fates l t);
     fates = omega (arith, next-token l t, counts (l .rows));
     lives = rw e (exact l t live refl);
     asides = rw e (exact l t aside refl);
@@ -138,6 +154,8 @@ module _ (encode : Book → List ℕ) where
     oneSlot = rw e (one-slot l t);
     oneRow = one-open l t;
     predecessors = λ before c rest p. chain-at o n before c;
+    named = λ before c rest p xs v q.
+        subst (λ (ys : List DrainedSubmission). Chained (history (ledgerAfter before (begun o n))) ys) (issued-is c (bookAfter encode before (opened o n)) xs v q) (chain-at o n before c .0);
   }
     where
       a : After o cs (begun o n)

@@ -1,10 +1,10 @@
--- What every ledger that grew from an opened one keeps: its tokens run down to the opening one, and of each submission none is retained and
--- its rows are closed, or one is and its last row alone is open.
+-- What every ledger that grew from an opened one keeps: its tokens run down to the opening one; of each submission all rows but the last are
+-- displaced, and the last is struck out where the submission is not retained any more, else live or set aside.
 use Prim.Native.Nat.{ℕ, suc, _≤_}
 use mathlib.Core.Bool.{Bool, true, false, cond}
 use mathlib.Core.List.{List, [], _∷_, map}
 use mathlib.Core.Option.{Option, none, some}
-use mathlib.Core.Path.{_≡_, subst}
+use mathlib.Core.Path.{_≡_, subst, ap}
 use lib.Dec.{eqb}
 use Rattle.book_data.specs.declared.SubmittedEntry.{SubmittedEntry}
 use Rattle.rules.specs.Keyed.{same-or-other, pick}
@@ -24,12 +24,27 @@ abbrev pub Closed : List Row → Type 0
 Closed [] = Unit {0}
 Closed (r ∷ rs) = (isOpen (r .fate) ≡ false) × Closed rs
 
--- the submissions of one id, and its rows
-abbrev pub Fits : List SubmittedEntry → List Row → Type 0
-Fits [] rs = Closed rs
+-- every one of them was followed by a later token of its submission
+abbrev pub Displaced : List Row → Type 0
+Displaced [] = Unit {0}
+Displaced (r ∷ rs) = (r .fate ≡ displaced) × Displaced rs
+
+-- the submissions of one id, and its rows, the last issued first: all but the last are displaced; the last is struck out where the
+-- submission is gone, and else live or set aside
+abbrev pub Fits : {A : Type 0} → List A → List Row → Type 0
+Fits [] [] = Unit {0}
+Fits [] (r ∷ rs) = (r .fate ≡ struck) × Displaced rs
 Fits (e ∷ []) [] = Unit {0}
-Fits (e ∷ []) (r ∷ rs) = Open r × Closed rs
+Fits (e ∷ []) (r ∷ rs) = Open r × Displaced rs
 Fits (e ∷ e′ ∷ es) rs = ⊥
+
+pub displaced-closed : (rs : List Row) → Displaced rs → Closed rs
+displaced-closed [] h = tt
+displaced-closed (r ∷ rs) h = (ap isOpen (h .0), displaced-closed rs (h .1))
+
+pub gone-closed : (rs : List Row) → Fits {A = SubmittedEntry} [] rs → Closed rs
+gone-closed [] h = tt
+gone-closed (r ∷ rs) h = (ap isOpen (h .0), displaced-closed rs (h .1))
 
 pub record Place (next i : ℕ) (es : List SubmittedEntry) (rs : List Row) : Type 0 where
   pub fits : Fits es rs

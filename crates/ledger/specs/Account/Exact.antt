@@ -1,7 +1,7 @@
 -- The slots of the book that a tidy ledger foretells hold the open rows of the ledger, each under its own submission, at most one a submission.
 use Prim.Native.Nat.{ℕ, _≤_}
 use mathlib.Core.Bool.{true, false, false≢true, true≢false}
-use mathlib.Core.List.{List, [], _∷_, List·Memᴰ, List·Memᴰ·head, List·Memᴰ·tail, List·Memᴰ·not-nil, Memᴰ·map, Memᴰ·of-map, head?}
+use mathlib.Core.List.{List, [], _∷_, map, List·Memᴰ, List·Memᴰ·head, List·Memᴰ·tail, List·Memᴰ·not-nil, Memᴰ·map, Memᴰ·of-map, head?}
 use mathlib.Core.Option.{some, Option·some-injective}
 use mathlib.Core.Logic.{_⊎_, inl, inr}
 use mathlib.Core.Path.{_≡_, refl, sym, ap, _∙_, subst}
@@ -18,7 +18,7 @@ use Rattle.book_data.specs.Zero.{noAttempt, noSlots}
 use Rattle.rules.specs.Keyed.{pick, mem-picked, mem-pick, mem-picked-key, pick-map}
 use Rattle.rules.specs.Steps.Slots.{present}
 use Rattle.ledger.specs.Ledger.{live, aside, Fate, displaced, struck, Row, Ledger, entryId, rowId}
-use Rattle.ledger.specs.Tidy.{isOpen, Open, Closed, Fits, Tidy}
+use Rattle.ledger.specs.Tidy.{isOpen, Open, Closed, Fits, displaced-closed, gone-closed, Tidy}
 use Rattle.ledger.specs.View.{slotsBy, slotsOf, hold, bookOf}
 
 -- the slot of a fate
@@ -80,17 +80,17 @@ shut (x ∷ rs) r h (List·Memᴰ·tail m) = shut rs r (h .1) m
 -- an open row stands in the slots of its submission
 to-slot : (f : Fate) (es : List SubmittedEntry) (rs : List Row) (r : Row) → isOpen f ≡ true → Fits es rs → List·Memᴰ r rs → r .fate ≡ f
     → (e : SubmittedEntry) × List·Memᴰ e es × (slot f (slotsOf rs) ≡ present (r .attempt))
-to-slot f [] rs r o h m q = absurd (true≢false (sym o ∙ ap isOpen (sym q) ∙ shut rs r h m))
+to-slot f [] rs r o h m q = absurd (true≢false (sym o ∙ ap isOpen (sym q) ∙ shut rs r (gone-closed rs h) m))
 to-slot f (e ∷ []) [] r o h m q = absurd (List·Memᴰ·not-nil m)
 to-slot f (e ∷ []) (x ∷ rs) r o h (List·Memᴰ·head k) q = (e, List·Memᴰ·head refl, rw (sym (ap (λ y. y .fate) k) ∙ q, sym (ap (λ y. y .attempt) k)) (filled f (r .attempt) o))
-to-slot f (e ∷ []) (x ∷ rs) r o h (List·Memᴰ·tail m) q = absurd (true≢false (sym o ∙ ap isOpen (sym q) ∙ shut rs r (h .1) m))
+to-slot f (e ∷ []) (x ∷ rs) r o h (List·Memᴰ·tail m) q = absurd (true≢false (sym o ∙ ap isOpen (sym q) ∙ shut rs r (displaced-closed rs (h .1)) m))
 to-slot f (e ∷ e′ ∷ es) rs r o h m q = absurd h
 
 first : (es : List SubmittedEntry) (rs : List Row) (r : Row) → Fits es rs → List·Memᴰ r rs → Open r → head? rs ≡ some r
-first [] rs r h m q = absurd (true≢false (sym q ∙ shut rs r h m))
+first [] rs r h m q = absurd (true≢false (sym q ∙ shut rs r (gone-closed rs h) m))
 first (e ∷ []) [] r h m q = absurd (List·Memᴰ·not-nil m)
 first (e ∷ []) (x ∷ rs) r h (List·Memᴰ·head k) q = ap some (sym k)
-first (e ∷ []) (x ∷ rs) r h (List·Memᴰ·tail m) q = absurd (true≢false (sym q ∙ shut rs r (h .1) m))
+first (e ∷ []) (x ∷ rs) r h (List·Memᴰ·tail m) q = absurd (true≢false (sym q ∙ shut rs r (displaced-closed rs (h .1)) m))
 first (e ∷ e′ ∷ es) rs r h m q = absurd h
 
 half : (rs : List Row) → (slotsOf rs .«active_attempt» .present ≡ false) ⊎ (slotsOf rs .«completed_attempt» .present ≡ false)
@@ -140,6 +140,18 @@ module _ {o : ℕ} (l : Ledger) (t : Tidy o l) where
   unfolding bookOf hold
   one-slot h m = let (e, m′, p) = Memᴰ·of-map (hold (l .rows)) (l .entries) m in
       subst (λ (x : SubmittedTx). (x .slots .«active_attempt» .present ≡ false) ⊎ (x .slots .«completed_attempt» .present ≡ false)) p (half (pick rowId (entryId e) (l .rows)))
+
+  -- of each submission's tokens all but the last are displaced, and the last is struck out, live or set aside
+  pub told-fates : (i : ℕ) → Fits (pick idOf i (bookOf l .submitted)) (pick rowId i (l .rows))
+  unfolding bookOf hold
+  told-fates i = rw (pick-map entryId idOf (hold (l .rows)) (λ e. refl) i (l .entries)) (go (pick entryId i (l .entries)) (pick rowId i (l .rows)) (t .places i .fits))
+    where
+      go : (es : List SubmittedEntry) (rs : List Row) → Fits es rs → Fits (map (hold (l .rows)) es) rs
+      go [] [] h = h
+      go [] (r ∷ rs) h = h
+      go (e ∷ []) [] h = h
+      go (e ∷ []) (r ∷ rs) h = h
+      go (e ∷ e′ ∷ es) rs h = h
 
   -- at most one of an id is retained
   pub single : (i : ℕ) → length (pick idOf i (bookOf l .submitted)) ≤ 1

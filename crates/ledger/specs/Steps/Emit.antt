@@ -19,7 +19,7 @@ use Rattle.rules.specs.Steps.{issueBook, emitTo, emitBook}
 use Rattle.rules.specs.Steps.Slots.{present, issueAttempt, taken, slotsIssued, tokenIn, handed}
 use Rattle.ledger.specs.Law.{mapEffect, Law}
 use Rattle.ledger.specs.Ledger.{live, aside, Fate, displaced, struck, Row, Ledger, entryId, rowId, rowToken, withFate}
-use Rattle.ledger.specs.Tidy.{isOpen, Closed, Fits, Place, issueOf, history, Tidy, lastTo, issued, grown, Chained, places-beside}
+use Rattle.ledger.specs.Tidy.{isOpen, Displaced, Fits, Place, issueOf, history, Tidy, lastTo, issued, grown, Chained, places-beside}
 use Rattle.ledger.specs.View.{slotsBy, slotsOf, hold, bookOf, hold-change}
 
 abbrev pub displacedBy : Fate → Fate
@@ -84,15 +84,19 @@ taken-last e [] (r ∷ rs) h = by (r .fate) (h .0)
     by live q = refl
 taken-last e (e′ ∷ es) rs h = absurd h
 
-closed : (rs : List Row) → Closed (map displace rs)
-closed [] = tt
-closed (r ∷ rs) = (shut (r .fate), closed rs)
+keep : (rs : List Row) → Displaced rs → Displaced (map displace rs)
+keep [] h = tt
+keep (r ∷ rs) h = (ap displacedBy (h .0), keep rs (h .1))
+
+displaced-all : (e : SubmittedEntry) (rs : List Row) → Fits (e ∷ []) rs → Displaced (map displace rs)
+displaced-all e [] h = tt
+displaced-all e (r ∷ rs) h = (by (r .fate) (h .0), keep rs (h .1))
   where
-    shut : (f : Fate) → isOpen (displacedBy f) ≡ false
-    shut displaced = refl
-    shut struck = refl
-    shut aside = refl
-    shut live = refl
+    by : (f : Fate) → isOpen f ≡ true → displacedBy f ≡ displaced
+    by displaced q = refl
+    by struck q = absurd (false≢true q)
+    by aside q = refl
+    by live q = refl
 
 last-to : (i : ℕ) (rows : List Row) → tokenIn (lastOf (pick rowId i rows)) ≡ lastTo i (map issueOf rows)
 unfolding pick lastTo noAttempt
@@ -124,7 +128,7 @@ module _ (i : ℕ) (g : SubmissionDeliveryGoal) (v : List ℕ) (l : Ledger) wher
 module _ (i : ℕ) (g : SubmissionDeliveryGoal) (l : Ledger) where
   module _ {o : ℕ} (t : Tidy o l) where
     fit : (v : List ℕ) (e : SubmittedEntry) (es : List SubmittedEntry) (rs : List Row) → Fits (e ∷ es) rs → Fits (e ∷ es) (issueRow i g v l ∷ map displace rs)
-    fit v e [] rs h = (refl, closed rs)
+    fit v e [] rs h = (refl, displaced-all e rs h)
     fit v e (e′ ∷ es) rs h = h
 
     -- one case for a submission that is retained, and one for any other id

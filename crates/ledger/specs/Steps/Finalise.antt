@@ -36,7 +36,7 @@ unfolding slotsFinal noSlots
 no-slots v = refl
 
 mark : (v : List ℕ) → Mark (slotsFinal v) (rowFinal v)
-mark v = record { issues = λ r k. record { token = token (r .fate) (r .attempt) k; id = r .id }; opens = λ r. refl; slots = slots }
+mark v = record { issues = λ r k. record { token = token (r .fate) (r .attempt) k; id = r .id }; opens = λ r. refl; shuts = λ r q. refl; slots = slots }
   where
     token : (f : Fate) (a : DeliveryAttempt) → fateFinal v f a .token .0 ≡ a .token .0
     token displaced a = refl

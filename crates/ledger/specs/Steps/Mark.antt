@@ -1,14 +1,15 @@
 -- What the steps share that change the slots of one submission, and its rows, without closing any.
 use Prim.Native.Nat.{ℕ}
 use mathlib.Core.List.{List, [], _∷_, map}
-use mathlib.Core.Path.{_≡_, refl, ap}
+use mathlib.Core.Bool.{false}
+use mathlib.Core.Path.{_≡_, refl, ap, _∙_}
 use Rattle.book_data.specs.declared.AttemptSlots.{AttemptSlots}
 use Rattle.book_data.specs.declared.SubmittedEntry.{SubmittedEntry}
 use Rattle.rules.specs.Keyed.{pick, change, pick-change-same, pick-change-other, map-change}
 use Rattle.rules.specs.Steps.{markBook, silent}
 use Rattle.ledger.specs.Law.{Law}
 use Rattle.ledger.specs.Ledger.{Row, Ledger, entryId, rowId, withRows}
-use Rattle.ledger.specs.Tidy.{isOpen, Closed, Fits, issueOf, PlaceIn, places-beside}
+use Rattle.ledger.specs.Tidy.{isOpen, Displaced, Fits, issueOf, PlaceIn, places-beside}
 use Rattle.ledger.specs.View.{slotsOf, bookOf, hold-change}
 
 unfoldable pub markLedger : (Row → Row) → ℕ → Ledger → Ledger
@@ -19,20 +20,22 @@ markLedger f i l = withRows (change rowId i f (l .rows)) l
 pub record Mark (g : AttemptSlots → AttemptSlots) (f : Row → Row) : Type 0 where
   pub issues : (r : Row) → issueOf (f r) ≡ issueOf r
   pub opens : (r : Row) → isOpen (f r .fate) ≡ isOpen (r .fate)
+  pub shuts : (r : Row) → isOpen (r .fate) ≡ false → f r .fate ≡ r .fate
   pub slots : (rs : List Row) → slotsOf (map f rs) ≡ g (slotsOf rs)
 
 module _ {g : AttemptSlots → AttemptSlots} {f : Row → Row} (m : Mark g f) where
   ids : (r : Row) → f r .id ≡ r .id
   ids r = ap (λ x. x .id) (m .issues r)
 
-  closed : (rs : List Row) → Closed rs → Closed (map f rs)
-  closed [] h = tt
-  closed (r ∷ rs) h = (rw (m .opens r) (h .0), closed rs (h .1))
+  keep : (rs : List Row) → Displaced rs → Displaced (map f rs)
+  keep [] h = tt
+  keep (r ∷ rs) h = (m .shuts r (ap isOpen (h .0)) ∙ h .0, keep rs (h .1))
 
   fit : (es : List SubmittedEntry) (rs : List Row) → Fits es rs → Fits es (map f rs)
-  fit [] rs h = closed rs h
+  fit [] [] h = tt
+  fit [] (r ∷ rs) h = (m .shuts r (ap isOpen (h .0)) ∙ h .0, keep rs (h .1))
   fit (e ∷ []) [] h = h
-  fit (e ∷ []) (r ∷ rs) h = (rw (m .opens r) (h .0), closed rs (h .1))
+  fit (e ∷ []) (r ∷ rs) h = (rw (m .opens r) (h .0), keep rs (h .1))
   fit (e ∷ e′ ∷ es) rs h = h
 
   others : (i : ℕ) (l : Ledger) (j : ℕ) → (i ≡ j → ⊥) → pick rowId j (change rowId i f (l .rows)) ≡ pick rowId j (l .rows)

@@ -1,14 +1,15 @@
 -- A submission goes, and its live or set-aside row is struck out.
 use Prim.Native.Nat.{ℕ}
-use mathlib.Core.Bool.{false}
+use mathlib.Core.Bool.{true, false, false≢true}
 use mathlib.Core.List.{List, [], _∷_, map}
 use mathlib.Core.Path.{_≡_, refl, ap}
+use Rattle.book_data.specs.declared.SubmittedEntry.{SubmittedEntry}
 use Rattle.rules.specs.Keyed.{pick, change, without, pick-without-same, pick-without-other, pick-change-same, pick-change-other, map-change}
 use Rattle.rules.specs.Steps.{removeBook, silent}
 use Rattle.rules.specs.Steps.Notes.{forgotten}
 use Rattle.ledger.specs.Law.{Law}
 use Rattle.ledger.specs.Ledger.{live, aside, Fate, displaced, struck, Row, Ledger, entryId, rowId, withFate}
-use Rattle.ledger.specs.Tidy.{isOpen, Closed, issueOf, PlaceIn, places-beside}
+use Rattle.ledger.specs.Tidy.{isOpen, Displaced, Fits, issueOf, PlaceIn, places-beside}
 use Rattle.ledger.specs.View.{bookOf, hold-without}
 
 abbrev pub struckOut : Fate → Fate
@@ -30,15 +31,22 @@ removeLedger i l = record {
   rows = change rowId i strike (l .rows);
 }
 
-closed : (rs : List Row) → Closed (map strike rs)
-closed [] = tt
-closed (r ∷ rs) = (shut (r .fate), closed rs)
+keep : (rs : List Row) → Displaced rs → Displaced (map strike rs)
+keep [] h = tt
+keep (r ∷ rs) h = (ap struckOut (h .0), keep rs (h .1))
+
+struck-last : (es : List SubmittedEntry) (rs : List Row) → Fits es rs → Fits {A = SubmittedEntry} [] (map strike rs)
+struck-last [] [] h = tt
+struck-last [] (r ∷ rs) h = (ap struckOut (h .0), keep rs (h .1))
+struck-last (e ∷ []) [] h = tt
+struck-last (e ∷ []) (r ∷ rs) h = (by (r .fate) (h .0), keep rs (h .1))
   where
-    shut : (f : Fate) → isOpen (struckOut f) ≡ false
-    shut displaced = refl
-    shut struck = refl
-    shut aside = refl
-    shut live = refl
+    by : (f : Fate) → isOpen f ≡ true → struckOut f ≡ struck
+    by displaced q = absurd (false≢true q)
+    by struck q = refl
+    by aside q = refl
+    by live q = refl
+struck-last (e ∷ e′ ∷ es) rs h = absurd h
 
 others : (i : ℕ) (l : Ledger) (j : ℕ) → (i ≡ j → ⊥) → pick rowId j (change rowId i strike (l .rows)) ≡ pick rowId j (l .rows)
 others i l j n = pick-change-other rowId strike (λ r. refl) i j (l .rows) n
@@ -46,7 +54,7 @@ others i l j n = pick-change-other rowId strike (λ r. refl) i j (l .rows) n
 place : (i : ℕ) (l : Ledger) → PlaceIn i l → PlaceIn i (removeLedger i l)
 unfolding removeLedger
 place i l p = rw (pick-without-same entryId i (l .entries), pick-change-same rowId strike (λ r. refl) i (l .rows))
-    (record { fits = closed (pick rowId i (l .rows)); fresh = λ k. (refl, ap (map strike) (p .fresh k .1)) })
+    (record { fits = struck-last (pick entryId i (l .entries)) (pick rowId i (l .rows)) (p .fits); fresh = λ k. (refl, ap (map strike) (p .fresh k .1)) })
 
 pub remove-law : (i : ℕ) → Law (silent (removeBook i)) (silent (removeLedger i))
 unfolding removeBook removeLedger bookOf

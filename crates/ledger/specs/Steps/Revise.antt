@@ -44,7 +44,8 @@ held r rows i (e ∷ es) = go (eqb (entryId e) i) (held r rows i es)
     go false ih = rw ih
 
 fit : (f : SubmittedEntry → SubmittedEntry) (es : List SubmittedEntry) (rs : List Row) → Fits es rs → Fits (map f es) rs
-fit f [] rs h = h
+fit f [] [] h = h
+fit f [] (r ∷ rs) h = h
 fit f (e ∷ []) [] h = h
 fit f (e ∷ []) (r ∷ rs) h = h
 fit f (e ∷ e′ ∷ es) rs h = h

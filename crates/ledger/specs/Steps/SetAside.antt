@@ -1,5 +1,6 @@
 -- "acknowledged, stopped or halted: the id's live row, if any, becomes set aside".
 use Prim.Native.Nat.{ℕ}
+use mathlib.Core.Bool.{false, true≢false}
 use mathlib.Core.List.{List, [], _∷_, map}
 use mathlib.Core.Path.{_≡_, refl}
 use Rattle.book_data.specs.declared.DeliveryAttempt.{DeliveryAttempt}
@@ -37,8 +38,14 @@ unfolding slotsAside noSlots
 no-slots = refl
 
 mark : Mark slotsAside rowAside
-mark = record { issues = λ r. refl; opens = λ r. opens (r .fate); slots = slots }
+mark = record { issues = λ r. refl; opens = λ r. opens (r .fate); shuts = λ r. shuts (r .fate); slots = slots }
   where
+    shuts : (f : Fate) → isOpen f ≡ false → fateAside f ≡ f
+    shuts displaced q = refl
+    shuts struck q = refl
+    shuts aside q = refl
+    shuts live q = absurd (true≢false q)
+
     opens : (f : Fate) → isOpen (fateAside f) ≡ isOpen f
     opens displaced = refl
     opens struck = refl
