@@ -2,3 +2,4 @@
 pub mod Tokens
 pub mod Counts
 pub mod Exact
+pub mod Fates

@@ -3,6 +3,8 @@ pub mod View
 pub mod Tidy
 pub mod Law
 pub mod Steps
+pub mod Events
 pub mod Run
 pub mod Account
+pub mod Told
 pub mod Theorem

@@ -4,8 +4,10 @@ use Prim.Native.Nat.{ℕ}
 use mathlib.Core.Bool.{Bool, true, false, _&&_}
 use mathlib.Core.List.{List, [], _∷_, _++_}
 use mathlib.Core.Path.{_≡_, refl, sym, _∙_}
-use Rattle.rules.specs.Rule.{done, DrainedSubmission, Rule, undo, stop, look, act, turn, Outcome, ended, undone, stopped, logged, guarded, grows, full, run, carry, answered, left, issuedBy}
-use Rattle.rules.specs.Steps.{runBook}
+use Rattle.book_data.specs.Model.{Book}
+use Rattle.rules.specs.Rule.{done, DrainedSubmission, Step, Effect, Rule, undo, stop, look, act, turn, Outcome, ended, undone, stopped, logged, guarded, grows, full, run, carry, answered, left, issuedBy}
+use Rattle.rules.specs.Steps.{onBook, runBook}
+use Rattle.ledger.specs.Law.{mapEffect}
 use Rattle.ledger.specs.Ledger.{Ledger}
 use Rattle.ledger.specs.Steps.{onLedger, law}
 use Rattle.ledger.specs.Tidy.{Issue, history, Tidy, issued, grown, Chained}
@@ -32,16 +34,23 @@ logged-carry f false xs (ended s ys v) = refl
 logged-carry f false xs (undone n) = refl
 logged-carry f false xs (stopped s ys n) = refl
 
+-- two states that show the same book, the steps on them agreeing: any rules come to the same on both
+module _ {S T : Type 0} (showS : S → Book) (onS : Step → S → Effect S) (showT : T → Book) (onT : Step → T → Effect T) (f : S → T) (Fit : S → Type 0)
+    (shows : (s : S) → showT (f s) ≡ showS s) (steps : (p : Step) (s : S) → Fit s → onT p (f s) ≡ mapEffect f (onS p s))
+    (fits : (p : Step) (s : S) → Fit s → Fit (onS p s .after)) where
+  pub agree : {A : Type 0} (r : Rule A) (s : S) → Fit s → run showT onT r (f s) ≡ carry f (run showS onS r s)
+  unfolding run
+  agree (done v) s h = refl
+  agree (undo n) s h = refl
+  agree (stop n) s h = refl
+  agree (look k) s h = rw (shows s) (agree (k (showS s)) s h)
+  agree (act p r) s h =
+      rw (steps p s h, shows (onS p s .after), agree r (onS p s .after) (fits p s h))
+      (logged-carry f (grows p && full (showS (onS p s .after))) (onS p s .out) (run showS onS r (onS p s .after)))
+  agree (turn r) s h = agree r s h
+
 pub agrees : {A : Type 0} {o : ℕ} (r : Rule A) (l : Ledger) → Tidy o l → runBook r (bookOf l) ≡ carry bookOf (runLedger r l)
-unfolding run
-agrees (done v) l t = refl
-agrees (undo n) l t = refl
-agrees (stop n) l t = refl
-agrees (look k) l t = agrees (k (bookOf l)) l t
-agrees (act p r) l t =
-    rw (law p .agrees l t, agrees r (onLedger p l .after) (law p .tidies l t))
-    (logged-carry bookOf (grows p && full (bookOf (onLedger p l .after))) (onLedger p l .out) (runLedger r (onLedger p l .after)))
-agrees (turn r) l t = agrees r l t
+agrees {o = o} r l t = agree bookOf onLedger (λ b. b) onBook bookOf (Tidy o) (λ l. refl) (λ p l t. law p .agrees l t) (λ p l t. law p .tidies l t) r l t
 
 chained-append : (h : List Issue) (xs ys : List DrainedSubmission) → Chained h xs → Chained (grown xs h) ys → Chained h (xs ++ ys)
 chained-append h [] ys c d = d

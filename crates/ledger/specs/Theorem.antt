@@ -19,10 +19,13 @@ use Rattle.rules.specs.Rule.{book, DrainedSubmission, Outcome, ended, undone, s
 use Rattle.rules.specs.Steps.{runBook}
 use Rattle.ledger.specs.Account.Counts.{count, counts}
 use Rattle.ledger.specs.Account.Exact.{Exact, exact, one-open, one-slot, single, told-fates}
+use Rattle.ledger.specs.Account.Fates.{Settled}
 use Rattle.ledger.specs.Account.Tokens.{downTo, next-token, tokens-run}
+use Rattle.ledger.specs.Events.{Event, Told, runTold, kindsOf, fatesOf, fatesBy}
 use Rattle.ledger.specs.Ledger.{live, aside, displaced, struck, Row, Ledger, rowId, rowToken, begun}
 use Rattle.ledger.specs.Run.{runLedger, Continued, agrees, good, good-left, left-carry, answered-carry, issued-carry}
 use Rattle.ledger.specs.Tidy.{Open, Fits, history, Tidy, grown, Chained}
+use Rattle.ledger.specs.Told.{Kept, left-kept, left-ledger}
 use Rattle.ledger.specs.View.{bookOf}
 
 module _ (encode : Book → List ℕ) where
@@ -42,6 +45,17 @@ module _ (encode : Book → List ℕ) where
   answersLedger [] l = []
   answersLedger (c ∷ cs) l = answerLedger c l ∷ answersLedger cs (callLedger c l)
 
+  -- the ledger with its events beside it, and the events of a list of calls on a book opened with next token o and next id n
+  unfoldable pub callTold : Call → Told → Told
+  callTold c s = left s (runTold (rules encode c) s)
+
+  unfoldable pub toldAfter : List Call → Told → Told
+  toldAfter [] s = s
+  toldAfter (c ∷ cs) s = toldAfter cs (callTold c s)
+
+  unfoldable pub eventsAfter : List Call → ℕ → ℕ → List Event
+  eventsAfter cs o n = toldAfter cs (record { ledger = begun o n; events = [] }) .events
+
   -- what holds of the book and the ledger after a list of calls on a book opened with next token o and next id n
   pub record Accounted (o n : ℕ) (cs : List Call) : Type 0 where
     -- every call is answered as the ledger foretells, and the book left is the one foretold
@@ -53,6 +67,8 @@ module _ (encode : Book → List ℕ) where
     pub tokens : map rowToken (ledgerAfter cs (begun o n) .rows) ≡ downTo o (ledgerAfter cs (begun o n) .nextToken - o)
     -- of the tokens of one submission all but the last are displaced; the last is struck out where the submission was removed, else live or set aside
     pub fate : (i : ℕ) → Fits (pick idOf i (bookAfter encode cs (opened o n) .submitted)) (pick rowId i (ledgerAfter cs (begun o n) .rows))
+    -- by the calls alone: the fates are those that the events tell, so the last is struck out exactly where the submission was removed since
+    pub settled : (i : ℕ) → fatesOf i (ledgerAfter cs (begun o n) .rows) ≡ fatesBy (kindsOf i (eventsAfter cs o n))
     -- each has one of the four fates
     pub fates : count displaced (ledgerAfter cs (begun o n) .rows) + count struck (ledgerAfter cs (begun o n) .rows) + count aside (ledgerAfter cs (begun o n) .rows) + count live (ledgerAfter cs (begun o n) .rows)
         ≡ ledgerAfter cs (begun o n) .nextToken - o
@@ -103,6 +119,16 @@ module _ (encode : Book → List ℕ) where
         tidy = k .tidy;
       }
 
+  told-after : {o : ℕ} (cs : List Call) (s : Told) → Kept o s → Kept o (toldAfter cs s)
+  unfolding toldAfter callTold
+  told-after [] s k = k
+  told-after (c ∷ cs) s k = told-after cs (callTold c s) (left-kept (rules encode c) s k)
+
+  told-ledger : (cs : List Call) (s : Told) → toldAfter cs s .ledger ≡ ledgerAfter cs (s .ledger)
+  unfolding toldAfter ledgerAfter callTold callLedger
+  told-ledger [] s = refl
+  told-ledger (c ∷ cs) s = rw (← left-ledger (rules encode c) s) (told-ledger cs (callTold c s))
+
   ledger-append : (before after : List Call) (l : Ledger) → ledgerAfter (before ++ after) l ≡ ledgerAfter after (ledgerAfter before l)
   unfolding ledgerAfter
   ledger-append [] after l = refl
@@ -119,6 +145,12 @@ module _ (encode : Book → List ℕ) where
   book-begun : (o n : ℕ) → bookOf (begun o n) ≡ opened o n
   unfolding begun opened bookOf
   book-begun o n = refl
+
+  settled-begun : (o n : ℕ) (cs : List Call) → Settled (ledgerAfter cs (begun o n) .rows) (eventsAfter cs o n)
+  unfolding eventsAfter begun pick
+  settled-begun o n cs =
+      let s : Told = record { ledger = begun o n; events = [] } in
+      rw (← told-ledger cs s) (told-after cs s (record { tidy = tidy-begun o n; settled = λ i. refl }) .settled)
 
   chain-at : (o n : ℕ) (before : List Call) (c : Call)
       → Chained (history (ledgerAfter before (begun o n))) (issuedBook encode c (bookAfter encode before (opened o n)))
@@ -147,6 +179,7 @@ module _ (encode : Book → List ℕ) where
     since = omega (arith, next-token l t);
     tokens = tokens-run l t;
     fate = rw e (told-fates l t);
+    settled = settled-begun o n cs;
     fates = omega (arith, next-token l t, counts (l .rows));
     lives = rw e (exact l t live refl);
     asides = rw e (exact l t aside refl);

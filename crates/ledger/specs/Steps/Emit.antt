@@ -88,7 +88,7 @@ keep : (rs : List Row) → Displaced rs → Displaced (map displace rs)
 keep [] h = tt
 keep (r ∷ rs) h = (ap displacedBy (h .0), keep rs (h .1))
 
-displaced-all : (e : SubmittedEntry) (rs : List Row) → Fits (e ∷ []) rs → Displaced (map displace rs)
+pub displaced-all : (e : SubmittedEntry) (rs : List Row) → Fits (e ∷ []) rs → Displaced (map displace rs)
 displaced-all e [] h = tt
 displaced-all e (r ∷ rs) h = (by (r .fate) (h .0), keep rs (h .1))
   where
@@ -109,10 +109,10 @@ last-to i (r ∷ rows) = go (eqb (r .id) i) (last-to i rows)
     go false ih = ih
 
 module _ (i : ℕ) (g : SubmissionDeliveryGoal) (v : List ℕ) (l : Ledger) where
-  others : (j : ℕ) → (i ≡ j → ⊥) → pick rowId j (issueLedger i g v l .rows) ≡ pick rowId j (l .rows)
+  pub others : (j : ℕ) → (i ≡ j → ⊥) → pick rowId j (issueLedger i g v l .rows) ≡ pick rowId j (l .rows)
   others j n = pick-miss rowId j (issueRow i g v l) _ n ∙ pick-change-other rowId displace (λ r. refl) i j (l .rows) n
 
-  own : pick rowId i (issueLedger i g v l .rows) ≡ issueRow i g v l ∷ map displace (pick rowId i (l .rows))
+  pub own : pick rowId i (issueLedger i g v l .rows) ≡ issueRow i g v l ∷ map displace (pick rowId i (l .rows))
   own = pick-hit rowId i (issueRow i g v l) _ refl ∙ ap (λ rs. issueRow i g v l ∷ rs) (pick-change-same rowId displace (λ r. refl) i (l .rows))
 
   here : slotsOf (pick rowId i (issueLedger i g v l .rows)) ≡ slotsIssued (issueAttempt (l .nextToken) g v) (slotsOf (pick rowId i (l .rows)))
