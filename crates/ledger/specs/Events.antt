@@ -52,8 +52,8 @@ abbrev pub runTold : {A : Type 0} → Rule A → Told → Outcome Told A
 runTold = run toldBook onTold
 
 -- what befell the submission i
-abbrev pub kindsOf : ℕ → List Event → List Kind
-kindsOf i es = map (λ x. x .kind) (pick (λ (x : Event). x .id) i es)
+abbrev pub eventsOf : ℕ → List Event → List Kind
+eventsOf i es = map (λ x. x .kind) (pick (λ (x : Event). x .id) i es)
 
 -- the fates of the tokens of the submission i
 abbrev pub fatesOf : ℕ → List Row → List Fate

@@ -21,7 +21,7 @@ use Rattle.ledger.specs.Account.Counts.{count, counts}
 use Rattle.ledger.specs.Account.Exact.{Exact, exact, one-open, one-slot, single, told-fates}
 use Rattle.ledger.specs.Account.Fates.{Settled}
 use Rattle.ledger.specs.Account.Tokens.{downTo, next-token, tokens-run}
-use Rattle.ledger.specs.Events.{Event, Told, runTold, kindsOf, fatesOf, fatesBy}
+use Rattle.ledger.specs.Events.{Event, Told, runTold, eventsOf, fatesOf, fatesBy}
 use Rattle.ledger.specs.Ledger.{live, aside, displaced, struck, Row, Ledger, rowId, rowToken, begun}
 use Rattle.ledger.specs.Run.{runLedger, Continued, agrees, good, good-left, left-carry, answered-carry, issued-carry}
 use Rattle.ledger.specs.Tidy.{Open, Fits, history, Tidy, grown, Chained}
@@ -68,7 +68,7 @@ module _ (encode : Book → List ℕ) where
     -- of the tokens of one submission all but the last are displaced; the last is struck out where the submission was removed, else live or set aside
     pub fate : (i : ℕ) → Fits (pick idOf i (bookAfter encode cs (opened o n) .submitted)) (pick rowId i (ledgerAfter cs (begun o n) .rows))
     -- by the calls alone: the fates are those that the events tell, so the last is struck out exactly where the submission was removed since
-    pub settled : (i : ℕ) → fatesOf i (ledgerAfter cs (begun o n) .rows) ≡ fatesBy (kindsOf i (eventsAfter cs o n))
+    pub settled : (i : ℕ) → fatesOf i (ledgerAfter cs (begun o n) .rows) ≡ fatesBy (eventsOf i (eventsAfter cs o n))
     -- each has one of the four fates
     pub fates : count displaced (ledgerAfter cs (begun o n) .rows) + count struck (ledgerAfter cs (begun o n) .rows) + count aside (ledgerAfter cs (begun o n) .rows) + count live (ledgerAfter cs (begun o n) .rows)
         ≡ ledgerAfter cs (begun o n) .nextToken - o

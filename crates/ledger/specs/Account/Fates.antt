@@ -12,7 +12,7 @@ use Rattle.rules.specs.Parts.{currentFingerprint}
 use Rattle.rules.specs.Rule.{Step, note, revise, retain, emit, remove, setAside, finalise, replay, Effect}
 use Rattle.rules.specs.Steps.{retainable}
 use Rattle.rules.specs.Steps.Slots.{handed}
-use Rattle.ledger.specs.Events.{Kind, emitted, removed, halted, Event, event, eventsBy, Told, onTold, kindsOf, fatesOf, emissions, lastFate, fatesSince, fatesBy}
+use Rattle.ledger.specs.Events.{Kind, emitted, removed, halted, Event, event, eventsBy, Told, onTold, eventsOf, fatesOf, emissions, lastFate, fatesSince, fatesBy}
 use Rattle.ledger.specs.Ledger.{live, aside, Fate, displaced, struck, Row, Ledger, entryId, rowId}
 use Rattle.ledger.specs.Steps.{onLedger, law}
 use Rattle.ledger.specs.Steps.Emit.{displace, issueRow, issueLedger, emitEntry, emitLedger, displaced-all, own, others}
@@ -27,7 +27,7 @@ use Rattle.ledger.specs.Tidy.{Displaced, Fits, Tidy}
 
 -- the fates of each submission's tokens are those that its events tell
 abbrev pub Settled : List Row → List Event → Type 0
-Settled rows es = (i : ℕ) → fatesOf i rows ≡ fatesBy (kindsOf i es)
+Settled rows es = (i : ℕ) → fatesOf i rows ≡ fatesBy (eventsOf i es)
 
 -- ---- the fates by the events
 map-displaced : (g : Fate → Fate) → g displaced ≡ displaced → (n : ℕ) → map g (replicate n displaced) ≡ replicate n displaced
@@ -72,7 +72,7 @@ module _ (f : Row → Row) (g : Fate → Fate) (ids : (r : Row) → f r .id ≡ 
   turned : (k : Kind) → ((ks : List Kind) → map g (fatesBy ks) ≡ fatesBy (k ∷ ks)) → (j : ℕ) (rows : List Row) (es : List Event)
       → Settled rows es → Settled (change rowId j f rows) (event k j ∷ es)
   turned k turn j rows es h i = same-or-other j i
-      (λ e. rw (e, pick-change-same rowId f ids i rows, pick-hit (λ (x : Event). x .id) i (event k i) es refl, map-fates (pick rowId i rows), h i) (turn (kindsOf i es)))
+      (λ e. rw (e, pick-change-same rowId f ids i rows, pick-hit (λ (x : Event). x .id) i (event k i) es refl, map-fates (pick rowId i rows), h i) (turn (eventsOf i es)))
       (λ n. rw (pick-change-other rowId f ids j i rows n, pick-miss (λ (x : Event). x .id) i (event k j) es n) (h i))
 
 same-fates : (f : Row → Row) → ((r : Row) → f r .id ≡ r .id) → ((r : Row) → f r .fate ≡ r .fate) → (j : ℕ) (rows : List Row) (es : List Event)
@@ -92,10 +92,10 @@ all-displaced (r ∷ rs) h = ap₂ (λ f fs. f ∷ fs) (h .0) (all-displaced rs 
 -- ---- the steps
 module _ (j : ℕ) (g : SubmissionDeliveryGoal) {o : ℕ} (l : Ledger) (t : Tidy o l) (es : List Event) (h : Settled (l .rows) es) where
   -- the row of the new token, and all before it displaced
-  issued : (v : List ℕ) (e : SubmittedEntry) → Fits (e ∷ []) (pick rowId j (l .rows)) → fatesOf j (issueLedger j g v l .rows) ≡ fatesBy (emitted ∷ kindsOf j es)
+  issued : (v : List ℕ) (e : SubmittedEntry) → Fits (e ∷ []) (pick rowId j (l .rows)) → fatesOf j (issueLedger j g v l .rows) ≡ fatesBy (emitted ∷ eventsOf j es)
   issued v e k = rw (own j g v l) (ap (λ fs. live ∷ fs) (
       all-displaced (map displace (pick rowId j (l .rows))) (displaced-all e (pick rowId j (l .rows)) k)
-      ∙ ap (λ n. replicate n displaced) (length-map (pick rowId j (l .rows)) displace ∙ sym (length-map (pick rowId j (l .rows)) (λ r. r .fate)) ∙ ap length (h j) ∙ token-each false false (kindsOf j es))
+      ∙ ap (λ n. replicate n displaced) (length-map (pick rowId j (l .rows)) displace ∙ sym (length-map (pick rowId j (l .rows)) (λ r. r .fate)) ∙ ap length (h j) ∙ token-each false false (eventsOf j es))
       ))
 
   now : (v : List ℕ) (e : SubmittedEntry) → Fits (e ∷ []) (pick rowId j (l .rows)) → Settled (issueLedger j g v l .rows) (event emitted j ∷ es)
