@@ -51,11 +51,11 @@ toldBook s = bookOf (s .ledger)
 abbrev pub runTold : {A : Type 0} → Rule A → Told → Outcome Told A
 runTold = run toldBook onTold
 
--- what befell the submission i
+-- what befell the submission i, the last first
 abbrev pub eventsOf : ℕ → List Event → List Kind
 eventsOf i es = map (λ x. x .kind) (pick (λ (x : Event). x .id) i es)
 
--- the fates of the tokens of the submission i
+-- the fates of the tokens of the submission i, the last first
 abbrev pub fatesOf : ℕ → List Row → List Fate
 fatesOf i rows = map (λ r. r .fate) (pick rowId i rows)
 
