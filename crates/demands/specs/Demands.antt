@@ -1,4 +1,5 @@
--- What is owed of the rules, with the archive form as archive writing has it. What is owed of the archive alone is archive_laws/Theorems.
+-- What is owed of the rules besides demand 3 (Demand3), with the archive form as archive writing has it. What is owed of the archive alone is
+-- archive_laws/Theorems.
 use Prim.Native.Nat.{ℕ}
 use mathlib.Core.Bool.{true}
 use mathlib.Core.List.{List}
@@ -16,11 +17,6 @@ use Rattle.rules.specs.Opened.{opened}
 use Rattle.rule_laws.specs.Sound.Run.{sound-call-data, sound-opened, sound-after}
 use Rattle.typed_laws.specs.Theorems.{restored-after}
 use Rattle.typed_laws.specs.Typing.{TypedCall}
-use Rattle.ledger.specs.Theorem.{Accounted, ledger-theorem}
-
--- demand 3: one claim about every list of calls on a book opened with any two numbers
-pub ledger : (token id : ℕ) (calls : List Call) → Accounted encodeModel token id calls
-ledger = ledger-theorem encodeModel
 
 -- "Every call leaves a sound book."
 pub sound : (c : Call) (b : BookData) → soundb b ≡ true → soundb (back (callBook encodeModel c (view b))) ≡ true

@@ -1,1 +1,3 @@
+pub mod Predecessors
+pub mod Demand3
 pub mod Demands
