@@ -1,0 +1,183 @@
+#!/usr/bin/env python3
+"""Holds archive.py, a decoder written from docs/ARCHIVE.md, against the page, the recorded lists and the driver.
+
+    run.py [DRIVER [SEED]]      (target/bin/book_driver, 1)
+"""
+import collections
+import pathlib
+import random
+import re
+import sys
+
+sys.dont_write_bytecode = True
+ROOT = pathlib.Path(__file__).resolve().parents[2]
+import archive
+import books
+import lists
+import script
+from script import READ, WRITE
+
+
+def decoded(data):
+    """What the decoder answers: 0, or 13 with the place; and the row of the page's table."""
+    try:
+        book = archive.decode(data)
+    except archive.Refused as refused:
+        return 13, refused.place, refused.row
+    assert archive.encode(book) == data, "decoded and written again, it is another string: " + data.hex()
+    return 0, None, None
+
+
+def expect(what, got, wanted):
+    if got != wanted:
+        sys.exit("archive decoder: %s: %r, and should be %r" % (what, got, wanted))
+
+
+# ---- the page
+def page_example():
+    """The bytes of the page's worked example, from its table of offsets."""
+    text = (ROOT / "docs/ARCHIVE.md").read_text(encoding="utf-8")
+    data = b""
+    for offset, value, times in re.findall(r"^\| (\d+) \| `([0-9a-f]+)(?: × (\d+))?` \|", text, re.M):
+        expect("offset in the page's table", len(data), int(offset))
+        data += bytes.fromhex(value) * int(times or 1)
+    return text, data
+
+
+def check_page():
+    text, data = page_example()
+    example = archive.decode(data)
+    tx = example["retained"][0]
+    for what, digest in (
+        ("archive", archive.sha256(data)),
+        ("variant fingerprint", archive.variant_fingerprint(tx["base bundle"])),
+        ("intent fingerprint", archive.intent_fingerprint(tx["base bundle"], tx["expiry"], tx["fee intent"])),
+    ):
+        expect("the page has the example's " + what, "`%s`" % digest.hex() in text, True)
+    change = lambda at, value: data[:at] + bytes([value]) + data[at + 1 :]
+    damages = ((data[:100], 69), (change(213, 7), 213), (change(34, 6), 27), (data + b"\0", 385))
+    for wrong, place in damages:
+        expect("a damage that the page names", decoded(wrong)[:2], (13, place))
+    return data
+
+
+# ---- archives that were recorded or are written by the driver
+def check_answers(played):
+    """Each archive that was read or written: the decoder's answer, its digest. Answers the archives."""
+    found = []
+    for (op, last, _), answer in played:
+        if op == READ:
+            refusal, place, _ = decoded(last)
+            expect("reading " + last.hex(), (refusal, place), (answer.refusal, answer.place))
+            if refusal == 0:
+                expect("digest of " + last.hex(), answer.digest, archive.sha256(last))
+                found.append(last)
+        elif op == WRITE and answer.refusal == 0:
+            expect("a written archive " + answer.written.hex(), decoded(answer.written)[0], 0)
+            expect("digest of a written archive", answer.digest, archive.sha256(answer.written))
+            expect("bytes behind a written archive", set(answer.behind) - {script.FILLED}, set())
+            found.append(answer.written)
+    return found
+
+
+def recorded():
+    found = []
+    for path in sorted((ROOT / "tests/recorded").glob("*.in")):
+        made = script.calls(path.read_bytes())
+        found += check_answers(zip(made, script.answers(made, path.with_suffix(".out").read_bytes())))
+    return found
+
+
+# ---- books that calls made: what the page says of them
+def check_called(data, seen):
+    book = archive.decode(data)
+    for tx in book["retained"]:
+        base, fee, intent = tx["base bundle"], tx["fee bundle"], tx["fee intent"]
+        expect("intent fingerprint", tx["intent fingerprint"], archive.intent_fingerprint(base, tx["expiry"], intent))
+        known = [archive.variant_fingerprint(base)] + ([archive.variant_fingerprint(fee["bundle"])] if fee else [])
+        slots = [tx[slot] for slot in ("live", "set aside") if tx[slot]]
+        prints = [tx["acknowledged"]] + [slot[part] for slot in slots for part in ("drained", "finalised")]
+        expect("variant fingerprints that are no bundle's", [one for one in prints if one and one not in known], [])
+        expect("mark, fee bundle, fee intent", (tx["durable mark"], bool(fee), intent["kind"] == 2), [(0, False, True), (1, False, False), (2, True, True)][tx["durable mark"]])
+        expect("applied fee", fee and fee["applied fee"], fee and intent["amount"])
+        expect("tokens from the opening one on", [slot["token"] for slot in slots if slot["token"] < lists.TOKEN], [])
+        expect("id below the next", tx["id"] < book["next id"], True)
+        seen["submissions"] += 1
+        for name in ("live", "set aside", "fee bundle", "acknowledged", "expiry"):
+            seen[name] += tx[name] is not None
+        for name, value in (("InputSpent", 1), ("Landed", 2)):
+            seen[name] += tx["chain"] == value
+    for name in ("queue", "retirements", "rollback height", "replayed"):
+        seen[name] += bool(book[name])
+
+
+def called(driver, rng, count):
+    text = b"".join(call for _ in range(count) for call in lists.List(rng).calls(24))
+    found = [data for data in check_answers(script.play(driver, b"\0" * 16 + text)) if data != script.OPENED]
+    seen = collections.Counter()
+    for data in found:
+        check_called(data, seen)
+    missing = [name for name in "live,set aside,fee bundle,acknowledged,expiry,InputSpent,Landed,queue,retirements,rollback height,replayed".split(",") if not seen[name]]
+    expect("parts that no list of calls has made", missing, [])
+    return found, seen["submissions"]
+
+
+def check_parent(driver):
+    """The coin of an output has its spend's coin id as parent: the book lands on that coin and on no other."""
+    spend = {"coin": b"any coin", "digest": b"\1" * 32, "outputs": [{"puzzle hash": b"\2" * 32, "amount": 128}]}
+    payment = {"id": None, "bundle": [spend], "expiry": None, "fee intent": {"kind": 0}, "trigger": 0, "goal": 0}
+    made = archive.output_coins([spend])[0]
+    expect("coin that an output makes", made, archive.sha256(b"any coin") + b"\2" * 32 + b"\0\x80")
+    for coin, chain in ((made, 2), (b"any coin".ljust(32) + made[32:], 0), (made[:-2] + b"\x80", 0)):
+        report = b"\x14" + script.coin_list([coin]) + script.run(b"") + b"\0" + script.ids([])
+        played = script.play(driver, b"\0" * 8 + archive.number(1) + script.queue(payment) + b"\x05" + report + script.write(2000))
+        expect("chain after a report of " + coin.hex(), archive.decode(check_answers(played)[0])["retained"][0]["chain"], chain)
+
+
+# ---- strings of every kind, read by both
+def strings(rng, example, found):
+    largest = archive.encode(books.largest())
+    sound = [books.sound(rng) for _ in range(250)]
+    whole = [archive.encode(book) for book in sound]
+    small = sorted((data for data in set(found) if 200 < len(data) < 900), key=len)
+    made = [b"", script.OPENED, largest] + whole
+    made += [archive.encode(books.broken(rng, book)) for book in sound for _ in range(12)]
+    made += [archive.encode(books.broken(rng, books.broken(rng, book))) for book in sound for _ in range(4)]
+    made += books.all_cuts(example) + books.all_changes(example)
+    for data in rng.sample(small, 2):
+        made += books.all_cuts(data) + books.all_changes(data)
+    made += [books.damaged(rng, rng.choice(found)) for _ in range(2000)]
+    made += [books.damaged(rng, rng.choice(whole)) for _ in range(1000)]
+    made += [books.damaged(rng, largest) for _ in range(30)]
+    return made
+
+
+def compared(driver, made):
+    answers = script.play(driver, b"\0" * 16 + b"".join(script.read(data) for data in made))
+    expect("calls that the driver answered", len(answers), len(made))
+    rows = collections.Counter()
+    for data, (_, answer) in zip(made, answers):
+        refusal, place, row = decoded(data)
+        expect("reading " + data.hex(), (refusal, place), (answer.refusal, answer.place))
+        if refusal == 0:
+            expect("digest of " + data.hex(), answer.digest, archive.sha256(data))
+        rows[row] += 1
+    expect("rows of the page's table that came up less than 20 times", [row for row in archive.ROWS if rows[row] < 20], [])
+    return rows
+
+
+def main():
+    driver = sys.argv[1] if len(sys.argv) > 1 else str(ROOT / "target/bin/book_driver")
+    rng = random.Random(int(sys.argv[2]) if len(sys.argv) > 2 else 1)
+    example = check_page()
+    found = recorded()
+    check_parent(driver)
+    made_by_calls, submissions = called(driver, rng, 120)
+    made = strings(rng, example, found + made_by_calls)
+    rows = compared(driver, made)
+    print("archive decoder: %d recorded archives; %d of calls, the fingerprints of %d submissions recomputed;" % (len(found), len(made_by_calls), submissions))
+    print("    %d strings read as the driver reads them: %d archives, %s" % (len(made), rows[None], ", ".join("%d %s" % (rows[row], row) for row in archive.ROWS)))
+
+
+if __name__ == "__main__":
+    main()
