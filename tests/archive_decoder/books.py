@@ -121,7 +121,7 @@ def broken(rng, book):
     retained, replayed = book["retained"], book["replayed"]
     entry = some(rng, retained + book["queue"])
     slot, spend = some(rng, slots(book)), some(rng, [spend for one in bundles(book) for spend in one])
-    kind = rng.randrange(17)
+    kind = rng.randrange(19)
     if kind == 0 and len(retained) > 1:
         retained[-1]["id"] = retained[rng.randrange(len(retained) - 1)]["id"]
     elif kind == 1 and slot:
@@ -158,6 +158,11 @@ def broken(rng, book):
         book["retained"] = retained * (1 + 16 // len(retained))
     elif kind == 16 and book["queue"]:
         book["queue"] = book["queue"] * (1 + 16 // len(book["queue"]))
+    elif kind == 17 and spend:
+        one = next(one for one in bundles(book) if one)
+        one.extend([spend] * (5 - len(one)))
+    elif kind == 18 and slot:
+        slot["goal"] = 2
     return book
 
 
@@ -185,8 +190,9 @@ def all_cuts(data):
 
 
 def all_changes(data):
-    """Each byte in turn one higher, one lower, and with its highest bit turned."""
-    return [data[:n] + bytes([value]) + data[n + 1 :] for n in range(len(data)) for value in ((data[n] + 1) % 256, (data[n] - 1) % 256, data[n] ^ 128)]
+    """Each byte in turn one higher, one lower, with its highest bit turned, and 2."""
+    values = lambda byte: ((byte + 1) % 256, (byte - 1) % 256, byte ^ 128, 2)
+    return [data[:n] + bytes([value]) + data[n + 1 :] for n in range(len(data)) for value in values(data[n])]
 
 
 assert len(archive.encode(largest())) == 57694
