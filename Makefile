@@ -1,5 +1,5 @@
 # `make run` and `make test` are all that a fresh machine with the Rattle kit, a C compiler and cargo needs.
-.PHONY: help run test library lib compare bench fuzz archives fmt
+.PHONY: help run test library lib install uninstall compare bench fuzz archives fmt
 # `rt` runs its checks side by side itself; two of it at once would prove the same crates twice.
 .NOTPARALLEL:
 
@@ -8,6 +8,10 @@ CXX ?= c++
 CFLAGS = -std=c11 -Wall -Wextra -Werror -pedantic -O2
 SOURCES = crates.txt $(shell find crates -name '*.rt' -o -name '*.antt')
 LIBRARY = target/lib/libsubmission_book.a
+SONAME = libsubmission_book.so.0
+SHARED = target/lib/$(SONAME)
+VERSION = 0.1.0
+PREFIX ?= /usr/local
 EXAMPLE = examples/c/kitchen.c examples/c/account.c examples/c/wire.c examples/c/sha256.c
 CALLS = tests/c_api/calls.c tests/c_api/buffers.c tests/c_api/sizes.c
 SAMPLE = tests/c_api/sample.c examples/c/wire.c examples/c/sha256.c
@@ -17,15 +21,16 @@ HEADERS = include/submission_book.h $(wildcard examples/c/*.h tests/c_api/*.h)
 help:
 	@echo "make run       play a sample kitchen through the library, write its archive and show it"
 	@echo "make test      the gate: every proof, must-fail edit and program, the Rust comparison, the library's own tests (.ci/run)"
-	@echo "make lib       target/lib/libsubmission_book.a, proved as it is built, and target/lib/submission_book.h"
-	@echo "make library   the library's tests alone: C, C++, stack, sanitizers, the Rust crate, archives shown"
+	@echo "make lib       target/lib: libsubmission_book.a, proved as it is built, the same as a shared library, and submission_book.h"
+	@echo "make install   library, header, pkg-config file and show_archive below PREFIX=/usr/local (DESTDIR= in front of it); make uninstall"
+	@echo "make library   the library's tests alone: C, C++, stack, sanitizers, the Rust crate, archives shown and decoded, installing"
 	@echo "make compare   call scripts, played by the driver and by the Rust (N=6000 SEED=1: so many, of this seed)"
 	@echo "make bench     every call, archives and SHA-256 against Rust, in one run"
 	@echo "make fuzz      ten minutes of coverage-guided fuzzing of the C boundary (SECONDS=30 for less), after building it for that"
 	@echo "make archives  damaged archives, read here and by the Rust side's decoder"
 	@echo "make fmt       the layout of every source, specification and proof"
 
-# The first run proves what it links, about ten minutes on two cores; later ones take seconds.
+# The first run proves what it links, about ten minutes on two processors; later ones take a second.
 run: lib target/bin/show_archive target/kitchen
 	@target/kitchen target/kitchen.archive
 	@echo
@@ -34,21 +39,50 @@ run: lib target/bin/show_archive target/kitchen
 test:
 	@.ci/run
 
-lib: $(LIBRARY) target/lib/submission_book.h
+lib: $(LIBRARY) $(SHARED) target/lib/submission_book.h
+
+# Programs that are asked for as well are proved in one go with what the library needs.
+PROGRAMS =
+run install: PROGRAMS = show_archive
+library: PROGRAMS = show_archive book_driver
 
 # A library is proved again when it is built, so the header is copied by a rule of its own.
 $(LIBRARY): $(SOURCES)
-	rt staticlib c_api
+	@tools/prove --library c_api $(PROGRAMS)
 	@mkdir -p target/lib
 	@cp target/staticlib/libc_api.a $(LIBRARY)
+
+# The compiler's code is position independent, so the static library is a shared one when it is linked.
+$(SHARED): $(LIBRARY)
+	@$(CC) -shared -Wl,-soname,$(SONAME),-z,defs,-z,noexecstack,--whole-archive $(LIBRARY) -Wl,--no-whole-archive -o $@
+	@ln -sf $(SONAME) target/lib/libsubmission_book.so
 
 target/lib/submission_book.h: include/submission_book.h
 	@mkdir -p target/lib
 	@cp include/submission_book.h target/lib/
 
-target/bin/show_archive: $(SOURCES)
-	@rt check show_archive
+target/bin/show_archive target/bin/book_driver: $(SOURCES)
+	@tools/prove $(@F)
 	@touch $@
+
+# What is installed, below DESTDIR and PREFIX.
+PLACE = $(DESTDIR)$(abspath $(PREFIX))
+INSTALLED = lib/libsubmission_book.a lib/$(SONAME) lib/libsubmission_book.so lib/pkgconfig/submission_book.pc include/submission_book.h \
+	bin/show_archive $(addprefix share/doc/submission_book/, ARCHIVE.md NOTICE)
+
+install: lib target/bin/show_archive
+	@mkdir -p $(addprefix $(PLACE)/, $(sort $(dir $(INSTALLED))))
+	@install -m 644 $(LIBRARY) $(SHARED) $(PLACE)/lib/
+	@ln -sf $(SONAME) $(PLACE)/lib/libsubmission_book.so
+	@sed -e 's|@PREFIX@|$(abspath $(PREFIX))|' -e 's|@VERSION@|$(VERSION)|' tools/submission_book.pc.in >$(PLACE)/lib/pkgconfig/submission_book.pc
+	@install -m 644 include/submission_book.h $(PLACE)/include/
+	@install -m 755 target/bin/show_archive $(PLACE)/bin/
+	@install -m 644 docs/ARCHIVE.md NOTICE $(PLACE)/share/doc/submission_book/
+	@echo "installed below $(PLACE): $(INSTALLED)"
+
+uninstall:
+	@rm -f $(addprefix $(PLACE)/, $(INSTALLED))
+	@rmdir $(PLACE)/share/doc/submission_book 2>/dev/null || true
 
 target/first: examples/first.c $(LIBRARY) target/lib/submission_book.h
 	$(CC) $(CFLAGS) -I target/lib examples/first.c $(LIBRARY) -o $@
@@ -63,8 +97,8 @@ target/c_api_stack: tests/c_api/stack.c $(SAMPLE) $(HEADERS) $(LIBRARY)
 	$(CC) $(CFLAGS) $(INCLUDE) tests/c_api/stack.c $(SAMPLE) $(LIBRARY) -pthread -o $@
 
 # The library as its users have it: the sample kitchen, all functions from C and C++, the stack that they take, sanitizers, the Rust
-# crate, and archives shown as text.
-library: lib target/first target/kitchen target/c_api_calls target/c_api_stack target/bin/show_archive
+# crate, archives shown as text and decoded in Python, and installing.
+library: lib target/first target/kitchen target/c_api_calls target/c_api_stack target/bin/show_archive target/bin/book_driver
 	target/first
 	target/kitchen target/kitchen.archive >target/kitchen.txt
 	target/c_api_calls
@@ -73,12 +107,13 @@ library: lib target/first target/kitchen target/c_api_calls target/c_api_stack t
 	examples/c/sanitize.sh
 	cd bindings/rust && cargo test --offline --quiet
 	tests/show_archive/run.sh
+	@if command -v python3 >/dev/null; then python3 tests/archive_decoder/run.py; else echo "There is no python3 here: the archive decoder was not run."; fi
+	tests/install/run.sh
 
 # The driver against the Rust on N seeded scripts of about 20 calls each.
 N ?= 6000
 SEED ?= 1
-compare:
-	@rt check book_driver >/dev/null
+compare: target/bin/book_driver
 	@tests/oracle/check "$(CURDIR)/target/bin/book_driver" $(SEED) $(N)
 
 bench: $(LIBRARY)
@@ -88,8 +123,7 @@ SECONDS ?= 600
 fuzz:
 	@fuzz/run.sh $(SECONDS)
 
-archives:
-	@rt check book_driver >/dev/null
+archives: target/bin/book_driver
 	@cd tests/oracle && cargo build --release --offline
 	@tests/oracle/target/release/oracle archives --driver target/bin/book_driver --seed 1 --archives 5
 
