@@ -1,5 +1,5 @@
 #!/usr/bin/env python3
-"""Reads and writes the archive of a submission book. Written from docs/ARCHIVE.md alone, without a look at the code.
+"""Reads and writes the archive of a submission book. Written from docs/ARCHIVE.md; it shares nothing with the code.
 
     archive.py FILE     prints the book, or the place at which FILE is refused
 """
