@@ -13,7 +13,7 @@ use Rattle.book_data.specs.Zero.{zeroBundle, zeroFeeIntent}
 use Rattle.rules.specs.Call.{NoSource, Joined, SourceFailed, Call, IdCollides, OutputsUnreadable, ExpectedOutputs, SubmissionIdSource, Applied, Stale, noValue, failures, finalized, feeIntentIs, statusIs, idsAre, written}
 use Rattle.rules.specs.Opened.{opened}
 use Rattle.rules.specs.Rule.{Initial, Other, answer, refused}
-use Rattle.rules.specs.Examples.Pieces.{height, byId, delivery, drained, failing, entryOf, spending, seventhId, noCoins, liveSlot, seventh, feeOf3, feeOpen, drainedSlot, joinedEmpty, holding}
+use Rattle.rules.specs.Examples.Pieces.{height, byId, delivery, drained, failing, spending, seventhId, noCoins, liveSlot, seventh, feeOf3, feeOpen, drainedSlot, joinedEmpty, holding}
 use Rattle.specimens.specs.Pieces.{entryFor, attachedToBase, payment, secondOutput, unreadable, failingAs, retaining, unattempted}
 use Rattle.specimens.specs.Play.{play}
 use Rattle.specimens.specs.Table.{Row, listed, staged, given, wanted, specimensIn}

@@ -1,5 +1,4 @@
 -- A list of calls, played under the rules with our archive form; and the stages at which candidates of its drains failed.
-use Prim.Native.Nat.{ℕ}
 use mathlib.Core.List.{List, [], _∷_, map}
 use mathlib.Core.Path.{_≡_, refl, ap}
 use Rattle.lists.specs.Lists.{flatMap}

@@ -8,7 +8,7 @@ use Rattle.book_data.specs.Model.{Book, back}
 use Rattle.book_data.specs.SoundLaws.{view-back}
 use Rattle.book_data.specs.Typed.{Every, U64}
 use Rattle.archive_form.specs.Encode.{encodeModel, encodeBook}
-use Rattle.archive_form.specs.Parse.{readArchive, ArchiveRead, book}
+use Rattle.archive_form.specs.Parse.{readArchive, book}
 use Rattle.archive_laws.specs.Books.{TypedModel}
 use Rattle.archive_laws.specs.Back.{back-typed, back-sound}
 use Rattle.archive_laws.specs.Sizes.{archive-size}

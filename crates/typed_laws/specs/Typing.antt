@@ -1,11 +1,9 @@
 -- A book within the program's types, and rules whose steps keep it there.
 use Prim.Native.Nat.{ℕ, suc}
 use mathlib.Core.Bool.{Bool, cond}
-use mathlib.Core.List.{List}
-use Rattle.book_data.specs.declared.PendingDelivery.{PendingDelivery}
 use Rattle.book_data.specs.Model.{Book}
 use Rattle.book_data.specs.Typed.{Every, U64, Bytes, TypedHeight, TypedOptionalHeight, TypedBundle, TypedIntent, TypedSubmitted, TypedDelivery}
-use Rattle.rules.specs.Call.{FeeSource, Call, Value}
+use Rattle.rules.specs.Call.{Call}
 use Rattle.rules.specs.Rule.{Revision, tighten, acknowledge, attach, terminality, reopen, Note, enqueue, unqueue, retire, unreplay, unqueueAll, unretireAll, beginEpoch, endEpoch, Step, note, revise, retain, emit, remove, setAside, finalise, replay, Rule, _>>=_}
 use Rattle.rule_laws.specs.Held
 use Rattle.rule_laws.specs.Held.{HeldTo, held-bind, held-cond}

@@ -1,6 +1,6 @@
 -- The steps without their guards; rules whose steps the guards take run alike with them.
 use Prim.Native.Nat.{ℕ}
-use mathlib.Core.Bool.{Bool, true, false, cond, _&&_}
+use mathlib.Core.Bool.{Bool, true, cond, _&&_}
 use mathlib.Core.List.{[], _∷_, _++_, map}
 use mathlib.Core.Path.{_≡_, refl, ap, sym, _∙_}
 use Rattle.book_data.specs.declared.SubmittedEntry.{SubmittedEntry}
