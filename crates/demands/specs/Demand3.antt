@@ -102,17 +102,17 @@ module _ (token id : ℕ) where
 -- the theorem of crate ledger, on the lists that the program's book holds
 pub demand-3 : (token id : ℕ) (calls : List Call) → Demand3 token id calls
 demand-3 token id calls = record {
-  nextToken = rw e (a .next);
-  opening = a .since;
+  nextToken = rw e (a .nextToken);
+  opening = a .opening;
   tokens = a .tokens;
   issued = grows;
   handed = λ before rest q k. grows before Drain rest q ∙ grown-by (tokensAt token id before) (programBook token id before) Drain k;
-  fates = a .settled;
-  retained = rw e (a .fate);
-  sum = a .fates;
-  liveSlots = rw e (a .lives);
-  asideSlots = rw e (a .asides);
-  oneEntry = rw e (a .once);
+  fates = a .fates;
+  retained = rw e (a .retained);
+  sum = a .sum;
+  liveSlots = rw e (a .liveSlots);
+  asideSlots = rw e (a .asideSlots);
+  oneEntry = rw e (a .oneEntry);
   oneSlot = rw e (a .oneSlot);
   oneRow = a .oneRow;
   predecessors = λ before rest q. named (tokensAt token id before) (programBook token id before) Drain (chained before rest q);
@@ -127,7 +127,7 @@ demand-3 token id calls = record {
 
     grows : (before : List Call) (c : Call) (rest : List Call) → calls ≡ before ++ c ∷ rest
         → tokensAt token id (before ++ c ∷ []) ≡ grown (issuedAt token id before c) (tokensAt token id before)
-    grows before c rest q = rw (issued-by token id before c) (a .predecessors before c rest q .1)
+    grows before c rest q = rw (issued-by token id before c) (a .issued before c rest q)
 
     chained : (before rest : List Call) → calls ≡ before ++ Drain ∷ rest → Chained (tokensAt token id before) (issuedAt token id before Drain)
-    chained before rest q = rw (issued-by token id before Drain) (a .predecessors before Drain rest q .0)
+    chained before rest q = rw (issued-by token id before Drain) (a .chained before Drain rest q)

@@ -9,7 +9,7 @@ use Rattle.book_data.specs.Model.{view, back}
 use Rattle.book_data.specs.Sound.{soundb}
 use Rattle.book_data.specs.SoundLaws.{sound-back}
 use Rattle.book_data.specs.Typed.{Every, U64}
-use Rattle.archive_form.specs.Encode.{encodeModel, encodeBook}
+use Rattle.archive_form.specs.Encode.{encodeModel}
 use Rattle.archive_form.specs.Parse.{readArchive, book}
 use Rattle.rules.specs.Books.{callBook, bookAfter}
 use Rattle.rules.specs.Call.{Call}

@@ -15,16 +15,16 @@ use Rattle.rules.specs.Call.{Call, Value}
 use Rattle.rules.specs.Calls.{rules}
 use Rattle.rules.specs.Keyed.{pick}
 use Rattle.rules.specs.Opened.{opened}
-use Rattle.rules.specs.Rule.{book, DrainedSubmission, Outcome, ended, undone, stopped, Answer, answer, answered, left, issuedBy}
+use Rattle.rules.specs.Rule.{DrainedSubmission, Outcome, ended, undone, stopped, Answer, answer, answered, left, issuedBy}
 use Rattle.rules.specs.Steps.{runBook}
 use Rattle.ledger.specs.Account.Counts.{count, counts}
-use Rattle.ledger.specs.Account.Exact.{Exact, exact, one-open, one-slot, single, told-fates}
+use Rattle.ledger.specs.Account.Exact.{Exact, exact, one-open, one-slot, single, book-fits}
 use Rattle.ledger.specs.Account.Fates.{Settled}
 use Rattle.ledger.specs.Account.Tokens.{downTo, next-token, tokens-run}
 use Rattle.ledger.specs.Events.{Event, Told, runTold, eventsOf, fatesOf, fatesBy}
 use Rattle.ledger.specs.Ledger.{live, aside, displaced, struck, Row, Ledger, rowId, rowToken, begun}
 use Rattle.ledger.specs.Run.{runLedger, Continued, agrees, good, good-left, left-carry, answered-carry, issued-carry}
-use Rattle.ledger.specs.Tidy.{Open, Fits, history, Tidy, grown, Chained}
+use Rattle.ledger.specs.Tidy.{Open, Fits, Issue, history, Tidy, grown, Chained}
 use Rattle.ledger.specs.Told.{Kept, left-kept, left-ledger}
 use Rattle.ledger.specs.View.{bookOf}
 
@@ -56,36 +56,55 @@ module _ (encode : Book → List ℕ) where
   unfoldable pub eventsAfter : List Call → ℕ → ℕ → List Event
   eventsAfter cs o n = toldAfter cs (record { ledger = begun o n; events = [] }) .events
 
-  -- what holds of the book and the ledger after a list of calls on a book opened with next token o and next id n
-  pub record Accounted (o n : ℕ) (cs : List Call) : Type 0 where
-    -- every call is answered as the ledger foretells, and the book left is the one foretold
-    pub answers : answersBook encode cs (opened o n) ≡ answersLedger cs (begun o n)
-    pub foretold : bookAfter encode cs (opened o n) ≡ bookOf (ledgerAfter cs (begun o n))
-    -- the issued tokens are those from the opening one to the next one, a row each, the last first
-    pub next : bookAfter encode cs (opened o n) .nextToken .0 ≡ ledgerAfter cs (begun o n) .nextToken
-    pub since : o ≤ ledgerAfter cs (begun o n) .nextToken
-    pub tokens : map rowToken (ledgerAfter cs (begun o n) .rows) ≡ downTo o (ledgerAfter cs (begun o n) .nextToken - o)
-    -- of the tokens of one submission all but the last are displaced; the last is struck out where the submission was removed, else live or set aside
-    pub fate : (i : ℕ) → Fits (pick idOf i (bookAfter encode cs (opened o n) .submitted)) (pick rowId i (ledgerAfter cs (begun o n) .rows))
-    -- by the calls alone: the fates are those that the events tell, so the last is struck out exactly where the submission was removed since
-    pub settled : (i : ℕ) → fatesOf i (ledgerAfter cs (begun o n) .rows) ≡ fatesBy (eventsOf i (eventsAfter cs o n))
-    -- each has one of the four fates
-    pub fates : count displaced (ledgerAfter cs (begun o n) .rows) + count struck (ledgerAfter cs (begun o n) .rows) + count aside (ledgerAfter cs (begun o n) .rows) + count live (ledgerAfter cs (begun o n) .rows)
-        ≡ ledgerAfter cs (begun o n) .nextToken - o
-    -- the live slots are the live rows and the set-aside slots the set-aside rows, under their own submissions
-    pub lives : Exact live (bookAfter encode cs (opened o n)) (ledgerAfter cs (begun o n) .rows)
-    pub asides : Exact aside (bookAfter encode cs (opened o n)) (ledgerAfter cs (begun o n) .rows)
-    -- at most one a submission
-    pub once : (i : ℕ) → length (pick idOf i (bookAfter encode cs (opened o n) .submitted)) ≤ 1
-    pub oneSlot : (t : SubmittedTx) → List·Memᴰ t (bookAfter encode cs (opened o n) .submitted) → (t .slots .«active_attempt» .present ≡ false) ⊎ (t .slots .«completed_attempt» .present ≡ false)
-    pub oneRow : (r s : Row) → List·Memᴰ r (ledgerAfter cs (begun o n) .rows) → List·Memᴰ s (ledgerAfter cs (begun o n) .rows) → Open r → Open s → r .id ≡ s .id → r ≡ s
-    -- at every call of the list, what it issued names as predecessor the token of the id's last row before, and is what the rows grow by
-    pub predecessors : (before : List Call) (c : Call) (after : List Call) → cs ≡ before ++ c ∷ after
-        → Chained (history (ledgerAfter before (begun o n))) (issuedBook encode c (bookAfter encode before (opened o n)))
-        × (history (ledgerAfter (before ++ c ∷ []) (begun o n)) ≡ grown (issuedBook encode c (bookAfter encode before (opened o n))) (history (ledgerAfter before (begun o n))))
-    -- "In the answer of every drain in the list each submission names as predecessor the last token issued to it before"
-    pub named : (before : List Call) (c : Call) (after : List Call) → cs ≡ before ++ c ∷ after → (xs : List DrainedSubmission) (v : Value)
-        → answerBook encode c (bookAfter encode before (opened o n)) ≡ answer xs v → Chained (history (ledgerAfter before (begun o n))) xs
+  module _ (o n : ℕ) where
+    -- behind the calls of a list on a book opened with next token o and next id n: the ledger, the tokens issued, what one more call issues
+    abbrev ledgerAt : List Call → Ledger
+    ledgerAt before = ledgerAfter before (begun o n)
+
+    abbrev tokensAt : List Call → List Issue
+    tokensAt before = history (ledgerAt before)
+
+    abbrev issuedAt : List Call → Call → List DrainedSubmission
+    issuedAt before c = issuedBook encode c (bookAfter encode before (opened o n))
+
+    module _ (cs : List Call) where
+      abbrev book : Book
+      book = bookAfter encode cs (opened o n)
+
+      abbrev next : ℕ
+      next = ledgerAt cs .nextToken
+
+      abbrev rows : List Row
+      rows = ledgerAt cs .rows
+
+      -- what holds of the book and the ledger after the calls cs
+      pub record Accounted : Type 0 where
+        -- every call is answered as the ledger foretells, and the book left is the one foretold
+        pub answers : answersBook encode cs (opened o n) ≡ answersLedger cs (begun o n)
+        pub foretold : book ≡ bookOf (ledgerAt cs)
+        -- the issued tokens are those from the opening one to the next one, a row each, the last first
+        pub nextToken : book .nextToken .0 ≡ next
+        pub opening : o ≤ next
+        pub tokens : map rowToken rows ≡ downTo o (next - o)
+        -- of the tokens of one submission all but the last are displaced; the last is struck out exactly where the submission was removed since,
+        -- else live or set aside: by the calls alone, and by the book, which does not retain a removed submission
+        pub fates : (i : ℕ) → fatesOf i rows ≡ fatesBy (eventsOf i (eventsAfter cs o n))
+        pub retained : (i : ℕ) → Fits (pick idOf i (book .submitted)) (pick rowId i rows)
+        -- the four fates are all that was issued
+        pub sum : count displaced rows + count struck rows + count aside rows + count live rows ≡ next - o
+        -- the live slots are the live rows and the set-aside slots the set-aside rows, under their own submissions
+        pub liveSlots : Exact live book rows
+        pub asideSlots : Exact aside book rows
+        -- at most one a submission
+        pub oneEntry : (i : ℕ) → length (pick idOf i (book .submitted)) ≤ 1
+        pub oneSlot : (t : SubmittedTx) → List·Memᴰ t (book .submitted) → (t .slots .«active_attempt» .present ≡ false) ⊎ (t .slots .«completed_attempt» .present ≡ false)
+        pub oneRow : (r s : Row) → List·Memᴰ r rows → List·Memᴰ s rows → Open r → Open s → r .id ≡ s .id → r ≡ s
+        -- at every call of the list, what it issued is what the rows grow by, and names as predecessor the token of the id's last row before
+        pub issued : (before : List Call) (c : Call) (rest : List Call) → cs ≡ before ++ c ∷ rest → tokensAt (before ++ c ∷ []) ≡ grown (issuedAt before c) (tokensAt before)
+        pub chained : (before : List Call) (c : Call) (rest : List Call) → cs ≡ before ++ c ∷ rest → Chained (tokensAt before) (issuedAt before c)
+        -- "In the answer of every drain in the list each submission names as predecessor the last token issued to it before"
+        pub predecessors : (before : List Call) (c : Call) (rest : List Call) → cs ≡ before ++ c ∷ rest → (xs : List DrainedSubmission) (v : Value)
+            → answerBook encode c (bookAfter encode before (opened o n)) ≡ answer xs v → Chained (tokensAt before) xs
 
   -- ---- the proof
   record Stepped (o : ℕ) (c : Call) (l : Ledger) : Type 0 where
@@ -152,14 +171,11 @@ module _ (encode : Book → List ℕ) where
       let s : Told = record { ledger = begun o n; events = [] } in
       rw (← told-ledger cs s) (told-after cs s (record { tidy = tidy-begun o n; settled = λ i. refl }) .settled)
 
-  chain-at : (o n : ℕ) (before : List Call) (c : Call)
-      → Chained (history (ledgerAfter before (begun o n))) (issuedBook encode c (bookAfter encode before (opened o n)))
-      × (history (ledgerAfter (before ++ c ∷ []) (begun o n)) ≡ grown (issuedBook encode c (bookAfter encode before (opened o n))) (history (ledgerAfter before (begun o n))))
-  chain-at o n before c =
+  continued : (o n : ℕ) (before : List Call) (c : Call) → Continued o (tokensAt o n before) (ledgerAt o n (before ++ c ∷ [])) (issuedAt o n before c)
+  continued o n before c =
       let a = after before (begun o n) (tidy-begun o n) in
-      let s = stepped c (ledgerAfter before (begun o n)) (a .tidy) in
-      rw (← book-begun o n, a .book, ledger-append before (c ∷ []) (begun o n), ledger-one c (ledgerAfter before (begun o n)))
-      (s .goes .chained, s .goes .grows)
+      let s = stepped c (ledgerAt o n before) (a .tidy) in
+      rw (← book-begun o n, a .book, ledger-append before (c ∷ []) (begun o n), ledger-one c (ledgerAt o n before)) (s .goes)
 
   issued-answer : (k : Outcome Book Value) (xs : List DrainedSubmission) (v : Value) → answered k ≡ answer xs v → issuedBy k ≡ xs
   issued-answer (ended b ys w) xs v e = cc
@@ -175,20 +191,21 @@ module _ (encode : Book → List ℕ) where
   ledger-theorem o n cs = record {
     answers = rw (← book-begun o n) (a .says);
     foretold = e;
-    next = rw e (unfold bookOf in refl);
-    since = omega (arith, next-token l t);
+    nextToken = rw e (unfold bookOf in refl);
+    opening = omega (arith, next-token l t);
     tokens = tokens-run l t;
-    fate = rw e (told-fates l t);
-    settled = settled-begun o n cs;
-    fates = omega (arith, next-token l t, counts (l .rows));
-    lives = rw e (exact l t live refl);
-    asides = rw e (exact l t aside refl);
-    once = rw e (single l t);
+    fates = settled-begun o n cs;
+    retained = rw e (book-fits l t);
+    sum = omega (arith, next-token l t, counts (l .rows));
+    liveSlots = rw e (exact l t live refl);
+    asideSlots = rw e (exact l t aside refl);
+    oneEntry = rw e (single l t);
     oneSlot = rw e (one-slot l t);
     oneRow = one-open l t;
-    predecessors = λ before c rest p. chain-at o n before c;
-    named = λ before c rest p xs v q.
-        subst (λ (ys : List DrainedSubmission). Chained (history (ledgerAfter before (begun o n))) ys) (issued-is c (bookAfter encode before (opened o n)) xs v q) (chain-at o n before c .0);
+    issued = λ before c rest p. continued o n before c .grows;
+    chained = λ before c rest p. continued o n before c .chained;
+    predecessors = λ before c rest p xs v q.
+        subst (λ (ys : List DrainedSubmission). Chained (tokensAt o n before) ys) (issued-is c (bookAfter encode before (opened o n)) xs v q) (continued o n before c .chained);
   }
     where
       a : After o cs (begun o n)

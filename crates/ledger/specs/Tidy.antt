@@ -38,6 +38,14 @@ Fits (e ∷ []) [] = Unit {0}
 Fits (e ∷ []) (r ∷ rs) = Open r × Displaced rs
 Fits (e ∷ e′ ∷ es) rs = ⊥
 
+-- it counts the submissions alone
+pub fits-map : {A B : Type 0} (f : A → B) (es : List A) (rs : List Row) → Fits es rs → Fits (map f es) rs
+fits-map f [] [] h = h
+fits-map f [] (r ∷ rs) h = h
+fits-map f (e ∷ []) [] h = h
+fits-map f (e ∷ []) (r ∷ rs) h = h
+fits-map f (e ∷ e′ ∷ es) rs h = h
+
 pub displaced-closed : (rs : List Row) → Displaced rs → Closed rs
 displaced-closed [] h = tt
 displaced-closed (r ∷ rs) h = (ap isOpen (h .0), displaced-closed rs (h .1))

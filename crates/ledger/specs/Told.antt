@@ -6,7 +6,6 @@ use mathlib.Core.Path.{_≡_, refl}
 use Rattle.rules.specs.Rule.{DrainedSubmission, Step, Rule, done, undo, stop, look, act, turn, Outcome, ended, undone, stopped, logged, guarded, grows, full, run, carry, left}
 use Rattle.ledger.specs.Account.Fates.{Settled, settles}
 use Rattle.ledger.specs.Events.{Told, onTold, toldBook, runTold}
-use Rattle.ledger.specs.Ledger.{Ledger}
 use Rattle.ledger.specs.Run.{runLedger, agree, left-carry}
 use Rattle.ledger.specs.Steps.{onLedger, law}
 use Rattle.ledger.specs.Tidy.{Tidy}

@@ -18,7 +18,7 @@ use Rattle.book_data.specs.Zero.{noAttempt, noSlots}
 use Rattle.rules.specs.Keyed.{pick, mem-picked, mem-pick, mem-picked-key, pick-map}
 use Rattle.rules.specs.Steps.Slots.{present}
 use Rattle.ledger.specs.Ledger.{live, aside, Fate, displaced, struck, Row, Ledger, entryId, rowId}
-use Rattle.ledger.specs.Tidy.{isOpen, Open, Closed, Fits, displaced-closed, gone-closed, Tidy}
+use Rattle.ledger.specs.Tidy.{isOpen, Open, Closed, Fits, fits-map, displaced-closed, gone-closed, Tidy}
 use Rattle.ledger.specs.View.{slotsBy, slotsOf, hold, bookOf}
 
 -- the slot of a fate
@@ -141,17 +141,10 @@ module _ {o : ℕ} (l : Ledger) (t : Tidy o l) where
   one-slot h m = let (e, m′, p) = Memᴰ·of-map (hold (l .rows)) (l .entries) m in
       subst (λ (x : SubmittedTx). (x .slots .«active_attempt» .present ≡ false) ⊎ (x .slots .«completed_attempt» .present ≡ false)) p (half (pick rowId (entryId e) (l .rows)))
 
-  -- of each submission's tokens all but the last are displaced, and the last is struck out, live or set aside
-  pub told-fates : (i : ℕ) → Fits (pick idOf i (bookOf l .submitted)) (pick rowId i (l .rows))
+  -- the rows fit the submissions that the book retains
+  pub book-fits : (i : ℕ) → Fits (pick idOf i (bookOf l .submitted)) (pick rowId i (l .rows))
   unfolding bookOf hold
-  told-fates i = rw (pick-map entryId idOf (hold (l .rows)) (λ e. refl) i (l .entries)) (go (pick entryId i (l .entries)) (pick rowId i (l .rows)) (t .places i .fits))
-    where
-      go : (es : List SubmittedEntry) (rs : List Row) → Fits es rs → Fits (map (hold (l .rows)) es) rs
-      go [] [] h = h
-      go [] (r ∷ rs) h = h
-      go (e ∷ []) [] h = h
-      go (e ∷ []) (r ∷ rs) h = h
-      go (e ∷ e′ ∷ es) rs h = h
+  book-fits i = rw (pick-map entryId idOf (hold (l .rows)) (λ e. refl) i (l .entries)) (fits-map (hold (l .rows)) (pick entryId i (l .entries)) (pick rowId i (l .rows)) (t .places i .fits))
 
   -- at most one of an id is retained
   pub single : (i : ℕ) → length (pick idOf i (bookOf l .submitted)) ≤ 1

@@ -9,13 +9,13 @@ use Rattle.book_data.specs.declared.PendingSubmissionIntent.{PendingSubmissionI
 use Rattle.book_data.specs.declared.SubmissionDeliveryGoal.{SubmissionDeliveryGoal}
 use Rattle.rules.specs.Keyed.{same-or-other, pick, change, pick-hit, pick-miss, picked-key, pick-change-same, pick-change-other}
 use Rattle.rules.specs.Parts.{currentFingerprint}
-use Rattle.rules.specs.Rule.{Step, note, revise, retain, emit, remove, setAside, finalise, replay, Effect}
+use Rattle.rules.specs.Rule.{Step, note, revise, retain, emit, remove, setAside, finalise, replay}
 use Rattle.rules.specs.Steps.{retainable}
 use Rattle.rules.specs.Steps.Slots.{handed}
-use Rattle.ledger.specs.Events.{Kind, emitted, removed, halted, Event, event, eventsBy, Told, onTold, eventsOf, fatesOf, emissions, lastFate, fatesSince, fatesBy}
-use Rattle.ledger.specs.Ledger.{live, aside, Fate, displaced, struck, Row, Ledger, entryId, rowId}
-use Rattle.ledger.specs.Steps.{onLedger, law}
-use Rattle.ledger.specs.Steps.Emit.{displace, issueRow, issueLedger, emitEntry, emitLedger, displaced-all, own, others}
+use Rattle.ledger.specs.Events.{Kind, emitted, removed, halted, Event, event, eventsBy, eventsOf, fatesOf, emissions, lastFate, fatesSince, fatesBy}
+use Rattle.ledger.specs.Ledger.{live, Fate, displaced, struck, Row, Ledger, entryId, rowId}
+use Rattle.ledger.specs.Steps.{onLedger}
+use Rattle.ledger.specs.Steps.Emit.{displace, issueLedger, emitEntry, emitLedger, displaced-all, own, others}
 use Rattle.ledger.specs.Steps.Finalise.{rowFinal, finaliseLedger}
 use Rattle.ledger.specs.Steps.Mark.{markLedger}
 use Rattle.ledger.specs.Steps.Note.{noteLedger, replayLedger}

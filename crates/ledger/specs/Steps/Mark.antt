@@ -16,7 +16,7 @@ unfoldable pub markLedger : (Row → Row) → ℕ → Ledger → Ledger
 unfolding change
 markLedger f i l = withRows (change rowId i f (l .rows)) l
 
--- a mark leaves what was issued, and leaves a row open or closed; g says what it does to the slots
+-- a mark leaves what was issued, leaves an open row open and a closed one as it is; g says what it does to the slots
 pub record Mark (g : AttemptSlots → AttemptSlots) (f : Row → Row) : Type 0 where
   pub issues : (r : Row) → issueOf (f r) ≡ issueOf r
   pub opens : (r : Row) → isOpen (f r .fate) ≡ isOpen (r .fate)

@@ -12,7 +12,7 @@ use Rattle.rules.specs.Steps.{withEntry, reviseBook, silent}
 use Rattle.rules.specs.Steps.Entry.{withJoined, revised}
 use Rattle.ledger.specs.Law.{Law}
 use Rattle.ledger.specs.Ledger.{Row, Ledger, entryId, rowId, withEntries}
-use Rattle.ledger.specs.Tidy.{Fits, PlaceIn, places-beside}
+use Rattle.ledger.specs.Tidy.{fits-map, PlaceIn, places-beside}
 use Rattle.ledger.specs.View.{hold, bookOf}
 
 unfoldable pub reviseLedger : ℕ → Revision → Ledger → Ledger
@@ -43,17 +43,10 @@ held r rows i (e ∷ es) = go (eqb (entryId e) i) (held r rows i es)
     go true ih = rw (ih, keeps-id r e)
     go false ih = rw ih
 
-fit : (f : SubmittedEntry → SubmittedEntry) (es : List SubmittedEntry) (rs : List Row) → Fits es rs → Fits (map f es) rs
-fit f [] [] h = h
-fit f [] (r ∷ rs) h = h
-fit f (e ∷ []) [] h = h
-fit f (e ∷ []) (r ∷ rs) h = h
-fit f (e ∷ e′ ∷ es) rs h = h
-
 place : (r : Revision) (i : ℕ) (l : Ledger) → PlaceIn i l → PlaceIn i (reviseLedger i r l)
 unfolding reviseLedger
 place r i l p = rw (pick-change-same entryId (revised r) (keeps-id r) i (l .entries))
-    (record { fits = fit (revised r) (pick entryId i (l .entries)) (pick rowId i (l .rows)) (p .fits); fresh = λ k. (ap (map (revised r)) (p .fresh k .0), p .fresh k .1) })
+    (record { fits = fits-map (revised r) (pick entryId i (l .entries)) (pick rowId i (l .rows)) (p .fits); fresh = λ k. (ap (map (revised r)) (p .fresh k .0), p .fresh k .1) })
 
 pub revise-law : (i : ℕ) (r : Revision) → Law (silent (reviseBook i r)) (silent (reviseLedger i r))
 unfolding reviseBook reviseLedger bookOf
