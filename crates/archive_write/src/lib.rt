@@ -125,7 +125,8 @@ fn write_back(out: &mut [u8], b: BookData) -> usize
     let r = at_most(retired.count, 64);
     let p = at_most(replayed.count, 16);
     let at = write_ids(&mut *out, &retired_ids[0..r]);
-    let next = write_height(&mut *out, at, height);
+    let rollback = write_height(&mut out[at..], 0, height);
+    let next = at + rollback;
     let last = write_ids(&mut out[next..], &replayed_ids[0..p]);
     next + last
 }
