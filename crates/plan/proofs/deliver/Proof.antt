@@ -1,4 +1,6 @@
+-- One answer for each way out: emitted before, no token left, issued. That no token is left is shown by its number.
 use borrow.Author.Tests.{eq-eqb, ne-eqb}
+use Rattle.rules.specs.Calls.Plan.{last64}
 use Rattle.plan.specs.Plan.{deliverPlan}
 use native.Mathlib.Omega.{arith}
 use mathlib.Core.Path.{sym, _∙_}
@@ -12,7 +14,7 @@ returns c = rw (sym (c .before .before .has16 .ensures) ∙ c .before .if1 .take
 
 returns-2 : tie.Need-returns-2
 unfolding deliverPlan
-returns-2 c = rw (sym (c .before .before .before .before .has16 .ensures) ∙ c .before .before .before .if1 .left, eq-eqb _ _ (c .before .if2 .taken)) (c .storing2 .ensures)
+returns-2 c = rw (sym (c .before .before .before .before .has16 .ensures) ∙ c .before .before .before .if1 .left, eq-eqb (c .before .before .before .before .before .before .before .args .place .«next_token» .0) last64 (omega (arith, c .before .if2 .taken))) (c .storing2 .ensures)
 
 issue-requires : tie.Need-issue-requires
 issue-requires c κs = omega (arith, c .if2 .left)

@@ -1,3 +1,4 @@
+-- One answer for each test in the order of paper 01. That the book is full is shown by its number.
 use borrow.Author.Tests.{eq-eqb, ne-eqb, not-true, not-false}
 use Rattle.plan.specs.Plan.{unknownPlan}
 use native.Mathlib.Omega.{arith}
@@ -26,7 +27,7 @@ returns-4 : tie.Need-returns-4
 unfolding unknownPlan
 returns-4 c =
     let reads = c .before .before .before .before .before .before .before .is-readable-bundle in
-    rw (sym (c .before .before .before .before .before .before .before .before .before .has16 .ensures) ∙ c .before .before .before .before .before .before .before .before .if1 .left, sym (reads .ensures) ∙ not-false (reads .result) (c .before .before .before .before .before .before .if2 .left), ne-eqb _ _ (c .before .before .before .before .if3 .left), eq-eqb _ _ (c .before .before .if4 .taken), sym (c .before .zero .ensures)) (c .failing .ensures)
+    rw (sym (c .before .before .before .before .before .before .before .before .before .has16 .ensures) ∙ c .before .before .before .before .before .before .before .before .if1 .left, sym (reads .ensures) ∙ not-false (reads .result) (c .before .before .before .before .before .before .if2 .left), ne-eqb _ _ (c .before .before .before .before .if3 .left), eq-eqb (c .before .before .before .before .before .before .before .before .before .before .before .before .before .args .place .count) 16 (omega (arith, c .before .before .if4 .taken)), sym (c .before .zero .ensures)) (c .failing .ensures)
 
 retain-requires : tie.Need-retain-requires
 retain-requires c κs =
