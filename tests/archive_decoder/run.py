@@ -1,9 +1,10 @@
 #!/usr/bin/env python3
-"""Holds archive.py, a decoder written from docs/ARCHIVE.md, against the page, the recorded lists and the driver.
+"""Holds archive.py, a decoder written from docs/ARCHIVE.md, against the page, the recorded lists, the driver and the library.
 
-    run.py [DRIVER [SEED]]      (target/bin/book_driver, 1)
+    run.py [DRIVER [SEED [LIBRARY]]]      (target/bin/book_driver, 1, target/lib/libsubmission_book.so)
 """
 import collections
+import ctypes
 import pathlib
 import random
 import re
@@ -166,17 +167,35 @@ def compared(driver, made):
     return rows
 
 
+def compared_with_library(path, made):
+    """The same strings through the shared library: a book is its archive behind 8 bytes with its length."""
+    read = ctypes.CDLL(path).submission_book_read
+    read.argtypes = [ctypes.c_char_p, ctypes.c_size_t] * 2 + [ctypes.POINTER(ctypes.c_uint64)]
+    read.restype = ctypes.c_uint8
+    size = 57702
+    book = ctypes.create_string_buffer(size)
+    for data in made:
+        place = ctypes.c_uint64(size)
+        refusal = read(book, size, data, len(data), ctypes.byref(place))
+        expect("the library, reading " + data.hex(), (refusal, place.value if refusal == 13 else None), decoded(data)[:2])
+        if refusal == 0:
+            expect("the library's book of " + data.hex(), book.raw[: 8 + len(data)], archive.number(len(data)) + data)
+
+
 def main():
-    driver = sys.argv[1] if len(sys.argv) > 1 else str(ROOT / "target/bin/book_driver")
-    rng = random.Random(int(sys.argv[2]) if len(sys.argv) > 2 else 1)
+    arguments = dict(enumerate(sys.argv))
+    driver = arguments.get(1, str(ROOT / "target/bin/book_driver"))
+    rng = random.Random(int(arguments.get(2, 1)))
+    library = arguments.get(3, str(ROOT / "target/lib/libsubmission_book.so"))
     example = check_page()
     found = recorded()
     check_parent(driver)
     made_by_calls, submissions = called(driver, rng, 120)
     made = strings(rng, example, found + made_by_calls)
     rows = compared(driver, made)
+    compared_with_library(library, made)
     print("archive decoder: %d recorded archives; %d of calls, the fingerprints of %d submissions recomputed;" % (len(found), len(made_by_calls), submissions))
-    print("    %d strings read as the driver reads them: %d archives, %s" % (len(made), rows[None], ", ".join("%d %s" % (rows[row], row) for row in archive.ROWS)))
+    print("    %d strings read as the driver and the library read them: %d archives, %s" % (len(made), rows[None], ", ".join("%d %s" % (rows[row], row) for row in archive.ROWS)))
 
 
 if __name__ == "__main__":
