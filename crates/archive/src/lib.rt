@@ -2,7 +2,7 @@
 ghost use mathlib.Core.Path.{_≡_};
 ghost use Rattle.book_data.specs.Sound.{soundb};
 ghost use Rattle.archive_form.specs.Encode.{encodeBook};
-ghost use Rattle.archive.specs.Answer.{wroteOf, leftIn};
+ghost use Rattle.archive.specs.Answer.{answerOf, writeAnswer, leftIn};
 use archive_size::size_archive;
 use archive_write::write_book;
 use book_data::BookData;
@@ -16,7 +16,7 @@ pub enum Wrote {
 
 // Writes the archive of b at the start of out, if the book is sound, which `sound` says, and if out is long enough.
 pub fn write_if_sound(b: BookData, sound: bool, out: &mut [u8]) -> Wrote
-    ensures { λ r. ⌜ (r ≡ wroteOf sound (now (out .entry)) (encodeBook b)) × (now (out .exit) ≡ leftIn sound (now (out .entry)) (encodeBook b)) ⌝ }
+    ensures { λ r. ⌜ (answerOf r ≡ writeAnswer sound (now (out .entry)) (encodeBook b)) × (now (out .exit) ≡ leftIn sound (now (out .entry)) (encodeBook b)) ⌝ }
 {
     if !sound {
         return Wrote::Unsound;
@@ -31,7 +31,7 @@ pub fn write_if_sound(b: BookData, sound: bool, out: &mut [u8]) -> Wrote
 
 // Writes the archive of a book: refused 1 where it is not sound and 12 where out is shorter than needed, and then out stays as it was.
 pub fn write_archive(b: BookData, out: &mut [u8]) -> Wrote
-    ensures { λ r. ⌜ (r ≡ wroteOf (soundb b) (now (out .entry)) (encodeBook b)) × (now (out .exit) ≡ leftIn (soundb b) (now (out .entry)) (encodeBook b)) ⌝ }
+    ensures { λ r. ⌜ (answerOf r ≡ writeAnswer (soundb b) (now (out .entry)) (encodeBook b)) × (now (out .exit) ≡ leftIn (soundb b) (now (out .entry)) (encodeBook b)) ⌝ }
 {
     let sound = is_sound(b);
     write_if_sound(b, sound, out)

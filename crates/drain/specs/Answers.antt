@@ -21,7 +21,7 @@ use Rattle.drain_answers.specs.Failures.{failureOf, failureBack, zeroFailure, f
 use Rattle.drain_answers.specs.declared.DrainReply.{DrainReply}
 use Rattle.drain_answers.specs.declared.SubmissionDrainFailure.{SubmissionDrainFailure}
 use Rattle.plan.specs.declared.PlanAction.{PlanAction}
-use Rattle.plan.specs.declared.PlanAction.the-variants.{Passed, Failed, Removed, Full, Stored, Issued, Exhausted}
+use Rattle.plan.specs.declared.PlanAction.the-variants.{Passed, Failed, Removed, Stored, Issued}
 use Rattle.plan.specs.declared.SubmissionPlanDelta.{SubmissionPlanDelta}
 use Rattle.drain.specs.declared.DrainAnswers.{DrainAnswers}
 use Rattle.drain.specs.Carried.{memoryBy, drainedIn}
@@ -71,10 +71,8 @@ abbrev pub answersBy : PlanAction → SubmissionPlanDelta → DrainAnswers → D
 answersBy Passed p a = a
 answersBy Failed p a = withFailed (p .failure) a
 answersBy Removed p a = withRemoval (p .failure) a
-answersBy Full p a = a
 answersBy Stored p a = a
 answersBy Issued p a = withSubmission (p .tx .entry .id) (p .submission) a
-answersBy Exhausted p a = a
 
 abbrev pub finishedWith : BookData → DrainAnswers → DrainReply
 finishedWith b a = record {
@@ -176,10 +174,8 @@ module _ (p : SubmissionPlanDelta) (xs : List rule.DrainedSubmission) (a : Memor
   after-is Passed e h j = e ∙ none-more
   after-is Failed e h j = ap (withFailed (p .failure)) e ∙ failed-after j ∙ ap (λ (ys : List rule.DrainedSubmission). answersOf ys (memoryBy Failed p a)) (sym (append-nil xs))
   after-is Removed e h j = ap (withRemoval (p .failure)) e ∙ removed-after j ∙ ap (λ (ys : List rule.DrainedSubmission). answersOf ys (memoryBy Removed p a)) (sym (append-nil xs))
-  after-is Full e h j = e ∙ none-more
   after-is Stored e h j = e ∙ none-more
   after-is Issued e h j = ap (withSubmission (p .tx .entry .id) (p .submission)) e ∙ issued-after h
-  after-is Exhausted e h j = e ∙ none-more
 
   -- one candidate adds at most one to each
   pub few-more : (k : PlanAction) {n : ℕ} → Few n xs a → Few (n + 1) (xs ++ drainedIn k p) (memoryBy k p a)
@@ -194,28 +190,22 @@ module _ (p : SubmissionPlanDelta) (xs : List rule.DrainedSubmission) (a : Memor
       emitted Passed h = omega arith
       emitted Failed h = omega arith
       emitted Removed h = omega arith
-      emitted Full h = omega arith
       emitted Stored h = omega arith
       emitted Issued h = let e = length-snoc (a .emitted) (p .tx .entry .id .0) in omega arith
-      emitted Exhausted h = omega arith
 
       removed : (k : PlanAction) {n : ℕ} → length (a .removed) ≤ n → length (memoryBy k p a .removed) ≤ n + 1
       removed Passed h = omega arith
       removed Failed h = omega arith
       removed Removed h = let e = length-snoc (a .removed) (p .failure .«candidate_id» .0) in omega arith
-      removed Full h = omega arith
       removed Stored h = omega arith
       removed Issued h = omega arith
-      removed Exhausted h = omega arith
 
       failed : (k : PlanAction) {n : ℕ} → length (a .failed) ≤ n → length (memoryBy k p a .failed) ≤ n + 1
       failed Passed h = omega arith
       failed Failed h = let e = length-snoc (a .failed) (failureOf (p .failure)) in omega arith
       failed Removed h = let e = length-snoc (a .failed) (failureOf (p .failure)) in omega arith
-      failed Full h = omega arith
       failed Stored h = omega arith
       failed Issued h = omega arith
-      failed Exhausted h = omega arith
 
       issued : (k : PlanAction) {n : ℕ} → length xs ≤ n → length (xs ++ drainedIn k p) ≤ n + 1
       issued k h = let e = length-append xs (drainedIn k p) in let l = at-most-one k in omega arith
@@ -224,7 +214,5 @@ module _ (p : SubmissionPlanDelta) (xs : List rule.DrainedSubmission) (a : Memor
           at-most-one Passed = omega arith
           at-most-one Failed = omega arith
           at-most-one Removed = omega arith
-          at-most-one Full = omega arith
           at-most-one Stored = omega arith
           at-most-one Issued = omega arith
-          at-most-one Exhausted = omega arith

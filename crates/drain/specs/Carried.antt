@@ -16,10 +16,11 @@ use Rattle.submitted.specs.Drained.{drainedOf}
 use Rattle.drain_answers.specs.Failures.{failureOf}
 use Rattle.drain_answers.specs.declared.SubmissionDrainFailure.{SubmissionDrainFailure}
 use Rattle.plan.specs.declared.PlanAction.{PlanAction}
-use Rattle.plan.specs.declared.PlanAction.the-variants.{Passed, Failed, Removed, Full, Stored, Issued, Exhausted}
+use Rattle.plan.specs.declared.PlanAction.the-variants.{Passed, Failed, Removed, Stored, Issued}
+use Rattle.plan.specs.declared.PlanAnswer.{PlanAnswer}
+use Rattle.plan.specs.declared.PlanAnswer.the-variants.{Full, Exhausted, Planned}
 use Rattle.plan.specs.declared.SubmittedPlace.{SubmittedPlace}
 use Rattle.plan.specs.declared.SubmissionPlanDelta.{SubmissionPlanDelta}
-use Rattle.plan.specs.Plan.{isExhausted}
 use Rattle.book_change.specs.Parts.{putSubmitted}
 use Rattle.drain.specs.ListLaws.{putAt}
 
@@ -47,38 +48,28 @@ abbrev pub bookBy : PlanAction → SubmissionPlanDelta → Book → Book
 bookBy Passed p m = m
 bookBy Failed p m = m
 bookBy Removed p m = withdrawn (p .failure .«candidate_id» .0) m
-bookBy Full p m = m
 bookBy Stored p m = placed (p .place) (p .tx) m
 bookBy Issued p m = placed (p .place) (p .tx) m
-bookBy Exhausted p m = placed (p .place) (p .tx) m
 
 abbrev pub memoryBy : PlanAction → SubmissionPlanDelta → Memory → Memory
 memoryBy Passed p a = a
 memoryBy Failed p a = withFailureOf (p .failure) a
 memoryBy Removed p a = withFailureOf (p .failure) (withRemoved (p .failure .«candidate_id» .0) a)
-memoryBy Full p a = a
 memoryBy Stored p a = a
 memoryBy Issued p a = withEmitted (idOf (p .tx)) a
-memoryBy Exhausted p a = a
 
 abbrev pub drainedIn : PlanAction → SubmissionPlanDelta → List DrainedSubmission
 drainedIn Passed p = []
 drainedIn Failed p = []
 drainedIn Removed p = []
-drainedIn Full p = []
 drainedIn Stored p = []
 drainedIn Issued p = drainedOf (p .submission) ∷ []
-drainedIn Exhausted p = []
 
--- what the rules come to where the plan is carried out
-abbrev pub outcomeBy : PlanAction → SubmissionPlanDelta → Memory → Book → Outcome Book Memory
-outcomeBy Passed p a m = ended m [] a
-outcomeBy Failed p a m = ended m [] (memoryBy Failed p a)
-outcomeBy Removed p a m = ended (bookBy Removed p m) [] (memoryBy Removed p a)
+-- what the rules come to where the plan is carried out: 10, nothing is left; 11, the submission is stored
+abbrev pub outcomeBy : PlanAnswer → SubmissionPlanDelta → Memory → Book → Outcome Book Memory
 outcomeBy Full p a m = undone 10
-outcomeBy Stored p a m = ended (bookBy Stored p m) [] a
-outcomeBy Issued p a m = ended (bookBy Issued p m) (drainedIn Issued p) (memoryBy Issued p a)
-outcomeBy Exhausted p a m = stopped (bookBy Exhausted p m) [] 11
+outcomeBy Exhausted p a m = stopped (placed (p .place) (p .tx) m) [] 11
+outcomeBy (Planned k) p a m = ended (bookBy k p m) (drainedIn k p) (memoryBy k p a)
 
 -- ---- the cells
 pub record InPlace (p : SubmittedPlace) (m : Book) : Type 0 where
@@ -91,10 +82,13 @@ abbrev pub FitsBy : PlanAction → SubmissionPlanDelta → Book → Type 0
 FitsBy Passed p m = Unit {0}
 FitsBy Failed p m = Unit {0}
 FitsBy Removed p m = length (pushNew (m .retired) (p .failure .«candidate_id» .0)) ≤ 64
-FitsBy Full p m = Unit {0}
 FitsBy Stored p m = InPlace (p .place) m
 FitsBy Issued p m = InPlace (p .place) m
-FitsBy Exhausted p m = InPlace (p .place) m
+
+abbrev pub AnswerFits : PlanAnswer → SubmissionPlanDelta → Book → Type 0
+AnswerFits Full p m = Unit {0}
+AnswerFits Exhausted p m = InPlace (p .place) m
+AnswerFits (Planned k) p m = FitsBy k p m
 
 abbrev pub storedIn : SubmissionPlanDelta → BookData → BookData
 storedIn p b = putSubmitted (p .place .«next_token») (p .place .«next_id») (p .place .count) (set (b .submitted) (p .place .index) (p .tx)) b
@@ -103,64 +97,42 @@ abbrev pub carriedBy : PlanAction → SubmissionPlanDelta → BookData → BookD
 carriedBy Passed p b = b
 carriedBy Failed p b = b
 carriedBy Removed p b = back (withdrawn (p .failure .«candidate_id» .0) (view b))
-carriedBy Full p b = b
 carriedBy Stored p b = storedIn p b
 carriedBy Issued p b = storedIn p b
-carriedBy Exhausted p b = storedIn p b
 
 -- the same by whether the plan stores a submission
 abbrev pub isStoring : PlanAction → Bool
 isStoring Passed = false
 isStoring Failed = false
 isStoring Removed = false
-isStoring Full = false
 isStoring Stored = true
 isStoring Issued = true
-isStoring Exhausted = true
 
 abbrev pub unstoredBy : PlanAction → SubmissionPlanDelta → BookData → BookData
 unstoredBy Passed p b = b
 unstoredBy Failed p b = b
 unstoredBy Removed p b = back (withdrawn (p .failure .«candidate_id» .0) (view b))
-unstoredBy Full p b = b
 unstoredBy Stored p b = b
 unstoredBy Issued p b = b
-unstoredBy Exhausted p b = b
 
 module _ (p : SubmissionPlanDelta) (b : BookData) where
   pub stored-carried : (k : PlanAction) → isStoring k ≡ true → storedIn p b ≡ carriedBy k p b
   stored-carried Passed e = absurd (false≢true e)
   stored-carried Failed e = absurd (false≢true e)
   stored-carried Removed e = absurd (false≢true e)
-  stored-carried Full e = absurd (false≢true e)
   stored-carried Stored e = refl
   stored-carried Issued e = refl
-  stored-carried Exhausted e = refl
 
   pub unstored-carried : (k : PlanAction) → isStoring k ≡ false → unstoredBy k p b ≡ carriedBy k p b
   unstored-carried Passed e = refl
   unstored-carried Failed e = refl
   unstored-carried Removed e = refl
-  unstored-carried Full e = refl
   unstored-carried Stored e = absurd (true≢false e)
   unstored-carried Issued e = absurd (true≢false e)
-  unstored-carried Exhausted e = absurd (true≢false e)
-
--- a plan that stores nothing is not out of tokens
-pub unstored-goes-on : (k : PlanAction) → isStoring k ≡ false → isExhausted k ≡ false
-unstored-goes-on Passed e = refl
-unstored-goes-on Failed e = refl
-unstored-goes-on Removed e = refl
-unstored-goes-on Full e = refl
-unstored-goes-on Stored e = refl
-unstored-goes-on Issued e = refl
-unstored-goes-on Exhausted e = absurd (true≢false e)
 
 pub stored-fits : (p : SubmissionPlanDelta) (m : Book) (k : PlanAction) → isStoring k ≡ true → FitsBy k p m → InPlace (p .place) m
 stored-fits p m Passed e f = absurd (false≢true e)
 stored-fits p m Failed e f = absurd (false≢true e)
 stored-fits p m Removed e f = absurd (false≢true e)
-stored-fits p m Full e f = absurd (false≢true e)
 stored-fits p m Stored e f = f
 stored-fits p m Issued e f = f
-stored-fits p m Exhausted e f = f

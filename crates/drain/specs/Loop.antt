@@ -1,6 +1,6 @@
 -- The loop of a drain: what is done and what is left make the whole.
 use Prim.Native.Nat.{ℕ, suc, _+_, _≤_, _<_}
-use mathlib.Core.Bool.{Bool, true, false, true≢false, false≢true}
+use mathlib.Core.Bool.{Bool, true, false, true≢false}
 use mathlib.Core.List.{List, [], _∷_, _++_, append-nil}
 use mathlib.Core.Path.{_≡_, refl, sym, ap, _∙_, subst}
 use native.Mathlib.Numerals.{add-one}
@@ -29,13 +29,14 @@ use Rattle.sound_steps.specs.Holds.{Holds, holds-sound, holds-view, holds-norma
 use Rattle.drain_answers.specs.DrainReply.{drainReply}
 use Rattle.drain_answers.specs.declared.DrainReply.{DrainReply}
 use Rattle.plan.specs.declared.PlanAction.{PlanAction}
-use Rattle.plan.specs.declared.PlanAction.the-variants.{Passed, Failed, Removed, Full, Stored, Issued, Exhausted}
+use Rattle.plan.specs.declared.PlanAction.the-variants.{Passed, Failed, Removed, Stored, Issued}
+use Rattle.plan.specs.declared.PlanAnswer.{PlanAnswer}
+use Rattle.plan.specs.declared.PlanAnswer.the-variants.{Full, Exhausted, Planned}
 use Rattle.plan.specs.declared.SubmissionPlanDelta.{SubmissionPlanDelta}
-use Rattle.plan.specs.Plan.{isFull, isExhausted}
 use Rattle.drain.specs.declared.DrainAnswers.{DrainAnswers}
 use Rattle.drain.specs.ListLaws.{putAt, put-set, put-end}
 use Rattle.drain.specs.Planned.{candidatePlan}
-use Rattle.drain.specs.Carried.{placed, bookBy, memoryBy, drainedIn, outcomeBy, InPlace, FitsBy, storedIn, carriedBy, isStoring, stored-fits}
+use Rattle.drain.specs.Carried.{placed, bookBy, memoryBy, drainedIn, outcomeBy, InPlace, FitsBy, AnswerFits, storedIn, carriedBy, isStoring, stored-fits}
 use Rattle.drain.specs.Answers.{answersOf, answersBy, finishedWith, Room, room, Few, few-more, after-is}
 use Rattle.drain.specs.Rules.{Carries, one-carries}
 
@@ -70,10 +71,8 @@ module _ (b : BookData) (h : Normal b) where
   carried-view Passed p f = h .held
   carried-view Failed p f = h .held
   carried-view Removed p f = refl
-  carried-view Full p f = h .held
   carried-view Stored p f = stored-is p f
   carried-view Issued p f = stored-is p f
-  carried-view Exhausted p f = stored-is p f
 
 carried-is : {b : BookData} {m : Book} → Holds b m → (k : PlanAction) (p : SubmissionPlanDelta) → FitsBy k p m → carriedBy k p b ≡ back (bookBy k p m)
 carried-is {b} {m} h k p f =
@@ -82,6 +81,17 @@ carried-is {b} {m} h k p f =
 -- ---- the whole
 abbrev pub whole : BookData → DrainReply
 whole b = drainReply b (runBook drain (view b))
+
+-- what a candidate that is not planned leaves: 10, the book as it was; 11, the book so far with its submission
+abbrev pub awayBy : PlanAnswer → SubmissionPlanDelta → BookData → BookData → DrainReply
+awayBy Full p b book = drainReply b (undone 10)
+awayBy Exhausted p b book = drainReply (storedIn p book) (undone 11)
+awayBy (Planned k) p b book = drainReply b (undone 10)
+
+abbrev pub isPlanned : PlanAnswer → Bool
+isPlanned Full = false
+isPlanned Exhausted = false
+isPlanned (Planned k) = true
 
 -- the drain of b stands at i: the book and the answers so far, and what is left
 pub record Running (b book : BookData) (answers : DrainAnswers) (i : ℕ) : Type 0 where
@@ -143,17 +153,20 @@ module _ {b book : BookData} {answers : DrainAnswers} {i : ℕ} (v : Running b b
   carries = subst (λ (q : SubmissionPlanDelta). Carries (runBook (oneCandidate i c (v .a)) (v .m)) q (v .a) (v .m)) (sym plan-is)
       (one-carries (v .m) (v .holds .sound) c (sounds .0) (v .a) i)
 
-  pub plan-fits : FitsBy (p .action) p (view book)
-  plan-fits = subst (FitsBy (p .action) p) (sym (holds-view (v .holds))) (carries .fits)
+  pub plan-fits : AnswerFits (p .answer) p (view book)
+  plan-fits = subst (AnswerFits (p .answer) p) (sym (holds-view (v .holds))) (carries .fits)
+
+  pub planned-fits : {k : PlanAction} → p .answer ≡ Planned k → FitsBy k p (view book)
+  planned-fits e = subst (λ (x : PlanAnswer). AnswerFits x p (view book)) e plan-fits
 
   -- a planned submission goes into a cell of the book
-  pub store-below : isStoring (p .action) ≡ true → (p .place .index < 16) × (length (book .submitted) ≡ 16)
-  store-below e = (stored-fits p (view book) (p .action) e plan-fits .below, sizes book (holds-normal (v .holds)) .submitted-long)
+  pub store-below : {k : PlanAction} → p .answer ≡ Planned k → isStoring k ≡ true → (p .place .index < 16) × (length (book .submitted) ≡ 16)
+  store-below {k} q e = (stored-fits p (view book) k e (planned-fits q) .below, sizes book (holds-normal (v .holds)) .submitted-long)
 
   abbrev more : Memory → Rule Value
   more a = turn (candidates (suc i) (drop (i + 1) (view b .pending)) a)
 
-  cut : whole b ≡ drainReply b (logged (v .xs) (followed (λ x. x) onBook more (outcomeBy (p .action) p (v .a) (v .m))))
+  cut : whole b ≡ drainReply b (logged (v .xs) (followed (λ x. x) onBook more (outcomeBy (p .answer) p (v .a) (v .m))))
   unfolding candidates
   cut =
       v .rest
@@ -162,65 +175,39 @@ module _ {b book : BookData} {answers : DrainAnswers} {i : ℕ} (v : Running b b
       ∙ ap (λ (o : Outcome Book Memory). drainReply b (logged (v .xs) (followed (λ x. x) onBook more o))) (carries .outcome)
 
   -- the book left is sound
-  left-sound : SoundBook (left (v .m) (outcomeBy (p .action) p (v .a) (v .m)))
+  left-sound : SoundBook (left (v .m) (outcomeBy (p .answer) p (v .a) (v .m)))
   left-sound = subst (λ (o : Outcome Book Memory). SoundBook (left (v .m) o)) (carries .outcome) (sound-left (oneCandidate i c (v .a)) (v .m) (v .holds .sound))
 
-  full-by : (k : PlanAction) → isFull k ≡ true → drainReply b (logged (v .xs) (followed (λ x. x) onBook more (outcomeBy k p (v .a) (v .m)))) ≡ drainReply b (undone 10)
-  full-by Passed e = absurd (false≢true e)
-  full-by Failed e = absurd (false≢true e)
-  full-by Removed e = absurd (false≢true e)
-  full-by Full e = refl
-  full-by Stored e = absurd (false≢true e)
-  full-by Issued e = absurd (false≢true e)
-  full-by Exhausted e = absurd (false≢true e)
+  -- 10 or 11
+  pub turned-away : (x : PlanAnswer) → p .answer ≡ x → isPlanned x ≡ false → awayBy x p b book ≡ whole b
+  turned-away Full e h = sym (cut ∙ ap (λ (y : PlanAnswer). drainReply b (logged (v .xs) (followed (λ x. x) onBook more (outcomeBy y p (v .a) (v .m))))) e)
+  turned-away Exhausted e h =
+      let f = subst (λ (y : PlanAnswer). AnswerFits y p (view book)) e plan-fits in
+      let q : storedIn p book ≡ back (placed (p .place) (p .tx) (v .m)) = stored-is book (holds-normal (v .holds)) p f ∙ ap (λ (m : Book). back (placed (p .place) (p .tx) m)) (holds-view (v .holds)) in
+      ap (λ (y : BookData). drainReply y (undone 11)) q
+      ∙ sym (cut ∙ ap (λ (y : PlanAnswer). drainReply b (logged (v .xs) (followed (λ x. x) onBook more (outcomeBy y p (v .a) (v .m))))) e)
+  turned-away (Planned k) e h = absurd (true≢false h)
 
-  pub turned-full : isFull (p .action) ≡ true → drainReply b (undone 10) ≡ whole b
-  turned-full e = sym (cut ∙ full-by (p .action) e)
-
-  next-book : carriedBy (p .action) p book ≡ back (bookBy (p .action) p (v .m))
-  next-book = carried-is (v .holds) (p .action) p (carries .fits)
-
-  stop-by : (k : PlanAction) → isExhausted k ≡ true
-      → drainReply b (logged (v .xs) (followed (λ x. x) onBook more (outcomeBy k p (v .a) (v .m)))) ≡ drainReply (back (bookBy k p (v .m))) (undone 11)
-  stop-by Passed e = absurd (false≢true e)
-  stop-by Failed e = absurd (false≢true e)
-  stop-by Removed e = absurd (false≢true e)
-  stop-by Full e = absurd (false≢true e)
-  stop-by Stored e = absurd (false≢true e)
-  stop-by Issued e = absurd (false≢true e)
-  stop-by Exhausted e = refl
-
-  pub turned-stop : isExhausted (p .action) ≡ true → {next : BookData} → next ≡ carriedBy (p .action) p book → drainReply next (undone 11) ≡ whole b
-  turned-stop e {next} h = sym (cut ∙ stop-by (p .action) e ∙ ap (λ (x : BookData). drainReply x (undone 11)) (sym (h ∙ next-book)))
-
-  -- neither full nor exhausted
-  on-by : (k : PlanAction) → isFull k ≡ false → isExhausted k ≡ false → outcomeBy k p (v .a) (v .m) ≡ ended (bookBy k p (v .m)) (drainedIn k p) (memoryBy k p (v .a))
-  on-by Passed f e = refl
-  on-by Failed f e = refl
-  on-by Removed f e = refl
-  on-by Full f e = absurd (true≢false f)
-  on-by Stored f e = refl
-  on-by Issued f e = refl
-  on-by Exhausted f e = absurd (true≢false e)
-
-  pub turned : i < 16 → isFull (p .action) ≡ false → isExhausted (p .action) ≡ false → {next : BookData} → next ≡ carriedBy (p .action) p book
-      → {after : DrainAnswers} → after ≡ answersBy (p .action) p answers → Running b next after (i + 1)
+  -- the candidate is planned
+  pub turned : {k : PlanAction} → p .answer ≡ Planned k → i < 16 → {next : BookData} → next ≡ carriedBy k p book
+      → {after : DrainAnswers} → after ≡ answersBy k p answers → Running b next after (i + 1)
   unfolding run
-  turned l f e {next} h {after} q =
-      let o = on-by (p .action) f e in
+  turned {k} e l {next} h {after} q =
+      let o : outcomeBy (p .answer) p (v .a) (v .m) ≡ ended (bookBy k p (v .m)) (drainedIn k p) (memoryBy k p (v .a)) = ap (λ (y : PlanAnswer). outcomeBy y p (v .a) (v .m)) e in
+      let f = subst (λ (y : PlanAnswer). AnswerFits y p (v .m)) e (carries .fits) in
       record {
-        m = bookBy (p .action) p (v .m);
-        xs = v .xs ++ drainedIn (p .action) p;
-        a = memoryBy (p .action) p (v .a);
-        holds = record { cells = h ∙ next-book; sound = subst (λ (x : Outcome Book Memory). SoundBook (left (v .m) x)) o left-sound };
-        held = q ∙ after-is p (v .xs) (v .a) (p .action) (v .held) (let k = v .few .issued in omega arith) (let k = v .few .failed in omega arith);
-        few = few-more p (v .xs) (v .a) (p .action) (v .few);
+        m = bookBy k p (v .m);
+        xs = v .xs ++ drainedIn k p;
+        a = memoryBy k p (v .a);
+        holds = record { cells = h ∙ carried-is (v .holds) k p f; sound = subst (λ (x : Outcome Book Memory). SoundBook (left (v .m) x)) o left-sound };
+        held = q ∙ after-is p (v .xs) (v .a) k (v .held) (let k = v .few .issued in omega arith) (let k = v .few .failed in omega arith);
+        few = few-more p (v .xs) (v .a) k (v .few);
         queue = sounds .1;
         rest =
             cut
             ∙ ap (λ (x : Outcome Book Memory). drainReply b (logged (v .xs) (followed (λ x. x) onBook more x))) o
-            ∙ ap (drainReply b) (logged-logged (v .xs) (drainedIn (p .action) p) (runBook (more (memoryBy (p .action) p (v .a))) (bookBy (p .action) p (v .m))))
-            ∙ ap (λ (n : ℕ). drainReply b (logged (v .xs ++ drainedIn (p .action) p) (runBook (candidates n (drop (i + 1) (view b .pending)) (memoryBy (p .action) p (v .a))) (bookBy (p .action) p (v .m))))) (sym (add-one i));
+            ∙ ap (drainReply b) (logged-logged (v .xs) (drainedIn k p) (runBook (more (memoryBy k p (v .a))) (bookBy k p (v .m))))
+            ∙ ap (λ (n : ℕ). drainReply b (logged (v .xs ++ drainedIn k p) (runBook (candidates n (drop (i + 1) (view b .pending)) (memoryBy k p (v .a))) (bookBy k p (v .m))))) (sym (add-one i));
       }
 
 -- no candidate is left

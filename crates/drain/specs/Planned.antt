@@ -17,6 +17,7 @@ use Rattle.book_cells.specs.declared.Place.the-variants.{At, Nothing}
 use Rattle.drain_answers.specs.Failures.{zeroFailure}
 use Rattle.drain_answers.specs.declared.DrainFailureCause.the-variants.{NoRetainedState}
 use Rattle.plan.specs.declared.PlanAction.the-variants.{Passed, Failed}
+use Rattle.plan.specs.declared.PlanAnswer.the-variants.{Planned}
 use Rattle.plan.specs.declared.SubmittedPlace.{SubmittedPlace}
 use Rattle.plan.specs.declared.SubmissionPlanDelta.{SubmissionPlanDelta}
 use Rattle.plan.specs.Plan.{failing, failureAt, knownPlan, unknownPlan}
@@ -38,9 +39,9 @@ unnamedPlan m emitted n c f =
 -- plan 1: "With an id: the retained one, else failure RetainedState without removal"
 abbrev pub planBy : Book → List ℕ → ℕ → PendingDelivery → List ℕ → OptionalId → SubmissionPlanDelta
 planBy m emitted n c f NoId = unnamedPlan m emitted n c f
-planBy m emitted n c f (Of i) = foundPlan m emitted n c f (failing Failed (failureAt n NoRetainedState i f)) (placeOfId (i .0) m)
+planBy m emitted n c f (Of i) = foundPlan m emitted n c f (failing (Planned Failed) (failureAt n NoRetainedState i f)) (placeOfId (i .0) m)
 
 -- a candidate of a submission that was removed earlier in this drain is passed over
 unfoldable pub candidatePlan : Book → List ℕ → List ℕ → ℕ → PendingDelivery → SubmissionPlanDelta
 candidatePlan m emitted removed n c =
-    cond (isOneOf (c .intent .id) removed) (failing Passed zeroFailure) (planBy m emitted n c (intentOf (c .intent)) (c .intent .id))
+    cond (isOneOf (c .intent .id) removed) (failing (Planned Passed) zeroFailure) (planBy m emitted n c (intentOf (c .intent)) (c .intent .id))

@@ -24,6 +24,7 @@ use Rattle.book_cells.specs.declared.Place.the-variants.{At, Nothing}
 use Rattle.drain_answers.specs.Failures.{zeroFailure}
 use Rattle.drain_answers.specs.declared.DrainFailureCause.the-variants.{NoRetainedState}
 use Rattle.plan.specs.declared.PlanAction.the-variants.{Passed, Failed}
+use Rattle.plan.specs.declared.PlanAnswer.the-variants.{Planned}
 use Rattle.plan.specs.declared.SubmittedPlace.{SubmittedPlace}
 use Rattle.plan.specs.declared.SubmissionPlanDelta.{SubmissionPlanDelta}
 use Rattle.plan.specs.Plan.{failing, failureAt, knownPlan, unknownPlan}
@@ -83,23 +84,23 @@ module _ (m : Book) (emitted : List ℕ) (n : ℕ) (c : PendingDelivery) (f : Li
 
 -- ---- any candidate
 module _ (m : Book) (emitted removed : List ℕ) (n : ℕ) (c : PendingDelivery) {r : SubmissionPlanDelta} where
-  pub passed-over : isOneOf (c .intent .id) removed ≡ true → r ≡ failing Passed zeroFailure → r ≡ candidatePlan m emitted removed n c
+  pub passed-over : isOneOf (c .intent .id) removed ≡ true → r ≡ failing (Planned Passed) zeroFailure → r ≡ candidatePlan m emitted removed n c
   unfolding candidatePlan
-  passed-over e q = q ∙ sym (ap (λ (u : Bool). cond u (failing Passed zeroFailure) (planBy m emitted n c (intentOf (c .intent)) (c .intent .id))) e)
+  passed-over e q = q ∙ sym (ap (λ (u : Bool). cond u (failing (Planned Passed) zeroFailure) (planBy m emitted n c (intentOf (c .intent)) (c .intent .id))) e)
 
   module _ (on : isOneOf (c .intent .id) removed ≡ false) {f : List ℕ} (print : f ≡ intentOf (c .intent)) where
     by-id : {o : OptionalId} → c .intent .id ≡ o → r ≡ planBy m emitted n c f o → r ≡ candidatePlan m emitted removed n c
     unfolding candidatePlan
     by-id e q =
         q ∙ (λ i. planBy m emitted n c (print i) (sym e i))
-        ∙ sym (ap (λ (u : Bool). cond u (failing Passed zeroFailure) (planBy m emitted n c (intentOf (c .intent)) (c .intent .id))) on)
+        ∙ sym (ap (λ (u : Bool). cond u (failing (Planned Passed) zeroFailure) (planBy m emitted n c (intentOf (c .intent)) (c .intent .id))) on)
 
     pub without-id : c .intent .id ≡ NoId → r ≡ unnamedPlan m emitted n c f → r ≡ candidatePlan m emitted removed n c
     without-id e q = by-id e q
 
     pub id-at : {i : SubmissionId} → c .intent .id ≡ Of i → {k : ℕ} → placeOfId (i .0) m ≡ At k
         → r ≡ knownPlan (placeOn k m) emitted (m .retired) n c f (getD (m .submitted) k zeroSubmitted) → r ≡ candidatePlan m emitted removed n c
-    id-at {i} e p q = by-id e (q ∙ sym (ap (foundPlan m emitted n c f (failing Failed (failureAt n NoRetainedState i f))) p))
+    id-at {i} e p q = by-id e (q ∙ sym (ap (foundPlan m emitted n c f (failing (Planned Failed) (failureAt n NoRetainedState i f))) p))
 
-    pub id-gone : {i : SubmissionId} → c .intent .id ≡ Of i → placeOfId (i .0) m ≡ Nothing → r ≡ failing Failed (failureAt n NoRetainedState i f) → r ≡ candidatePlan m emitted removed n c
-    id-gone {i} e p q = by-id e (q ∙ sym (ap (foundPlan m emitted n c f (failing Failed (failureAt n NoRetainedState i f))) p))
+    pub id-gone : {i : SubmissionId} → c .intent .id ≡ Of i → placeOfId (i .0) m ≡ Nothing → r ≡ failing (Planned Failed) (failureAt n NoRetainedState i f) → r ≡ candidatePlan m emitted removed n c
+    id-gone {i} e p q = by-id e (q ∙ sym (ap (foundPlan m emitted n c f (failing (Planned Failed) (failureAt n NoRetainedState i f))) p))

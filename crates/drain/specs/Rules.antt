@@ -48,18 +48,19 @@ use Rattle.sound_steps.specs.Holds.{sound-stepped}
 use Rattle.sound_steps.specs.Room.{full-retire, full-retain}
 use Rattle.drain_answers.specs.Failures.{causeBack, cause-of, failureOf, zeroFailure}
 use Rattle.drain_answers.specs.declared.DrainFailureCause.the-variants as cause
-use Rattle.plan.specs.declared.PlanAction.the-variants.{Passed, Failed, Removed, Full, Stored, Issued, Exhausted}
+use Rattle.plan.specs.declared.PlanAction.the-variants.{Passed, Failed, Removed, Stored, Issued}
+use Rattle.plan.specs.declared.PlanAnswer.the-variants.{Full, Exhausted, Planned}
 use Rattle.plan.specs.declared.SubmittedPlace.{SubmittedPlace}
 use Rattle.plan.specs.declared.SubmissionPlanDelta.{SubmissionPlanDelta}
 use Rattle.plan.specs.Plan.{failing, storing, failureAt, tokenTaken, issuePlan, deliverPlan, tightenedBy, metPlan, removalPlan, knownPlanBy, knownPlan, newSubmitted, idTaken, retainPlan, unknownPlan}
 use Rattle.drain.specs.ListLaws.{putAt, put-set, put-end, put-within, get-put, set-put}
 use Rattle.drain.specs.Planned.{placeOn, foundPlan, unnamedPlan, planBy, candidatePlan}
-use Rattle.drain.specs.Carried.{placed, withdrawn, outcomeBy, InPlace, FitsBy}
+use Rattle.drain.specs.Carried.{placed, withdrawn, outcomeBy, InPlace, AnswerFits}
 
 -- the rules come to what carrying out the plan q makes, and q can be carried out
 pub record Carries (o : Outcome Book Memory) (q : SubmissionPlanDelta) (a : Memory) (m : Book) : Type 0 where
-  pub outcome : o ≡ outcomeBy (q .action) q a m
-  pub fits : FitsBy (q .action) q m
+  pub outcome : o ≡ outcomeBy (q .answer) q a m
+  pub fits : AnswerFits (q .answer) q m
 
 carries-by : {o o′ : Outcome Book Memory} {q : SubmissionPlanDelta} {a : Memory} {m : Book} → o ≡ o′ → Carries o′ q a m → Carries o q a m
 carries-by e h = record { outcome = e ∙ h .outcome; fits = h .fits }
@@ -130,7 +131,7 @@ module _ (p : SubmittedPlace) (t : SubmittedTx) (g : SubmissionDeliveryGoal) (a 
         out = handedOut ∷ [];
       })
 
-  emitted-is : runBook (act (emit (idOf t) g) (done (withEmitted (idOf t) a))) (placed p t m) ≡ outcomeBy Issued (issuePlan p t g) a m
+  emitted-is : runBook (act (emit (idOf t) g) (done (withEmitted (idOf t) a))) (placed p t m) ≡ outcomeBy (Planned Issued) (issuePlan p t g) a m
   unfolding run onBook issuePlan
   emitted-is =
       ap (λ (e : Effect Book). ended (e .after) (e .out ++ []) (withEmitted (idOf t) a)) emit-is
@@ -149,7 +150,7 @@ module _ (p : SubmittedPlace) (t : SubmittedTx) (g : SubmissionDeliveryGoal) (a 
       by-token false = issue-carries
 
       by-emitted : (u : Bool) → Carries (runBook (cond u (done a) (look (λ b. cond (eqb (b .nextToken .0) last64) (stop 11) (act (emit (idOf t) g) (done (withEmitted (idOf t) a)))))) (placed p t m))
-          (cond u (storing Stored p t) (cond (eqb (p .«next_token» .0) last64) (storing Exhausted p t) (issuePlan p t g))) a m
+          (cond u (storing (Planned Stored) p t) (cond (eqb (p .«next_token» .0) last64) (storing Exhausted p t) (issuePlan p t g))) a m
       by-emitted true = record { outcome = refl; fits = fits }
       by-emitted false = by-token (eqb (p .«next_token» .0) last64)
 
@@ -186,7 +187,7 @@ module _ (m : Book) (s : SoundBook m) (c : PendingDelivery) (a : Memory) (k : �
       (by (wanted (c .goal) (t .entry)))
     where
       by : (w : Bool) → Carries (runBook (cond w (deliver (idOf t) (c .goal) a) (done a)) (placed (placeOn k m) (tightenedBy c t) m))
-          (cond w (deliverPlan (placeOn k m) (a .emitted) (tightenedBy c t) (c .goal)) (storing Stored (placeOn k m) (tightenedBy c t))) a m
+          (cond w (deliverPlan (placeOn k m) (a .emitted) (tightenedBy c t) (c .goal)) (storing (Planned Stored) (placeOn k m) (tightenedBy c t))) a m
       by true =
           carries-by (ap (λ (i : ℕ). runBook (deliver i (c .goal) a) (placed (placeOn k m) (tightenedBy c t) m)) (sym tightened-id))
           (deliver-carries (placeOn k m) (tightenedBy c t) (c .goal) a m known-place (ids-of tightened-sound))
@@ -214,7 +215,7 @@ module _ (m : Book) (s : SoundBook m) (c : PendingDelivery) (a : Memory) (k : �
         after = withFailure n x (idOf t) f (withRemoved (idOf t) a)
 
         by : (u : Bool) → ltb 64 (length (pushNew (m .retired) (idOf t))) ≡ u
-            → Carries (runBook (act (note (retire (idOf t))) (done after)) (removeBook (idOf t) m)) (failing (cond u Full Removed) (failureAt n (causeBack x) (t .entry .id) f)) a m
+            → Carries (runBook (act (note (retire (idOf t))) (done after)) (removeBook (idOf t) m)) (failing (cond u Full (Planned Removed)) (failureAt n (causeBack x) (t .entry .id) f)) a m
         by true e = record { outcome = act-full (note (retire (idOf t))) (done after) (removeBook (idOf t) m) (retire-full ∙ e); fits = tt }
         by false e = record {
           outcome =
@@ -299,19 +300,19 @@ module _ (m : Book) (s : SoundBook m) (c : PendingDelivery) (sc : soundIntent (c
       new = act (retain (c .intent)) (deliver (m .nextId .0) (c .goal) a)
 
       last : elemb (m .nextId .0) (map idOf (m .submitted)) ≡ false → readableBundle (c .intent .bundle) ≡ true → (u : Bool)
-          → Carries (runBook (cond u (done (withFailure n IdsExhausted (m .nextId .0) f a)) new) m) (cond u (failing Failed (failureAt n cause.IdsExhausted (m .nextId) f)) newPlan) a m
+          → Carries (runBook (cond u (done (withFailure n IdsExhausted (m .nextId .0) f a)) new) m) (cond u (failing (Planned Failed) (failureAt n cause.IdsExhausted (m .nextId) f)) newPlan) a m
       last h r true = record { outcome = refl; fits = tt }
       last h r false = new-carries h r (eqb (length (m .submitted)) 16) refl
 
       reads : elemb (m .nextId .0) (map idOf (m .submitted)) ≡ false → (u : Bool) → not (readableBundle (c .intent .bundle)) ≡ u
           → Carries (runBook (cond u (done (withFailure n OutputsUnreadable (m .nextId .0) f a)) (cond (eqb (m .nextId .0) last64) (done (withFailure n IdsExhausted (m .nextId .0) f a)) new)) m)
-          (cond u (failing Failed (failureAt n cause.OutputsUnreadable (m .nextId) f)) (cond (eqb (m .nextId .0) last64) (failing Failed (failureAt n cause.IdsExhausted (m .nextId) f)) newPlan)) a m
+          (cond u (failing (Planned Failed) (failureAt n cause.OutputsUnreadable (m .nextId) f)) (cond (eqb (m .nextId .0) last64) (failing (Planned Failed) (failureAt n cause.IdsExhausted (m .nextId) f)) newPlan)) a m
       reads h true e = record { outcome = refl; fits = tt }
       reads h false e = last h (not-false (readableBundle (c .intent .bundle)) e) (eqb (m .nextId .0) last64)
 
       held : (u : Bool) → elemb (m .nextId .0) (map idOf (m .submitted)) ≡ u
           → Carries (runBook (cond u (done (withFailure n IdCollides (m .nextId .0) f a)) (cond (not (readableBundle (c .intent .bundle))) (done (withFailure n OutputsUnreadable (m .nextId .0) f a)) (cond (eqb (m .nextId .0) last64) (done (withFailure n IdsExhausted (m .nextId .0) f a)) new))) m)
-          (cond u (failing Failed (failureAt n cause.IdCollides (m .nextId) f)) (cond (not (readableBundle (c .intent .bundle))) (failing Failed (failureAt n cause.OutputsUnreadable (m .nextId) f)) (cond (eqb (m .nextId .0) last64) (failing Failed (failureAt n cause.IdsExhausted (m .nextId) f)) newPlan))) a m
+          (cond u (failing (Planned Failed) (failureAt n cause.IdCollides (m .nextId) f)) (cond (not (readableBundle (c .intent .bundle))) (failing (Planned Failed) (failureAt n cause.OutputsUnreadable (m .nextId) f)) (cond (eqb (m .nextId .0) last64) (failing (Planned Failed) (failureAt n cause.IdsExhausted (m .nextId) f)) newPlan))) a m
       held true e = record { outcome = refl; fits = tt }
       held false e = reads e (not (readableBundle (c .intent .bundle))) refl
 
@@ -330,7 +331,7 @@ module _ (m : Book) (s : SoundBook m) (c : PendingDelivery) (sc : soundIntent (c
         carries-by (ap (λ (ts : List SubmittedTx). runBook (unnamed n c print m a ts) m) (none-passes (hasIntent print) (m .submitted) e)) (unknown-carries n print)
 
     named-carries : (i : SubmissionId) (x : Place) → placeOf (hasId (i .0)) (m .submitted) ≡ x → Carries (runBook (named n c print (i .0) a (filterb (hasId (i .0)) (m .submitted))) m)
-        (foundPlan m (a .emitted) n c print (failing Failed (failureAt n cause.NoRetainedState i print)) x) a m
+        (foundPlan m (a .emitted) n c print (failing (Planned Failed) (failureAt n cause.NoRetainedState i print)) x) a m
     unfolding run failureOf
     named-carries i (At k) e =
         let h = at-first (hasId (i .0)) (m .submitted) e in
@@ -353,6 +354,6 @@ module _ (m : Book) (s : SoundBook m) (c : PendingDelivery) (sc : soundIntent (c
     unfolding oneCandidate candidatePlan run
     one-carries = by (isOneOf (c .intent .id) (a .removed))
       where
-        by : (u : Bool) → Carries (runBook (cond u (done a) (candidate n c a)) m) (cond u (failing Passed zeroFailure) (planBy m (a .emitted) n c print (c .intent .id))) a m
+        by : (u : Bool) → Carries (runBook (cond u (done a) (candidate n c a)) m) (cond u (failing (Planned Passed) zeroFailure) (planBy m (a .emitted) n c print (c .intent .id))) a m
         by true = record { outcome = refl; fits = tt }
         by false = candidate-carries

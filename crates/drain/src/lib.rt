@@ -21,6 +21,7 @@ use ids::empty16;
 use ids::has16;
 use ids::push16;
 use plan::PlanAction;
+use plan::PlanAnswer;
 use plan::SubmissionPlanDelta;
 use plan::SubmittedPlace;
 use plan::failing;
@@ -49,7 +50,8 @@ ghost use Rattle.drain_answers.specs.DrainReply.{drainReply};
 ghost use Rattle.book_cells.specs.Normal.{Normal};
 ghost use Rattle.plan.specs.Plan.{knownPlan, unknownPlan};
 ghost use Rattle.drain.specs.Planned.{placeOn, unnamedPlan, candidatePlan};
-ghost use Rattle.drain.specs.Carried.{FitsBy, unstoredBy, isStoring};
+ghost use Rattle.drain.specs.Carried.{FitsBy, AnswerFits, unstoredBy, isStoring};
+ghost use Rattle.drain.specs.Loop.{awayBy};
 ghost use Rattle.drain.specs.Answers.{answersOf, withSubmission, withFailed, withRemoval, answersBy, finishedWith, Room};
 
 // What a drain has done so far: the ids that it emitted and removed, what it handed out, and the failures.
@@ -116,11 +118,10 @@ fn with_removal(a: DrainAnswers, f: SubmissionDrainFailure) -> DrainAnswers
     out
 }
 
-fn answers_after(a: DrainAnswers, p: SubmissionPlanDelta) -> DrainAnswers
+fn answers_after(a: DrainAnswers, action: PlanAction, p: SubmissionPlanDelta) -> DrainAnswers
     requires { ⌜ Room a ⌝ }
-    ensures { λ r. ⌜ r ≡ answersBy (p .action) p a ⌝ }
+    ensures { λ r. ⌜ r ≡ answersBy action p a ⌝ }
 {
-    let action = p.action;
     let f = p.failure;
     let x = p.submission;
     let id = p.tx.entry.id;
@@ -134,17 +135,11 @@ fn answers_after(a: DrainAnswers, p: SubmissionPlanDelta) -> DrainAnswers
         PlanAction::Removed => {
             return with_removal(a, f);
         }
-        PlanAction::Full => {
-            return a;
-        }
         PlanAction::Stored => {
             return a;
         }
         PlanAction::Issued => {
             return with_submission(a, id, x);
-        }
-        PlanAction::Exhausted => {
-            return a;
         }
     }
 }
@@ -161,11 +156,10 @@ fn withdraw(b: BookData, id: SubmissionId) -> BookData
 }
 
 // What a plan that stores nothing leaves of the book.
-fn unstored(b: BookData, p: SubmissionPlanDelta) -> BookData
-    requires { ⌜ Normal b × FitsBy (p .action) p (view b) ⌝ }
-    ensures { λ r. ⌜ r ≡ unstoredBy (p .action) p b ⌝ }
+fn unstored(b: BookData, action: PlanAction, p: SubmissionPlanDelta) -> BookData
+    requires { ⌜ Normal b × FitsBy action p (view b) ⌝ }
+    ensures { λ r. ⌜ r ≡ unstoredBy action p b ⌝ }
 {
-    let action = p.action;
     let f = p.failure;
     let id = f.candidate_id;
     match action {
@@ -178,16 +172,10 @@ fn unstored(b: BookData, p: SubmissionPlanDelta) -> BookData
         PlanAction::Removed => {
             return withdraw(b, id);
         }
-        PlanAction::Full => {
-            return b;
-        }
         PlanAction::Stored => {
             return b;
         }
         PlanAction::Issued => {
-            return b;
-        }
-        PlanAction::Exhausted => {
             return b;
         }
     }
@@ -200,10 +188,8 @@ fn stores(action: PlanAction) -> bool
         PlanAction::Passed => false,
         PlanAction::Failed => false,
         PlanAction::Removed => false,
-        PlanAction::Full => false,
         PlanAction::Stored => true,
         PlanAction::Issued => true,
-        PlanAction::Exhausted => true,
     }
 }
 
@@ -299,7 +285,10 @@ fn plan_pending_submission(
     let intent = c.intent;
     let of = intent.id;
     if is_one_of(of, removed) {
-        return failing(PlanAction::Passed, SubmissionDrainFailure::zero());
+        return failing(
+            PlanAnswer::Planned(PlanAction::Passed),
+            SubmissionDrainFailure::zero(),
+        );
     }
     let f = intent_of(intent);
     let OptionalId::Of(id) = of else {
@@ -329,11 +318,11 @@ pub fn drain_sound(b: BookData) -> DrainReply
         let emitted = answers.emitted;
         let removed = answers.removed;
         let p = plan_pending_submission(book, emitted, removed, i, c);
-        let action = p.action;
-        if action.is_full() {
-            return refused(10, b);
-        }
-        answers = answers_after(answers, p);
+        let answer = p.answer;
+        let PlanAnswer::Planned(action) = answer else {
+            return turned_away(b, book, p);
+        };
+        answers = answers_after(answers, action, p);
         if stores(action) {
             let k = p.place.index;
             let t = p.tx;
@@ -343,16 +332,41 @@ pub fn drain_sound(b: BookData) -> DrainReply
             book.submitted_count = p.place.count;
             book.next_submission_id = id;
             book.next_delivery_attempt_token = token;
-            if action.is_exhausted() {
-                return refused(11, book);
-            }
             i += 1;
         } else {
-            book = unstored(book, p);
+            book = unstored(book, action, p);
             i += 1;
         }
     }
     finished(book, answers)
+}
+
+// A candidate that is not planned: 10 leaves the book b as it was; 11 leaves the book so far, with the candidate's submission.
+fn turned_away(b: BookData, book: BookData, p: SubmissionPlanDelta) -> DrainReply
+    requires { ⌜ (length (book .submitted) ≡ 16) × AnswerFits (p .answer) p (view book) ⌝ }
+    ensures { λ r. ⌜ r ≡ awayBy (p .answer) p b book ⌝ }
+{
+    let answer = p.answer;
+    match answer {
+        PlanAnswer::Full => {
+            return refused(10, b);
+        }
+        PlanAnswer::Exhausted => {
+            let k = p.place.index;
+            let t = p.tx;
+            let id = p.place.next_id;
+            let token = p.place.next_token;
+            let mut next = book;
+            next.submitted[k] = t;
+            next.submitted_count = p.place.count;
+            next.next_submission_id = id;
+            next.next_delivery_attempt_token = token;
+            return refused(11, next);
+        }
+        PlanAnswer::Planned(_action) => {
+            return refused(10, b);
+        }
+    }
 }
 
 // The answer of a drain that came to its end.

@@ -1,7 +1,7 @@
 -- Paper 01, "Drain and its plan": what is decided about one candidate, as data. `drain` has the law that carrying it out is what the
 -- rules do.
 use Prim.Native.Nat.{ℕ, _+_}
-use mathlib.Core.Bool.{Bool, true, false, cond, not}
+use mathlib.Core.Bool.{cond, not}
 use mathlib.Core.List.{List}
 use mathlib.Core.Option.{Option, none, some}
 use lib.Dec.{eqb, ltb}
@@ -27,8 +27,9 @@ use Rattle.drain_answers.specs.declared.DrainFailureCause.the-variants.{IdColli
 use Rattle.drain_answers.specs.declared.SubmissionDrainFailure.{SubmissionDrainFailure}
 use Rattle.plan.specs.declared.OptionalCause.{OptionalCause}
 use Rattle.plan.specs.declared.OptionalCause.the-variants.{NoCause, Of}
-use Rattle.plan.specs.declared.PlanAction.{PlanAction}
-use Rattle.plan.specs.declared.PlanAction.the-variants.{Passed, Failed, Removed, Full, Stored, Issued, Exhausted}
+use Rattle.plan.specs.declared.PlanAction.the-variants.{Failed, Removed, Stored, Issued}
+use Rattle.plan.specs.declared.PlanAnswer.{PlanAnswer}
+use Rattle.plan.specs.declared.PlanAnswer.the-variants.{Full, Exhausted, Planned}
 use Rattle.plan.specs.declared.SubmittedPlace.{SubmittedPlace}
 use Rattle.plan.specs.declared.SubmissionPlanDelta.{SubmissionPlanDelta}
 
@@ -36,32 +37,14 @@ abbrev pub causeIn : OptionalCause → Option Cause
 causeIn NoCause = none
 causeIn (Of c) = some (causeOf c)
 
-abbrev pub isFull : PlanAction → Bool
-isFull Passed = false
-isFull Failed = false
-isFull Removed = false
-isFull Full = true
-isFull Stored = false
-isFull Issued = false
-isFull Exhausted = false
-
-abbrev pub isExhausted : PlanAction → Bool
-isExhausted Passed = false
-isExhausted Failed = false
-isExhausted Removed = false
-isExhausted Full = false
-isExhausted Stored = false
-isExhausted Issued = false
-isExhausted Exhausted = true
-
 abbrev pub noPlace : SubmittedPlace
 noPlace = record { index = 0; count = 0; «next_id» = record { 0 = 0 }; «next_token» = record { 0 = 0 } }
 
-abbrev pub failing : PlanAction → SubmissionDrainFailure → SubmissionPlanDelta
-failing k f = record { action = k; place = noPlace; tx = zeroSubmitted; submission = zeroDrained; failure = f }
+abbrev pub failing : PlanAnswer → SubmissionDrainFailure → SubmissionPlanDelta
+failing k f = record { answer = k; place = noPlace; tx = zeroSubmitted; submission = zeroDrained; failure = f }
 
-abbrev pub storing : PlanAction → SubmittedPlace → SubmittedTx → SubmissionPlanDelta
-storing k p t = record { action = k; place = p; tx = t; submission = zeroDrained; failure = zeroFailure }
+abbrev pub storing : PlanAnswer → SubmittedPlace → SubmittedTx → SubmissionPlanDelta
+storing k p t = record { answer = k; place = p; tx = t; submission = zeroDrained; failure = zeroFailure }
 
 abbrev pub failureAt : ℕ → DrainFailureCause → SubmissionId → List ℕ → SubmissionDrainFailure
 failureAt n k i f = record { «candidate_index» = n; cause = k; «candidate_id» = i; «intent_fingerprint» = f }
@@ -73,7 +56,7 @@ tokenTaken p = record { index = p .index; count = p .count; «next_id» = p .«n
 -- `issue_attempt`
 unfoldable pub issuePlan : SubmittedPlace → SubmittedTx → SubmissionDeliveryGoal → SubmissionPlanDelta
 issuePlan p t g = record {
-  action = Issued;
+  answer = Planned Issued;
   place = tokenTaken p;
   tx = withSlots (slotsIssued (issueAttempt (p .«next_token» .0) g (currentFingerprint (t .entry)))) t;
   submission = drainedBack (handed (p .«next_token» .0) g (t .entry) (taken (t .slots)));
@@ -82,18 +65,18 @@ issuePlan p t g = record {
 
 -- "An id is emitted once a drain"; 11: "token needed, next token 2^64 − 1"
 unfoldable pub deliverPlan : SubmittedPlace → List ℕ → SubmittedTx → SubmissionDeliveryGoal → SubmissionPlanDelta
-deliverPlan p emitted t g = cond (elemb (idOf t) emitted) (storing Stored p t) (cond (eqb (p .«next_token» .0) last64) (storing Exhausted p t) (issuePlan p t g))
+deliverPlan p emitted t g = cond (elemb (idOf t) emitted) (storing (Planned Stored) p t) (cond (eqb (p .«next_token» .0) last64) (storing Exhausted p t) (issuePlan p t g))
 
 -- plan 2, the candidate fits: "expiry becomes the smaller one present"
 abbrev pub tightenedBy : PendingDelivery → SubmittedTx → SubmittedTx
 tightenedBy c t = withEntry (revised (tighten (c .intent .expiry))) t
 
 unfoldable pub metPlan : SubmittedPlace → List ℕ → PendingDelivery → SubmittedTx → SubmissionPlanDelta
-metPlan p emitted c t = cond (wanted (c .goal) (t .entry)) (deliverPlan p emitted (tightenedBy c t) (c .goal)) (storing Stored p (tightenedBy c t))
+metPlan p emitted c t = cond (wanted (c .goal) (t .entry)) (deliverPlan p emitted (tightenedBy c t) (c .goal)) (storing (Planned Stored) p (tightenedBy c t))
 
 -- plan 2, a miss: "that submission is removed … and retired"; 10 where that would be a 65th retirement
 unfoldable pub removalPlan : List ℕ → SubmissionDrainFailure → SubmissionPlanDelta
-removalPlan retired f = failing (cond (ltb 64 (length (pushNew retired (f .«candidate_id» .0)))) Full Removed) f
+removalPlan retired f = failing (cond (ltb 64 (length (pushNew retired (f .«candidate_id» .0)))) Full (Planned Removed)) f
 
 abbrev pub knownPlanBy : SubmittedPlace → List ℕ → List ℕ → ℕ → PendingDelivery → List ℕ → SubmittedTx → Option Cause → SubmissionPlanDelta
 knownPlanBy p emitted retired n c f t none = metPlan p emitted c t
@@ -117,7 +100,7 @@ retainPlan p emitted c = deliverPlan (idTaken p) emitted (newSubmitted p c) (c .
 -- would be a 17th submission
 unfoldable pub unknownPlan : SubmittedPlace → List ℕ → List ℕ → ℕ → PendingDelivery → List ℕ → SubmissionPlanDelta
 unknownPlan p emitted ids n c f =
-    cond (elemb (p .«next_id» .0) ids) (failing Failed (failureAt n IdCollides (p .«next_id») f))
-    (cond (not (readableBundle (c .intent .bundle))) (failing Failed (failureAt n OutputsUnreadable (p .«next_id») f))
-    (cond (eqb (p .«next_id» .0) last64) (failing Failed (failureAt n IdsExhausted (p .«next_id») f))
+    cond (elemb (p .«next_id» .0) ids) (failing (Planned Failed) (failureAt n IdCollides (p .«next_id») f))
+    (cond (not (readableBundle (c .intent .bundle))) (failing (Planned Failed) (failureAt n OutputsUnreadable (p .«next_id») f))
+    (cond (eqb (p .«next_id» .0) last64) (failing (Planned Failed) (failureAt n IdsExhausted (p .«next_id») f))
     (cond (eqb (p .count) 16) (failing Full zeroFailure) (retainPlan p emitted c))))

@@ -17,6 +17,7 @@ use Rattle.drain_answers.specs.Failures.{causeOf, zeroFailure, cause-back}
 use Rattle.drain_answers.specs.declared.DrainFailureCause.{DrainFailureCause}
 use Rattle.drain_answers.specs.declared.SubmissionDrainFailure.{SubmissionDrainFailure}
 use Rattle.plan.specs.declared.PlanAction.the-variants.{Issued}
+use Rattle.plan.specs.declared.PlanAnswer.the-variants.{Planned}
 use Rattle.plan.specs.declared.SubmittedPlace.{SubmittedPlace}
 use Rattle.plan.specs.declared.SubmissionPlanDelta.{SubmissionPlanDelta}
 use Rattle.plan.specs.Plan.{failureAt, tokenTaken, issuePlan, metPlan, removalPlan, knownPlanBy, knownPlan}
@@ -26,14 +27,14 @@ pub issue-is : (p : SubmittedPlace) (t : SubmittedTx) (g : SubmissionDeliveryGoa
     → {q : OptionalAttempt} → q ≡ taken (t .slots)
     → {x : DrainedSubmission} → drainedOf x ≡ handed (p .«next_token» .0) g (t .entry) q
     → {z : SubmissionDrainFailure} → z ≡ zeroFailure
-    → record { action = Issued; place = tokenTaken p; tx = record { slots = s; entry = t .entry }; submission = x; failure = z } ≡ issuePlan p t g
+    → record { answer = Planned Issued; place = tokenTaken p; tx = record { slots = s; entry = t .entry }; submission = x; failure = z } ≡ issuePlan p t g
 unfolding issuePlan
 issue-is p t g {v} hv {s} hs {q} hq {x} hx {z} hz =
     let e : s ≡ slotsIssued (issueAttempt (p .«next_token» .0) g (currentFingerprint (t .entry))) (t .slots) =
     hs ∙ ap (λ (w : List ℕ). slotsIssued (issueAttempt (p .«next_token» .0) g w) (t .slots)) hv in
     let d : x ≡ drainedBack (handed (p .«next_token» .0) g (t .entry) (taken (t .slots))) =
     sym (drained-back x) ∙ ap drainedBack (hx ∙ ap (handed (p .«next_token» .0) g (t .entry)) hq) in
-    λ i. record { action = Issued; place = tokenTaken p; tx = record { slots = e i; entry = t .entry }; submission = d i; failure = hz i }
+    λ i. record { answer = Planned Issued; place = tokenTaken p; tx = record { slots = e i; entry = t .entry }; submission = d i; failure = hz i }
 
 module _ (p : SubmittedPlace) (emitted retired : List ℕ) (n : ℕ) (c : PendingDelivery) (f : List ℕ) (t : SubmittedTx) {r : SubmissionPlanDelta} where
   pub known-none : missOf (c .intent) f (t .entry) ≡ none → r ≡ metPlan p emitted c t → r ≡ knownPlan p emitted retired n c f t

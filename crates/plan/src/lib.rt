@@ -33,23 +33,29 @@ ghost use Rattle.book_data.specs.Model.{list16, list64, ids64};
 ghost use Rattle.rules.specs.Parts.{intentOf};
 ghost use Rattle.rules.specs.Calls.Plan.{missOf, wanted, last64};
 ghost use Rattle.plan.specs.declared.PlanAction.the-variants.{Failed};
-ghost use Rattle.plan.specs.Plan.{causeIn, isFull, isExhausted, failing, failureAt, storing, issuePlan, deliverPlan, metPlan, removalPlan, knownPlan, retainPlan, unknownPlan};
+ghost use Rattle.plan.specs.declared.PlanAnswer.the-variants.{Planned};
+ghost use Rattle.plan.specs.Plan.{causeIn, failing, failureAt, storing, issuePlan, deliverPlan, metPlan, removalPlan, knownPlan, retainPlan, unknownPlan};
 
 pub enum OptionalCause {
     NoCause,
     Of(DrainFailureCause),
 }
 
-// What becomes of a candidate: passed over, or a failure that leaves the book, or one that removes its submission; the book would be
-// full; its submission is stored without a token, or with the next token, or stored where no token is left.
+// What becomes of a candidate: passed over, or a failure that leaves the book, or one that removes its submission; its submission is
+// stored without a token, or with the next token.
 pub enum PlanAction {
     Passed,
     Failed,
     Removed,
-    Full,
     Stored,
     Issued,
+}
+
+// The book would be full; or the submission is stored where no token is left; or the candidate is planned.
+pub enum PlanAnswer {
+    Full,
     Exhausted,
+    Planned(PlanAction),
 }
 
 // Where a submission is stored, and the book's numbers with it.
@@ -60,48 +66,18 @@ pub struct SubmittedPlace {
     pub next_token: Token,
 }
 
-// What the action does not use is zero.
+// What the answer does not use is zero.
 pub struct SubmissionPlanDelta {
-    pub action: PlanAction,
+    pub answer: PlanAnswer,
     pub place: SubmittedPlace,
     pub tx: SubmittedTx,
     pub submission: DrainedSubmission,
     pub failure: SubmissionDrainFailure,
 }
 
-impl PlanAction {
-    pub fn is_full(self) -> bool
-        ensures { λ r. ⌜ r ≡ isFull self ⌝ }
-    {
-        match self {
-            PlanAction::Passed => false,
-            PlanAction::Failed => false,
-            PlanAction::Removed => false,
-            PlanAction::Full => true,
-            PlanAction::Stored => false,
-            PlanAction::Issued => false,
-            PlanAction::Exhausted => false,
-        }
-    }
-
-    pub fn is_exhausted(self) -> bool
-        ensures { λ r. ⌜ r ≡ isExhausted self ⌝ }
-    {
-        match self {
-            PlanAction::Passed => false,
-            PlanAction::Failed => false,
-            PlanAction::Removed => false,
-            PlanAction::Full => false,
-            PlanAction::Stored => false,
-            PlanAction::Issued => false,
-            PlanAction::Exhausted => true,
-        }
-    }
-}
-
 // A plan that stores nothing.
-pub fn failing(action: PlanAction, f: SubmissionDrainFailure) -> SubmissionPlanDelta
-    ensures { λ r. ⌜ r ≡ failing action f ⌝ }
+pub fn failing(answer: PlanAnswer, f: SubmissionDrainFailure) -> SubmissionPlanDelta
+    ensures { λ r. ⌜ r ≡ failing answer f ⌝ }
 {
     let place = SubmittedPlace {
         index: 0,
@@ -112,7 +88,7 @@ pub fn failing(action: PlanAction, f: SubmissionDrainFailure) -> SubmissionPlanD
     let tx = SubmittedTx::zero();
     let submission = DrainedSubmission::zero();
     SubmissionPlanDelta {
-        action: action,
+        answer: answer,
         place: place,
         tx: tx,
         submission: submission,
@@ -121,13 +97,13 @@ pub fn failing(action: PlanAction, f: SubmissionDrainFailure) -> SubmissionPlanD
 }
 
 // A plan that stores a submission and hands nothing out.
-fn storing(action: PlanAction, place: SubmittedPlace, tx: SubmittedTx) -> SubmissionPlanDelta
-    ensures { λ r. ⌜ r ≡ storing action place tx ⌝ }
+fn storing(answer: PlanAnswer, place: SubmittedPlace, tx: SubmittedTx) -> SubmissionPlanDelta
+    ensures { λ r. ⌜ r ≡ storing answer place tx ⌝ }
 {
     let submission = DrainedSubmission::zero();
     let f = SubmissionDrainFailure::zero();
     SubmissionPlanDelta {
-        action: action,
+        answer: answer,
         place: place,
         tx: tx,
         submission: submission,
@@ -192,7 +168,7 @@ fn issue(place: SubmittedPlace, t: SubmittedTx, goal: SubmissionDeliveryGoal) ->
     };
     let f = SubmissionDrainFailure::zero();
     SubmissionPlanDelta {
-        action: PlanAction::Issued,
+        answer: PlanAnswer::Planned(PlanAction::Issued),
         place: after,
         tx: tx,
         submission: submission,
@@ -213,10 +189,10 @@ fn deliver(
     let entry = t.entry;
     let id = entry.id;
     if has16(emitted, id) {
-        return storing(PlanAction::Stored, place, t);
+        return storing(PlanAnswer::Planned(PlanAction::Stored), place, t);
     }
     if place.next_token.0 == 18446744073709551615 {
-        return storing(PlanAction::Exhausted, place, t);
+        return storing(PlanAnswer::Exhausted, place, t);
     }
     issue(place, t, goal)
 }
@@ -245,7 +221,7 @@ fn met(
     if should_emit(goal, entry) {
         return deliver(place, emitted, tx, goal);
     }
-    storing(PlanAction::Stored, place, tx)
+    storing(PlanAnswer::Planned(PlanAction::Stored), place, tx)
 }
 
 // The submission goes, unless its retirement would be a 65th.
@@ -256,9 +232,9 @@ fn removal(retired: Ids64, f: SubmissionDrainFailure) -> SubmissionPlanDelta
     let id = f.candidate_id;
     let next = push_new64(retired, id);
     if next.full {
-        return failing(PlanAction::Full, f);
+        return failing(PlanAnswer::Full, f);
     }
-    failing(PlanAction::Removed, f)
+    failing(PlanAnswer::Planned(PlanAction::Removed), f)
 }
 
 // The candidate at n, of fingerprint f, whose submission is t.
@@ -344,7 +320,7 @@ pub fn unknown(
         return fails(n, DrainFailureCause::IdsExhausted, id, f);
     }
     if place.count == 16 {
-        return failing(PlanAction::Full, SubmissionDrainFailure::zero());
+        return failing(PlanAnswer::Full, SubmissionDrainFailure::zero());
     }
     retain(place, emitted, c, f)
 }
@@ -356,7 +332,7 @@ pub fn fails(
     id: SubmissionId,
     f: [u8; 32],
 ) -> SubmissionPlanDelta
-    ensures { λ r. ⌜ r ≡ failing Failed (failureAt n cause id f) ⌝ }
+    ensures { λ r. ⌜ r ≡ failing (Planned Failed) (failureAt n cause id f) ⌝ }
 {
     let failure = SubmissionDrainFailure {
         candidate_index: n,
@@ -364,5 +340,5 @@ pub fn fails(
         candidate_id: id,
         intent_fingerprint: f,
     };
-    failing(PlanAction::Failed, failure)
+    failing(PlanAnswer::Planned(PlanAction::Failed), failure)
 }

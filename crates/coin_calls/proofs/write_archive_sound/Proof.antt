@@ -25,19 +25,19 @@ same-length : tie.Need-same-length
 same-length c = search needs
 
 returns : tie.Need-returns
-returns c = absurd (archive-sound (c .before .before .before .before .before .before .before .before .args .b) (c .before .before .before .before .before .before .before .before .pre) (c .before .before .before .before .before .before .before .before .args .out .now) (c .before .before .before .before .before .write-if-sound .ensures .1) (c .before .before .before .before .before .write-if-sound .ensures .0) (c .before .enum-told .given .1))
+returns c = absurd (archive-sound (c .before .before .before .before .before .before .before .before .args .b) (c .before .before .before .before .before .before .before .before .pre) (c .before .before .before .before .before .before .before .before .args .out .now) (c .before .before .before .before .before .write-if-sound .ensures .1) (c .before .before .before .before .before .write-if-sound .result) (c .before .before .before .before .before .write-if-sound .ensures .0) (c .before .enum-told .given .1))
 
 same-length-2 : tie.Need-same-length-2
 same-length-2 c = search needs
 
 returns-2 : tie.Need-returns-2
-returns-2 c = archive-short (c .before .before .before .before .before .before .before .before .args .b) (c .before .before .before .before .before .before .before .before .pre) (c .before .before .before .before .before .before .before .before .args .out .now) (c .before .before .before .before .before .write-if-sound .ensures .1) (c .before .before .before .before .before .write-if-sound .ensures .0) (c .before .enum-told2 .given .1) (c .refused2 .ensures)
+returns-2 c = archive-short (c .before .before .before .before .before .before .before .before .args .b) (c .before .before .before .before .before .before .before .before .pre) (c .before .before .before .before .before .before .before .before .args .out .now) (c .before .before .before .before .before .write-if-sound .ensures .1) (c .before .before .before .before .before .write-if-sound .result) (c .before .before .before .before .before .write-if-sound .ensures .0) (c .before .enum-told2 .given .1) (c .refused2 .ensures)
 
 same-length-3 : tie.Need-same-length-3
 same-length-3 c = search needs
 
 returns-3 : tie.Need-returns-3
-returns-3 c = archive-written (c .before .before .before .before .before .before .before .before .args .b) (c .before .before .before .before .before .before .before .before .pre) (c .before .before .before .before .before .before .before .before .args .out .now) (c .before .before .before .before .before .write-if-sound .ensures .1) (c .before .before .before .before .before .write-if-sound .ensures .0) (c .before .wrote .given .1)
+returns-3 c = archive-written (c .before .before .before .before .before .before .before .before .args .b) (c .before .before .before .before .before .before .before .before .pre) (c .before .before .before .before .before .before .before .before .args .out .now) (c .before .before .before .before .before .write-if-sound .ensures .1) (c .before .before .before .before .before .write-if-sound .result) (c .before .before .before .before .before .write-if-sound .ensures .0) (c .before .wrote .given .1)
 
 pub write-archive-sound-spec : {M : Type 1} → statement M
 write-archive-sound-spec =
