@@ -1,4 +1,4 @@
--- Arguments in bytes. One that stands for no value of its type is refused 3, behind the door of the book.
+-- Arguments in bytes. One that stands for no value of its type is refused 3, behind the book (1) and the call's lists (2): "Checks run downward."
 use Prim.Native.Nat.{ℕ, zero, suc, _≤_, _<_}
 use mathlib.Core.Path.{_≡_, refl, sym, ap, _∙_}
 use mathlib.Core.Bool.{Bool, true, false, not, cond}
@@ -19,6 +19,10 @@ use Rattle.boundary.specs.Settle.{Form, boundary, settled, Gives, GivesB
 abbrev pub given : {A : Type 0} → Option A → (A → Rule Value) → Rule Value
 given none f = undo 3
 given (some x) f = f x
+
+-- a call with lists, which are refused 2 before any byte argument is looked at
+abbrev pub listed : Bool → Rule Value → Rule Value
+listed ok r = cond ok r (undo 2)
 
 abbrev pub taken : {A : Type 0} → Ans A → Option A
 taken (got a e) = some a
@@ -58,17 +62,24 @@ module _ {A : Type 0} {z : A} {ok : Bool} {v : A} {e : ℕ} where
   pub bytes-got : (p : Parser A) (s : List ℕ) → Reads z (p s 0) ok v e → not ok ≡ false → length s ≤ e → bytesAs p s ≡ some v
   bytes-got p s r q h = ap (takenWhole (length s)) (reads-got r q) ∙ ap (λ (t : Bool). cond t (some v) none) (le-leb (length s) e h)
 
--- ---- an argument that stands for nothing
-module _ (form : Form) (d a : List ℕ) (b : BookData) (h : Holding d b) where
-  pub gives-three : (r : Rule Value) → r ≡ undo 3 → Gives (boundary form r d a) 3 d a
-  unfolding settled run
-  gives-three r e = gives-as (sym (ap (λ (x : Rule Value). boundary form x d a) e ∙ boundary-held form d a b h (undo 3))) (record { number = refl; book = refl; answer = refl })
+-- ---- refused at the boundary: n is 2 or 3
+pub gives-undo : (n : ℕ) (form : Form) (d a : List ℕ) (b : BookData) (h : Holding d b) (r : Rule Value) → r ≡ undo n → Gives (boundary form r d a) n d a
+unfolding settled run
+gives-undo n form d a b h r e =
+    gives-as (sym (ap (λ (x : Rule Value). boundary form x d a) e ∙ boundary-held form d a b h (undo n)))
+    (record { number = refl; book = refl; answer = refl })
 
-pub gives-book-three : (form : Form) (d : List ℕ) (b : BookData) (h : Holding d b) (r : Rule Value) → r ≡ undo 3 → GivesBook (boundary form r d []) 3 d
-gives-book-three form d b h r e = let g = gives-three form d [] b h r e in record { number = g .number; book = g .book }
+pub gives-book-undo : (n : ℕ) (form : Form) (d : List ℕ) (b : BookData) (h : Holding d b) (r : Rule Value) → r ≡ undo n → GivesBook (boundary form r d []) n d
+gives-book-undo n form d b h r e = let g = gives-undo n form d [] b h r e in record { number = g .number; book = g .book }
 
 pub given-none : {A : Type 0} (f : A → Rule Value) {x : Option A} → x ≡ none → given x f ≡ undo 3
 given-none {A} f e = ap (λ (y : Option A). given y f) e
 
 pub given-some : {A : Type 0} (f : A → Rule Value) {x : Option A} {v : A} → x ≡ some v → given x f ≡ f v
 given-some {A} f e = ap (λ (y : Option A). given y f) e
+
+pub listed-not : (r : Rule Value) {ok : Bool} → ok ≡ false → listed ok r ≡ undo 2
+listed-not r e = ap (λ (t : Bool). listed t r) e
+
+pub listed-well : (r : Rule Value) {ok : Bool} → ok ≡ true → listed ok r ≡ r
+listed-well r e = ap (λ (t : Bool). listed t r) e

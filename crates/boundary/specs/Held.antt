@@ -1,4 +1,5 @@
--- The book in lent bytes: 8 bytes of its archive's length, then the archive. The bytes behind are the caller's.
+-- The book in lent bytes. Today: 8 bytes of its archive's length, then the archive; the bytes behind are the caller's. The form is said by two
+-- definitions alone, `bookBytes` (what is written) and `heldIn` (what is read); that they agree is boundary_laws/Lent.
 use Prim.Native.Nat.{ℕ, zero, suc, _+_, _-_, _^_, _≤_, _<_, zero-le}
 use mathlib.Core.Path.{_≡_, refl, sym, ap, _∙_, subst}
 use mathlib.Core.Bool.{Bool, true, false, not}
@@ -17,7 +18,7 @@ use Rattle.book_data.specs.Sound.{soundb}
 use Rattle.book_data.specs.Model.{Book, view}
 use Rattle.book_data.specs.Typed.{Every, U8, Typed}
 use Rattle.book_data.specs.declared.BookData.{BookData}
-use Rattle.archive_form.specs.Encode.{encodeBook}
+use Rattle.archive_form.specs.Encode.{encodeModel, encodeBook}
 use Rattle.archive_form.specs.Parse.{readArchive, ArchiveRead, book, broken}
 use Rattle.archive_read.specs.Archive.{archiveAnswer}
 use Rattle.archive_read.specs.declared.ReadArchive.{ReadArchive}
@@ -28,6 +29,11 @@ use Rattle.archive_laws.specs.Theorems.{accepted}
 unfoldable pub layout : List ℕ → List ℕ
 unfolding be
 layout s = be 8 (length s) ++ s
+
+-- the bytes that hold a book
+unfoldable pub bookBytes : Book → List ℕ
+unfolding layout encodeModel
+bookBytes m = layout (encodeModel m)
 
 -- the archive at the front of lent bytes
 unfoldable pub archiveIn : Parser (List ℕ)

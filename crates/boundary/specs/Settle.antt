@@ -15,7 +15,7 @@ use Rattle.wire.specs.Puts.{Room, Puts, puts-overlay}
 use Rattle.book_data.specs.Model.{Book, view, back}
 use Rattle.book_data.specs.SoundLaws.{view-back}
 use Rattle.book_data.specs.declared.BookData.{BookData}
-use Rattle.archive_form.specs.Encode.{encodeModel, encodeBook}
+use Rattle.archive_form.specs.Encode.{encodeBook}
 use Rattle.rules.specs.Call.{Value}
 use Rattle.rules.specs.Rule.{Rule, DrainedSubmission, Outcome, ended, undone, stopped, run, full}
 use Rattle.rules.specs.Steps.{onBook, runBook}
@@ -23,7 +23,7 @@ use Rattle.replies.specs.Reply.{answerOf, bookLeft}
 use Rattle.replies.specs.declared.CallAnswer.{CallAnswer}
 use Rattle.replies.specs.declared.CallAnswer.the-variants.{Done, Refused}
 use Rattle.answers.specs.Forms.{refusalNumber}
-use Rattle.boundary.specs.Held.{layout, heldIn, Holding}
+use Rattle.boundary.specs.Held.{layout, bookBytes, heldIn, Holding}
 
 -- what a call returns, and what it leaves in the buffers
 pub record Left : Type 0 where
@@ -35,21 +35,23 @@ pub record Left : Type 0 where
 abbrev pub refusal : ℕ → List ℕ → List ℕ → Left
 refusal n d a = record { number = n; book = d; answer = a }
 
--- the book's archive s and the answer l into their buffers; 12, and nothing changes, where one does not fit
-unfoldable pub written : ℕ → List ℕ → List ℕ → List ℕ → List ℕ → Left
-unfolding layout overlay
-written n s l d a =
-    cond (leb (8 + length s) (length d) && leb (length l) (length a)) (record { number = n; book = overlay (layout s) d; answer = overlay l a }) (refusal 12 d a)
+-- the book m and the answer l into their buffers; 12, and nothing changes, where one does not fit
+unfoldable pub written : ℕ → Book → List ℕ → List ℕ → List ℕ → Left
+unfolding overlay
+written n m l d a =
+    cond (leb (length (bookBytes m)) (length d) && leb (length l) (length a))
+    (record { number = n; book = overlay (bookBytes m) d; answer = overlay l a })
+    (refusal 12 d a)
 
 -- how the rules' answer is told in bytes
 abbrev pub Form : Type 0
 Form = List DrainedSubmission → Value → List ℕ
 
 unfoldable pub settled : Form → List ℕ → List ℕ → Outcome Book Value → Left
-unfolding written encodeModel
-settled form d a (ended m xs v) = written 0 (encodeModel m) (form xs v) d a
+unfolding written
+settled form d a (ended m xs v) = written 0 m (form xs v) d a
 settled form d a (undone n) = refusal n d a
-settled form d a (stopped m xs n) = written n (encodeModel m) [] d a
+settled form d a (stopped m xs n) = written n m [] d a
 
 abbrev pub ruled : Form → Rule Value → List ℕ → List ℕ → Option Book → Left
 ruled form r d a none = refusal 1 d a
@@ -82,18 +84,33 @@ pub layout-length : (s : List ℕ) → length (layout s) ≡ 8 + length s
 unfolding layout
 layout-length s = length-append (be 8 (length s)) s ∙ ap (λ (n : ℕ). n + length s) (be-length 8 (length s))
 
-module _ (n : ℕ) (s l d a : List ℕ) where
-  pub written-fits : 8 + length s ≤ length d → length l ≤ length a → written n s l d a ≡ record { number = n; book = overlay (layout s) d; answer = overlay l a }
-  unfolding written
-  written-fits h k = rw (le-leb (8 + length s) (length d) h, le-leb (length l) (length a) k) refl
+-- k is the length of the book's archive
+pub bytes-length : (k : ℕ) (b : BookData) → k ≡ length (encodeBook b) → length (bookBytes (view b)) ≡ 8 + k
+unfolding bookBytes encodeBook
+bytes-length k b e = layout-length (encodeBook b) ∙ ap (λ (n : ℕ). 8 + n) (sym e)
 
-  pub book-short : length d < 8 + length s → written n s l d a ≡ refusal 12 d a
+module _ (n : ℕ) (m : Book) (l d a : List ℕ) where
+  pub written-fits : length (bookBytes m) ≤ length d → length l ≤ length a → written n m l d a ≡ record { number = n; book = overlay (bookBytes m) d; answer = overlay l a }
   unfolding written
-  book-short h = rw (lt-leb (8 + length s) (length d) h) refl
+  written-fits h k = rw (le-leb (length (bookBytes m)) (length d) h, le-leb (length l) (length a) k) refl
 
-  pub answer-short : 8 + length s ≤ length d → length a < length l → written n s l d a ≡ refusal 12 d a
+  pub book-short : length d < length (bookBytes m) → written n m l d a ≡ refusal 12 d a
   unfolding written
-  answer-short h k = rw (le-leb (8 + length s) (length d) h, lt-leb (length l) (length a) k) refl
+  book-short h = rw (lt-leb (length (bookBytes m)) (length d) h) refl
+
+  pub answer-short : length (bookBytes m) ≤ length d → length a < length l → written n m l d a ≡ refusal 12 d a
+  unfolding written
+  answer-short h k = rw (le-leb (length (bookBytes m)) (length d) h, lt-leb (length l) (length a) k) refl
+
+-- the bytes that hold a book begin with its own
+module _ (d : List ℕ) (b : BookData) (h : Holding d b) where
+  pub holding-room : length (bookBytes (view b)) ≤ length d
+  unfolding bookBytes encodeBook
+  holding-room = h .room
+
+  pub holding-bytes : overlay (bookBytes (view b)) d ≡ d
+  unfolding bookBytes encodeBook
+  holding-bytes = h .bytes
 
 pub overlay-none : (a : List ℕ) → overlay [] a ≡ a
 unfolding overlay
@@ -101,8 +118,8 @@ overlay-none a = refl
 
 -- ---- what a reply leaves: the book is put back in any case, since a refused call answers the book that it was given
 abbrev pub finish : CallAnswer → BookData → List ℕ → List ℕ → List ℕ → Left
-finish Done b l d a = written 0 (encodeBook b) l d a
-finish (Refused n) b l d a = written n (encodeBook b) [] d a
+finish Done b l d a = written 0 (view b) l d a
+finish (Refused n) b l d a = written n (view b) [] d a
 
 -- the bytes l tell the answer
 abbrev pub Tells : Form → Outcome Book Value → List ℕ → Type 0
@@ -110,19 +127,15 @@ Tells form (ended m xs v) l = l ≡ form xs v
 Tells form (undone n) l = Unit {0}
 Tells form (stopped m xs n) l = Unit {0}
 
-pub encode-back : (m : Book) → encodeBook (back m) ≡ encodeModel m
-unfolding encodeBook
-encode-back m = ap encodeModel (view-back m)
-
 module _ (form : Form) (d a : List ℕ) (b : BookData) (h : Holding d b) where
   pub finish-settled : (o : Outcome Book Value) (l : List ℕ) → Tells form o l → finish (answerOf o) (bookLeft b o) l d a ≡ settled form d a o
   unfolding settled
-  finish-settled (ended m xs v) l t = ap (λ (s : List ℕ). written 0 s l d a) (encode-back m) ∙ ap (λ (k : List ℕ). written 0 (encodeModel m) k d a) t
+  finish-settled (ended m xs v) l t = ap (λ (x : Book). written 0 x l d a) (view-back m) ∙ ap (λ (k : List ℕ). written 0 m k d a) t
   finish-settled (undone n) l t =
-      written-fits n (encodeBook b) [] d a (omega (arith, h .room, layout-length (encodeBook b))) zero-le
-      ∙ ap (λ (x : List ℕ). record { number = n; book = x; answer = overlay [] a }) (h .bytes)
+      written-fits n (view b) [] d a (holding-room d b h) zero-le
+      ∙ ap (λ (x : List ℕ). record { number = n; book = x; answer = overlay [] a }) (holding-bytes d b h)
       ∙ ap (λ (x : List ℕ). record { number = n; book = d; answer = x }) (overlay-none a)
-  finish-settled (stopped m xs n) l t = ap (λ (s : List ℕ). written n s [] d a) (encode-back m)
+  finish-settled (stopped m xs n) l t = ap (λ (x : Book). written n x [] d a) (view-back m)
 
   pub boundary-held : (r : Rule Value) → boundary form r d a ≡ settled form d a (runBook r (view b))
   unfolding boundary
@@ -137,39 +150,41 @@ unfolding boundary
 boundary-absent form r d a e = ap (ruled form r d a) e
 
 -- a reply without a value
-pub finish-done : (x : CallAnswer) (b : BookData) (d a : List ℕ) → written (refusalNumber x) (encodeBook b) [] d a ≡ finish x b [] d a
+pub finish-done : (x : CallAnswer) (b : BookData) (d a : List ℕ) → written (refusalNumber x) (view b) [] d a ≡ finish x b [] d a
 finish-done Done b d a = refl
 finish-done (Refused n) b d a = refl
 
 -- ---- what the writing functions leave; k is the archive's length
-pub laid : (k : ℕ) (s : List ℕ) → k ≡ length s → be 8 k ++ s ≡ layout s
-unfolding layout
-laid k s e = ap (λ (n : ℕ). be 8 n ++ s) e
+pub laid : (k : ℕ) (b : BookData) → k ≡ length (encodeBook b) → be 8 k ++ encodeBook b ≡ bookBytes (view b)
+unfolding bookBytes layout encodeBook
+laid k b e = ap (λ (n : ℕ). be 8 n ++ encodeBook b) e
 
-pub laid-room : (k : ℕ) (s d : List ℕ) → k ≡ length s → 8 + k ≤ length d → Room (layout s) 0 d
-laid-room k s d e h = record { fits = omega (arith, layout-length s) }
+pub laid-room : (k : ℕ) (b : BookData) (d : List ℕ) → k ≡ length (encodeBook b) → 8 + k ≤ length d → Room (bookBytes (view b)) 0 d
+laid-room k b d e h = record { fits = omega (arith, bytes-length k b e) }
 
-module _ (n k : ℕ) (s d : List ℕ) (e : k ≡ length s) where
-  pub back-short : length d < 8 + k → GivesBook (written n s [] d []) 12 d
-  back-short h = gives-book-as (sym (book-short n s [] d [] (omega arith))) (record { number = refl; book = refl })
+module _ (n k : ℕ) (b : BookData) (d : List ℕ) (e : k ≡ length (encodeBook b)) where
+  pub back-short : length d < 8 + k → GivesBook (written n (view b) [] d []) 12 d
+  back-short h = gives-book-as (sym (book-short n (view b) [] d [] (omega (arith, bytes-length k b e)))) (record { number = refl; book = refl })
 
-  pub back-done : {d′ : List ℕ} → 8 + k ≤ length d → d′ ≡ overlay (layout s) d → GivesBook (written n s [] d []) n d′
-  back-done h p = gives-book-as (sym (written-fits n s [] d [] (omega arith) zero-le)) (record { number = refl; book = p })
+  pub back-done : {d′ : List ℕ} → 8 + k ≤ length d → d′ ≡ overlay (bookBytes (view b)) d → GivesBook (written n (view b) [] d []) n d′
+  back-done h p = gives-book-as (sym (written-fits n (view b) [] d [] (omega (arith, bytes-length k b e)) zero-le)) (record { number = refl; book = p })
 
   module _ (l a : List ℕ) where
-    pub both-book-short : length d < 8 + k → Gives (written n s l d a) 12 d a
-    both-book-short h = gives-as (sym (book-short n s l d a (omega arith))) (record { number = refl; book = refl; answer = refl })
+    pub both-book-short : length d < 8 + k → Gives (written n (view b) l d a) 12 d a
+    both-book-short h = gives-as (sym (book-short n (view b) l d a (omega (arith, bytes-length k b e)))) (record { number = refl; book = refl; answer = refl })
 
-    pub both-answer-short : 8 + k ≤ length d → length a < length l → Gives (written n s l d a) 12 d a
-    both-answer-short h g = gives-as (sym (answer-short n s l d a (omega arith) g)) (record { number = refl; book = refl; answer = refl })
+    pub both-answer-short : 8 + k ≤ length d → length a < length l → Gives (written n (view b) l d a) 12 d a
+    both-answer-short h g = gives-as (sym (answer-short n (view b) l d a (omega (arith, bytes-length k b e)) g)) (record { number = refl; book = refl; answer = refl })
 
-    pub both-done : {d′ a′ : List ℕ} {i : ℕ} → 8 + k ≤ length d → length l ≤ length a → d′ ≡ overlay (layout s) d → Puts l 0 a a′ i → Gives (written n s l d a) n d′ a′
-    both-done h g p q = gives-as (sym (written-fits n s l d a (omega arith) g)) (record { number = refl; book = p; answer = puts-overlay q .1 })
+    pub both-done : {d′ a′ : List ℕ} {i : ℕ} → 8 + k ≤ length d → length l ≤ length a → d′ ≡ overlay (bookBytes (view b)) d → Puts l 0 a a′ i
+        → Gives (written n (view b) l d a) n d′ a′
+    both-done h g p q =
+        gives-as (sym (written-fits n (view b) l d a (omega (arith, bytes-length k b e)) g)) (record { number = refl; book = p; answer = puts-overlay q .1 })
 
 -- ---- by the cases of an answer
 module _ {x : CallAnswer} (b : BookData) (l d a : List ℕ) {d′ a′ : List ℕ} {n : ℕ} where
-  pub gives-done : x ≡ Done → Gives (written 0 (encodeBook b) l d a) n d′ a′ → Gives (finish x b l d a) n d′ a′
+  pub gives-done : x ≡ Done → Gives (written 0 (view b) l d a) n d′ a′ → Gives (finish x b l d a) n d′ a′
   gives-done e g = gives-as (sym (ap (λ (y : CallAnswer). finish y b l d a) e)) g
 
-  pub gives-refused : {k : ℕ} → x ≡ Refused k → Gives (written k (encodeBook b) [] d a) n d′ a′ → Gives (finish x b l d a) n d′ a′
+  pub gives-refused : {k : ℕ} → x ≡ Refused k → Gives (written k (view b) [] d a) n d′ a′ → Gives (finish x b l d a) n d′ a′
   gives-refused e g = gives-as (sym (ap (λ (y : CallAnswer). finish y b l d a) e)) g

@@ -11,13 +11,14 @@ use lib.ListN.{length, replicate, length-append, length-replicate}
 use Rattle.wire.specs.Wire.{be, encMany, encOpt}
 use Rattle.wire.specs.Number.{be-length}
 use Rattle.spend.specs.Forms.{encodeFeeIntent}
-use Rattle.archive_form.specs.Encode.{encodeModel}
+use Rattle.archive_form.specs.Encode.{encodeModel, encodeBook}
 use Rattle.archive_laws.specs.Books.{TypedModel}
 use Rattle.archive_laws.specs.Back.{back-typed}
 use Rattle.archive_laws.specs.Sizes.{archive-size, bundle-size, height-size, fee-intent-size}
 use Rattle.book_data.specs.Model.{Book, back, ids64}
+use Rattle.book_data.specs.SoundLaws.{view-back}
 use Rattle.book_data.specs.Zero.{noAttempt}
-use Rattle.book_data.specs.Typed.{Every, TypedBundle, TypedFeeIntent, TypedAttempt}
+use Rattle.book_data.specs.Typed.{Every, TypedFeeIntent, TypedAttempt}
 use Rattle.book_data.specs.declared.DeliveryAttempt.{DeliveryAttempt}
 use Rattle.book_data.specs.declared.SubmissionFeeIntent.{SubmissionFeeIntent}
 use Rattle.rules.specs.Books.{callBook}
@@ -32,13 +33,22 @@ use Rattle.replies.specs.Values.{statusBy, flagBy, heightBy, finalOf}
 use Rattle.submitted.specs.Drained.{drainedBack}
 use Rattle.answers.specs.Forms.{statusNumber, flagNumber, encodeDrained}
 use Rattle.answers.specs.Drain.{stageNumber, encodeOptional, encodeFailure, drained-most}
-use Rattle.boundary.specs.Held.{heldIn}
-use Rattle.boundary.specs.Settle.{Left, Form, settled, ruled, boundary, written-fits, encode-back}
+use Rattle.answer_laws.specs.Said.{TypedFinal, TypedDrained}
+use Rattle.boundary.specs.Held.{bookBytes, heldIn}
+use Rattle.boundary.specs.Settle.{Left, Form, settled, ruled, boundary, written-fits, layout-length}
 use Rattle.boundary.specs.Forms.{statusForm, flagForm, heightForm, idsForm, attemptForm, feeIntentForm, finalForm, drainForm, ids-most, slot-most, fee-intent-most, final-most}
 
 -- ---- the book
-pub enough : (m : Book) → TypedModel m → 8 + length (encodeModel m) ≤ 57702
-enough m t = omega (arith, archive-size (back m) (back-typed m t), ap length (encode-back m))
+pub encode-back : (m : Book) → encodeBook (back m) ≡ encodeModel m
+unfolding encodeBook
+encode-back m = ap encodeModel (view-back m)
+
+pub book-length : (m : Book) → length (bookBytes m) ≡ 8 + length (encodeModel m)
+unfolding bookBytes
+book-length m = layout-length (encodeModel m)
+
+pub enough : (m : Book) → TypedModel m → length (bookBytes m) ≤ 57702
+enough m t = omega (arith, book-length m, archive-size (back m) (back-typed m t), ap length (encode-back m))
 
 -- 0, or the refusal's number
 abbrev pub numberBy : Outcome Book Value → ℕ
@@ -55,9 +65,9 @@ AnswerFits form k (stopped m xs n) = Unit {0}
 module _ (form : Form) (d a : List ℕ) (h : 57702 ≤ length d) where
   settled-enough : (m : Book) (o : Outcome Book Value) → TypedModel (left m o) → AnswerFits form (length a) o → settled form d a o .number ≡ numberBy o
   unfolding settled
-  settled-enough m (ended k xs v) t w = ap (λ (l : Left). l .number) (written-fits 0 (encodeModel k) (form xs v) d a (omega (arith, enough k t)) w)
+  settled-enough m (ended k xs v) t w = ap (λ (l : Left). l .number) (written-fits 0 k (form xs v) d a (omega (arith, enough k t)) w)
   settled-enough m (undone n) t w = refl
-  settled-enough m (stopped k xs n) t w = ap (λ (l : Left). l .number) (written-fits n (encodeModel k) [] d a (omega (arith, enough k t)) (omega arith))
+  settled-enough m (stopped k xs n) t w = ap (λ (l : Left). l .number) (written-fits n k [] d a (omega (arith, enough k t)) (omega arith))
 
   -- the number is the rules' own
   pub call-enough : (m : Book) (r : Rule Value) → heldIn d ≡ some m → TypedModel (left m (runBook r m)) → AnswerFits form (length a) (runBook r m) → boundary form r d a .number ≡ numberBy (runBook r m)
@@ -101,15 +111,6 @@ module _ (xs : List DrainedSubmission) where
   fee-intent-enough none t = omega (arith, be-length 1 0)
   fee-intent-enough (some f) t = fee-intent-most true (encodeFeeIntent f) (record { is = refl; few = fee-intent-size f t })
 
--- what a finalized submission and a drained one are within the program's types
-pub record TypedFinal (f : FinalizedSubmission) : Type 0 where
-  pub bundle : TypedBundle (f .bundle)
-  pub fingerprint : length (f .fingerprint) ≡ 32
-
-pub record TypedDrained (d : DrainedSubmission) : Type 0 where
-  pub bundle : TypedBundle (d .bundle)
-  pub fee-intent : TypedFeeIntent (d .feeIntent)
-
 pub final-enough : (xs : List DrainedSubmission) (o : Option FinalizedSubmission) → OnSome TypedFinal o → length (finalForm xs (finalized o)) ≤ 1117
 unfolding finalForm encOpt
 final-enough xs none t = omega (arith, be-length 1 0)
@@ -132,7 +133,17 @@ failure-few f h =
     let c = encodeOptional (some (f .candidateId)) in
     let p = f .intentFingerprint in
     let s = be 1 (stageNumber (stageOf (f .cause))) in
-    omega (arith, length-append (x ++ r ++ c ++ p) s, length-append (x ++ r ++ c) p, length-append (x ++ r) c, length-append x r, be-length 8 (f .index), be-length 1 (stageNumber (stageOf (f .cause))), optional-few (retainedId f), optional-few (some (f .candidateId)))
+    omega (
+      arith,
+      length-append (x ++ r ++ c ++ p) s,
+      length-append (x ++ r ++ c) p,
+      length-append (x ++ r) c,
+      length-append x r,
+      be-length 8 (f .index),
+      be-length 1 (stageNumber (stageOf (f .cause))),
+      optional-few (retainedId f),
+      optional-few (some (f .candidateId)),
+    )
 
 submissions-few : (n : ℕ) (xs : List DrainedSubmission) → length xs ≤ n → Every TypedDrained xs → length (encMany encodeDrained (map drainedBack xs)) ≤ n * 1149
 unfolding encMany

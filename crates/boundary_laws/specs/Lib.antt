@@ -1,3 +1,3 @@
-pub mod Lists
-pub mod Played
 pub mod Enough
+pub mod Fits
+pub mod Lent

@@ -12,15 +12,16 @@ ghost use mathlib.Core.List.{[]};
 ghost use lib.ListN.{length};
 ghost use Rattle.wire.specs.Wire.{overlay};
 ghost use Rattle.wire.specs.Puts.{Room};
+ghost use Rattle.book_data.specs.Model.{view};
 ghost use Rattle.archive_form.specs.Encode.{encodeBook};
-ghost use Rattle.boundary.specs.Held.{layout};
+ghost use Rattle.boundary.specs.Held.{bookBytes};
 ghost use Rattle.boundary.specs.Settle.{Gives, GivesBook, written, finish};
 
 // The archive of a book, behind its length n.
 fn put_book(next: BookData, n: usize, book: &mut [u8])
     requires { ⌜ n ≡ length (encodeBook next) ⌝ }
-    requires { ⌜ Room (layout (encodeBook next)) 0 (now book) ⌝ }
-    ensures { λ _. ⌜ now (book .exit) ≡ overlay (layout (encodeBook next)) (now (book .entry)) ⌝ }
+    requires { ⌜ Room (bookBytes (view next)) 0 (now book) ⌝ }
+    ensures { λ _. ⌜ now (book .exit) ≡ overlay (bookBytes (view next)) (now (book .entry)) ⌝ }
 {
     let at = put_number(&mut *book, 0, n as u64);
     write_book(&mut book[at..], next);
@@ -28,7 +29,7 @@ fn put_book(next: BookData, n: usize, book: &mut [u8])
 
 // The book alone.
 pub fn put_back(number: u8, next: BookData, book: &mut [u8]) -> u8
-    ensures { λ r. ⌜ GivesBook (written number (encodeBook next) [] (now (book .entry)) []) r (now (book .exit)) ⌝ }
+    ensures { λ r. ⌜ GivesBook (written number (view next) [] (now (book .entry)) []) r (now (book .exit)) ⌝ }
 {
     let n = size_archive(next);
     if book.len() < 8 + n {
@@ -40,7 +41,7 @@ pub fn put_back(number: u8, next: BookData, book: &mut [u8]) -> u8
 
 // The book, and the answer l.
 pub fn put_both(number: u8, next: BookData, l: &[u8], book: &mut [u8], answer: &mut [u8]) -> u8
-    ensures { λ r. ⌜ Gives (written number (encodeBook next) (now (l .entry)) (now (book .entry)) (now (answer .entry))) r (now (book .exit)) (now (answer .exit)) ⌝ }
+    ensures { λ r. ⌜ Gives (written number (view next) (now (l .entry)) (now (book .entry)) (now (answer .entry))) r (now (book .exit)) (now (answer .exit)) ⌝ }
 {
     let n = size_archive(next);
     if book.len() < 8 + n {

@@ -1,3 +1,5 @@
 pub mod Laws
 pub mod Whole
 pub mod Quiet
+pub mod Functions
+pub mod Lists

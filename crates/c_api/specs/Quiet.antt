@@ -11,7 +11,6 @@ use borrow.Author.Tests.{leb-true}
 use Rattle.wire.specs.Wire.{overlay}
 use Rattle.book_data.specs.Model.{Book, view}
 use Rattle.book_data.specs.declared.BookData.{BookData}
-use Rattle.archive_form.specs.Encode.{encodeModel, encodeBook}
 use Rattle.rules.specs.Call.{Value}
 use Rattle.rules.specs.Call as call
 use Rattle.lists.specs.Lists.{filterb, flatMap, elemb}
@@ -29,8 +28,8 @@ use Rattle.replies.specs.Reply.{valueOf, answerOf, writtenReply, bufferLeft}
 use Rattle.replies.specs.declared.CallAnswer.{CallAnswer}
 use Rattle.replies.specs.declared.CallAnswer.the-variants.{Done, Refused}
 use Rattle.replies.specs.declared.WrittenReply.{WrittenReply}
-use Rattle.boundary.specs.Held.{layout, heldIn, Holding}
-use Rattle.boundary.specs.Settle.{Left, Form, refusal, written, written-fits, settled, boundary, boundary-held, boundary-absent, layout-length, overlay-none, Gives, gives-as}
+use Rattle.boundary.specs.Held.{heldIn, Holding}
+use Rattle.boundary.specs.Settle.{Left, Form, refusal, written, written-fits, holding-room, holding-bytes, settled, boundary, boundary-held, boundary-absent, overlay-none, Gives, gives-as}
 
 -- the bytes themselves
 abbrev pub bytesForm : Form
@@ -93,9 +92,9 @@ refused-same x m n e f = cc
 
 module _ (d a : List ℕ) (b : BookData) (h : Holding d b) (k : ℕ) (w : WrittenReply) {a′ : List ℕ} where
   quiet-done : {o : Outcome Book Value} → Quiet (view b) (length a) o → w ≡ writtenReply b o → a′ ≡ bufferLeft a o → w .answer ≡ Done → Gives (settled bytesForm d a o) 0 d a′ × (w .length ≡ lengthBy k o)
-  unfolding settled encodeBook
+  unfolding settled
   quiet-done (told s q) e f g = (
-    gives-as (sym (written-fits 0 (encodeBook b) s d a (omega (arith, h .room, layout-length (encodeBook b))) q ∙ ap (λ (x : List ℕ). record { number = 0; book = x; answer = overlay s a }) (h .bytes)))
+    gives-as (sym (written-fits 0 (view b) s d a (holding-room d b h) q ∙ ap (λ (x : List ℕ). record { number = 0; book = x; answer = overlay s a }) (holding-bytes d b h)))
         (record { number = refl; book = refl; answer = f }),
     ap (λ (x : WrittenReply). x .length) e,
   )

@@ -11,6 +11,7 @@ use borrow.Author.Tests.{le-leb, lt-leb, not-true, not-false}
 use Rattle.wire.specs.Wire.{overlay}
 use Rattle.wire.specs.Puts.{Puts, Size, puts-overlay}
 use Rattle.book_data.specs.Model.{Book, view, back}
+use Rattle.book_data.specs.SoundLaws.{view-back}
 use Rattle.book_data.specs.declared.BookData.{BookData}
 use Rattle.archive_form.specs.Encode.{encodeModel, encodeBook}
 use Rattle.archive_form.specs.Parse.{readArchive, ArchiveRead, book, broken}
@@ -18,11 +19,12 @@ use Rattle.archive_read.specs.Archive.{archiveAnswer}
 use Rattle.archive_read.specs.declared.ReadArchive.{ReadArchive}
 use Rattle.rules.specs.Opened.{opened}
 use Rattle.boundary.specs.Held.{heldIn, Holding}
-use Rattle.boundary.specs.Settle.{Left, written, GivesBook, encode-back}
+use Rattle.boundary.specs.Settle.{Left, written, GivesBook}
 
 -- ---- opening
-pub opened-given : {b : BookData} (o i : ℕ) (d : List ℕ) {n : ℕ} {d′ : List ℕ} → b ≡ back (opened o i) → GivesBook (written 0 (encodeBook b) [] d []) n d′ → GivesBook (written 0 (encodeModel (opened o i)) [] d []) n d′
-opened-given {b} o i d {n} {d′} e g = subst (λ (s : List ℕ). GivesBook (written 0 s [] d []) n d′) (ap encodeBook e ∙ encode-back (opened o i)) g
+pub opened-given : {b : BookData} (o i : ℕ) (d : List ℕ) {n : ℕ} {d′ : List ℕ} → b ≡ back (opened o i) → GivesBook (written 0 (view b) [] d []) n d′
+    → GivesBook (written 0 (opened o i) [] d []) n d′
+opened-given {b} o i d {n} {d′} e g = subst (λ (m : Book). GivesBook (written 0 m [] d []) n d′) (ap view e ∙ view-back (opened o i)) g
 
 -- ---- reading: 13 with its place, or the book in the buffer
 pub record Placed : Type 0 where
@@ -31,8 +33,8 @@ pub record Placed : Type 0 where
   pub place : ℕ
 
 unfoldable pub readInto : ArchiveRead → List ℕ → ℕ → Placed
-unfolding written encodeBook
-readInto (book b) d p = let l = written 0 (encodeBook b) [] d [] in record { number = l .number; book = l .book; place = p }
+unfolding written
+readInto (book b) d p = let l = written 0 (view b) [] d [] in record { number = l .number; book = l .book; place = p }
 readInto (broken e) d p = record { number = 13; book = d; place = e }
 
 pub record GivesPlace (l : Placed) (n : ℕ) (d : List ℕ) (p : ℕ) : Type 0 where
@@ -46,11 +48,12 @@ module _ (d : List ℕ) (p : ℕ) (r : ReadArchive) where
   read-broken (book b) e h = absurd (let q : r .ok ≡ true = ap (λ (y : ReadArchive). y .ok) e in let f = not-true (r .ok) h in let z : _≡_ {A = ℕ} 0 1 = cc in omega arith)
   read-broken (broken k) e h = record { number = refl; book = refl; place = ap (λ (y : ReadArchive). y .place) e }
 
-  pub read-whole : (x : ArchiveRead) {n : ℕ} {d′ : List ℕ} → r ≡ archiveAnswer x → not (r .ok) ≡ false → GivesBook (written 0 (encodeBook (r .book)) [] d []) n d′ → GivesPlace (readInto x d p) n d′ p
+  pub read-whole : (x : ArchiveRead) {n : ℕ} {d′ : List ℕ} → r ≡ archiveAnswer x → not (r .ok) ≡ false → GivesBook (written 0 (view (r .book)) [] d []) n d′
+      → GivesPlace (readInto x d p) n d′ p
   unfolding readInto
   read-whole (book b) {n} {d′} e h g =
       let q : r .book ≡ b = ap (λ (y : ReadArchive). y .book) e in
-      let k = subst (λ (c : BookData). GivesBook (written 0 (encodeBook c) [] d []) n d′) q g in
+      let k = subst (λ (c : BookData). GivesBook (written 0 (view c) [] d []) n d′) q g in
       record { number = k .number; book = k .book; place = refl }
   read-whole (broken k) e h g = absurd (let q : r .ok ≡ false = ap (λ (y : ReadArchive). y .ok) e in let f = not-false (r .ok) h in let z : _≡_ {A = ℕ} 0 1 = cc in omega arith)
 

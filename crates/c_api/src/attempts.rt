@@ -17,18 +17,8 @@ use replies::SubmissionFeeSource;
 use spend_read::bundle::read_bundle;
 use stop_call::stop_attempt_sound;
 ghost use mathlib.Core.Path.{_≡_};
-ghost use Rattle.rules.specs.Calls.AcknowledgeAttempt.{acknowledgeAttempt};
-ghost use Rattle.rules.specs.Calls.StopAttempt.{stopAttempt};
-ghost use Rattle.rules.specs.Calls.AbandonAttempt.{abandonAttempt};
-ghost use Rattle.rules.specs.Calls.RelinquishCompletedAttempt.{relinquishCompletedAttempt};
-ghost use Rattle.rules.specs.Calls.FeeIntentForAttempt.{feeIntentForAttempt};
-ghost use Rattle.rules.specs.Calls.Attempt.{attempt};
-ghost use Rattle.boundary.specs.Settle.{boundary, Gives};
-ghost use Rattle.boundary.specs.Forms.{finalForm, attemptForm, feeIntentForm, statusForm};
-ghost use Rattle.boundary.specs.Arguments.{given};
-ghost use Rattle.rules.specs.Calls.FinalizeAttempt.{finalizeAttempt};
-ghost use Rattle.replies.specs.Values.{sourceOf};
-ghost use Rattle.c_api.specs.Laws.{sourceFrom, sourceIn, joinedIn, JoinedAnswer};
+ghost use Rattle.c_api.specs.Laws.{sourceFrom, JoinedAnswer};
+ghost use Rattle.c_api.specs.Functions.{CCall, Did, answered};
 
 #[no_mangle]
 pub extern "C" fn submission_book_acknowledge_attempt(
@@ -36,7 +26,7 @@ pub extern "C" fn submission_book_acknowledge_attempt(
     token: u64,
     answer: &mut [u8],
 ) -> u8
-    ensures { λ r. ⌜ Gives (boundary statusForm (acknowledgeAttempt token) (now (book .entry)) (now (answer .entry))) r (now (book .exit)) (now (answer .exit)) ⌝ }
+    ensures { λ r. ⌜ Did (now (book .entry)) (CCall.AcknowledgeAttempt token (now (answer .entry))) (answered r (now (book .exit)) (now (answer .exit))) ⌝ }
 {
     let h = held(&*book);
     let ok = h.ok;
@@ -49,7 +39,7 @@ pub extern "C" fn submission_book_acknowledge_attempt(
 
 #[no_mangle]
 pub extern "C" fn submission_book_stop_attempt(book: &mut [u8], token: u64, answer: &mut [u8]) -> u8
-    ensures { λ r. ⌜ Gives (boundary statusForm (stopAttempt token) (now (book .entry)) (now (answer .entry))) r (now (book .exit)) (now (answer .exit)) ⌝ }
+    ensures { λ r. ⌜ Did (now (book .entry)) (CCall.StopAttempt token (now (answer .entry))) (answered r (now (book .exit)) (now (answer .exit))) ⌝ }
 {
     let h = held(&*book);
     let ok = h.ok;
@@ -66,7 +56,7 @@ pub extern "C" fn submission_book_abandon_attempt(
     token: u64,
     answer: &mut [u8],
 ) -> u8
-    ensures { λ r. ⌜ Gives (boundary statusForm (abandonAttempt token) (now (book .entry)) (now (answer .entry))) r (now (book .exit)) (now (answer .exit)) ⌝ }
+    ensures { λ r. ⌜ Did (now (book .entry)) (CCall.AbandonAttempt token (now (answer .entry))) (answered r (now (book .exit)) (now (answer .exit))) ⌝ }
 {
     let h = held(&*book);
     let ok = h.ok;
@@ -83,7 +73,7 @@ pub extern "C" fn submission_book_relinquish_completed_attempt(
     token: u64,
     answer: &mut [u8],
 ) -> u8
-    ensures { λ r. ⌜ Gives (boundary statusForm (relinquishCompletedAttempt token) (now (book .entry)) (now (answer .entry))) r (now (book .exit)) (now (answer .exit)) ⌝ }
+    ensures { λ r. ⌜ Did (now (book .entry)) (CCall.RelinquishCompletedAttempt token (now (answer .entry))) (answered r (now (book .exit)) (now (answer .exit))) ⌝ }
 {
     let h = held(&*book);
     let ok = h.ok;
@@ -100,7 +90,7 @@ pub extern "C" fn submission_book_fee_intent_for_attempt(
     token: u64,
     answer: &mut [u8],
 ) -> u8
-    ensures { λ r. ⌜ Gives (boundary feeIntentForm (feeIntentForAttempt token) (now (book .entry)) (now (answer .entry))) r (now (book .exit)) (now (answer .exit)) ⌝ }
+    ensures { λ r. ⌜ Did (now (book .entry)) (CCall.FeeIntentForAttempt token (now (answer .entry))) (answered r (now (book .exit)) (now (answer .exit))) ⌝ }
 {
     let h = held(&*book);
     let ok = h.ok;
@@ -113,7 +103,7 @@ pub extern "C" fn submission_book_fee_intent_for_attempt(
 
 #[no_mangle]
 pub extern "C" fn submission_book_attempt(book: &mut [u8], token: u64, answer: &mut [u8]) -> u8
-    ensures { λ r. ⌜ Gives (boundary attemptForm (attempt token) (now (book .entry)) (now (answer .entry))) r (now (book .exit)) (now (answer .exit)) ⌝ }
+    ensures { λ r. ⌜ Did (now (book .entry)) (CCall.Attempt token (now (answer .entry))) (answered r (now (book .exit)) (now (answer .exit))) ⌝ }
 {
     let h = held(&*book);
     let ok = h.ok;
@@ -167,7 +157,7 @@ pub extern "C" fn submission_book_finalize_attempt(
     joined: &[u8],
     answer: &mut [u8],
 ) -> u8
-    ensures { λ r. ⌜ Gives (boundary finalForm (given (sourceIn source) (λ s. given (joinedIn source (now (joined .entry))) (λ j. finalizeAttempt token (sourceOf s) j))) (now (book .entry)) (now (answer .entry))) r (now (book .exit)) (now (answer .exit)) ⌝ }
+    ensures { λ r. ⌜ Did (now (book .entry)) (CCall.FinalizeAttempt token source (now (joined .entry)) (now (answer .entry))) (answered r (now (book .exit)) (now (answer .exit))) ⌝ }
 {
     let h = held(&*book);
     let ok = h.ok;

@@ -4,12 +4,9 @@ use boundary_replies::settle_ids;
 use boundary_write::settle_done;
 use chain_calls::causally_rolled_back_ids_sound;
 use chain_calls::reconcile_chain_terminality_sound;
-ghost use Rattle.rules.specs.Calls.CausallyRolledBackIds.{causallyRolledBackIds};
-ghost use Rattle.boundary.specs.Settle.{boundary, Gives, GivesBook};
-ghost use Rattle.boundary.specs.Forms.{idsForm, noForm};
-ghost use mathlib.Core.List.{[]};
-ghost use Rattle.boundary.specs.Arguments.{given, flagIn};
-ghost use Rattle.rules.specs.Calls.ReconcileChainTerminality.{reconcileChainTerminality};
+use coin_string::is_coin_list;
+use coin_string::is_id_list;
+ghost use Rattle.c_api.specs.Functions.{CCall, Did, answered, back};
 
 #[no_mangle]
 pub extern "C" fn submission_book_causally_rolled_back_ids(
@@ -18,7 +15,7 @@ pub extern "C" fn submission_book_causally_rolled_back_ids(
     inputs: &[u8],
     answer: &mut [u8],
 ) -> u8
-    ensures { λ r. ⌜ Gives (boundary idsForm (causallyRolledBackIds (now (absent .entry)) (now (inputs .entry))) (now (book .entry)) (now (answer .entry))) r (now (book .exit)) (now (answer .exit)) ⌝ }
+    ensures { λ r. ⌜ Did (now (book .entry)) (CCall.CausallyRolledBackIds (now (absent .entry)) (now (inputs .entry)) (now (answer .entry))) (answered r (now (book .exit)) (now (answer .exit))) ⌝ }
 {
     let h = held(&*book);
     let ok = h.ok;
@@ -37,12 +34,18 @@ pub extern "C" fn submission_book_reconcile_chain_terminality(
     reorg: u8,
     rolled_back: &[u64],
 ) -> u8
-    ensures { λ r. ⌜ GivesBook (boundary noForm (given (flagIn reorg) (λ f. reconcileChainTerminality (now (observed .entry)) (now (spent .entry)) f (now («rolled_back» .entry)))) (now (book .entry)) []) r (now (book .exit)) ⌝ }
+    ensures { λ r. ⌜ Did (now (book .entry)) (CCall.ReconcileChainTerminality (now (observed .entry)) (now (spent .entry)) reorg (now («rolled_back» .entry))) (back r (now (book .exit))) ⌝ }
 {
     let h = held(&*book);
     let ok = h.ok;
     if !ok {
         return 1;
+    }
+    let coins = is_coin_list(observed);
+    let ids = is_id_list(spent);
+    let lists = coins & ids & (rolled_back.len() <= 64);
+    if !lists {
+        return 2;
     }
     if 1 < reorg {
         return 3;

@@ -3,13 +3,7 @@ use boundary_read::held;
 use coin_calls::absent_outputs_for_ids_sound;
 use coin_calls::reconciliation_input_coins_sound;
 use replies::CallAnswer;
-ghost use mathlib.Core.Path.{_≡_};
-ghost use lib.ListN.{length as long};
-ghost use Rattle.rules.specs.Calls.ReconciliationInputCoins.{reconciliationInputCoins};
-ghost use Rattle.rules.specs.Calls.AbsentOutputsForIds.{absentOutputsForIds};
-ghost use Rattle.boundary.specs.Held.{heldIn};
-ghost use Rattle.boundary.specs.Settle.{boundary};
-ghost use Rattle.c_api.specs.Quiet.{GivesBytes, bytesForm, lengthOf};
+ghost use Rattle.c_api.specs.Functions.{CCall, Did, counted};
 
 #[no_mangle]
 pub extern "C" fn submission_book_reconciliation_input_coins(
@@ -18,7 +12,7 @@ pub extern "C" fn submission_book_reconciliation_input_coins(
     answer: &mut [u8],
     count: &mut u64,
 ) -> u8
-    ensures { λ r. ⌜ GivesBytes (boundary bytesForm (reconciliationInputCoins (now (outputs .entry)) (long (now (answer .entry)))) (now (book .entry)) (now (answer .entry))) (lengthOf (now (count .entry)) (reconciliationInputCoins (now (outputs .entry)) (long (now (answer .entry)))) (heldIn (now (book .entry)))) r (now (book .entry)) (now (answer .exit)) (now (count .exit)) ⌝ }
+    ensures { λ r. ⌜ Did (now (book .entry)) (CCall.ReconciliationInputCoins (now (outputs .entry)) (now (answer .entry)) (now (count .entry))) (counted r (now (book .entry)) (now (answer .exit)) (now (count .exit))) ⌝ }
 {
     let h = held(book);
     let ok = h.ok;
@@ -44,7 +38,7 @@ pub extern "C" fn submission_book_absent_outputs_for_ids(
     answer: &mut [u8],
     count: &mut u64,
 ) -> u8
-    ensures { λ r. ⌜ GivesBytes (boundary bytesForm (absentOutputsForIds (now (ids .entry)) (now (absent .entry)) (long (now (answer .entry)))) (now (book .entry)) (now (answer .entry))) (lengthOf (now (count .entry)) (absentOutputsForIds (now (ids .entry)) (now (absent .entry)) (long (now (answer .entry)))) (heldIn (now (book .entry)))) r (now (book .entry)) (now (answer .exit)) (now (count .exit)) ⌝ }
+    ensures { λ r. ⌜ Did (now (book .entry)) (CCall.AbsentOutputsForIds (now (ids .entry)) (now (absent .entry)) (now (answer .entry)) (now (count .entry))) (counted r (now (book .entry)) (now (answer .exit)) (now (count .exit))) ⌝ }
 {
     let h = held(book);
     let ok = h.ok;

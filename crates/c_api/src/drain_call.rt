@@ -2,13 +2,11 @@
 use boundary_drain::settle_drain;
 use boundary_read::held;
 use drain::drain_sound;
-ghost use Rattle.rules.specs.Calls.Drain.{drain};
-ghost use Rattle.boundary.specs.Settle.{boundary, Gives};
-ghost use Rattle.boundary.specs.Forms.{drainForm};
+ghost use Rattle.c_api.specs.Functions.{CCall, Did, answered};
 
 #[no_mangle]
 pub extern "C" fn submission_book_drain(book: &mut [u8], answer: &mut [u8]) -> u8
-    ensures { λ r. ⌜ Gives (boundary drainForm drain (now (book .entry)) (now (answer .entry))) r (now (book .exit)) (now (answer .exit)) ⌝ }
+    ensures { λ r. ⌜ Did (now (book .entry)) (CCall.Drain (now (answer .entry))) (answered r (now (book .exit)) (now (answer .exit))) ⌝ }
 {
     let h = held(&*book);
     let ok = h.ok;

@@ -11,12 +11,7 @@ use replay_calls::drain_retirements_sound;
 use replay_calls::emit_retirement_sound;
 use replay_calls::finish_replay_if_advanced_sound;
 use replay_calls::replay_rollback_height_sound;
-ghost use mathlib.Core.List.{[]};
-ghost use Rattle.rules.specs.Calls.Replay.{beginReplay, finishReplayIfAdvanced, replayRollbackHeight};
-ghost use Rattle.rules.specs.Calls.EmitRetirement.{emitRetirement};
-ghost use Rattle.rules.specs.Calls.DrainRetirements.{drainRetirements};
-ghost use Rattle.boundary.specs.Settle.{boundary, Gives, GivesBook};
-ghost use Rattle.boundary.specs.Forms.{flagForm, heightForm, idsForm, noForm};
+ghost use Rattle.c_api.specs.Functions.{CCall, Did, answered, back};
 
 #[no_mangle]
 pub extern "C" fn submission_book_begin_replay(
@@ -24,7 +19,7 @@ pub extern "C" fn submission_book_begin_replay(
     height: u64,
     answer: &mut [u8],
 ) -> u8
-    ensures { λ r. ⌜ Gives (boundary flagForm (beginReplay (record { 0 = height })) (now (book .entry)) (now (answer .entry))) r (now (book .exit)) (now (answer .exit)) ⌝ }
+    ensures { λ r. ⌜ Did (now (book .entry)) (CCall.BeginReplay height (now (answer .entry))) (answered r (now (book .exit)) (now (answer .exit))) ⌝ }
 {
     let h = held(&*book);
     let ok = h.ok;
@@ -37,7 +32,7 @@ pub extern "C" fn submission_book_begin_replay(
 
 #[no_mangle]
 pub extern "C" fn submission_book_finish_replay_if_advanced(book: &mut [u8], height: u64) -> u8
-    ensures { λ r. ⌜ GivesBook (boundary noForm (finishReplayIfAdvanced (record { 0 = height })) (now (book .entry)) []) r (now (book .exit)) ⌝ }
+    ensures { λ r. ⌜ Did (now (book .entry)) (CCall.FinishReplayIfAdvanced height) (back r (now (book .exit))) ⌝ }
 {
     let h = held(&*book);
     let ok = h.ok;
@@ -50,7 +45,7 @@ pub extern "C" fn submission_book_finish_replay_if_advanced(book: &mut [u8], hei
 
 #[no_mangle]
 pub extern "C" fn submission_book_replay_rollback_height(book: &mut [u8], answer: &mut [u8]) -> u8
-    ensures { λ r. ⌜ Gives (boundary heightForm replayRollbackHeight (now (book .entry)) (now (answer .entry))) r (now (book .exit)) (now (answer .exit)) ⌝ }
+    ensures { λ r. ⌜ Did (now (book .entry)) (CCall.ReplayRollbackHeight (now (answer .entry))) (answered r (now (book .exit)) (now (answer .exit))) ⌝ }
 {
     let h = held(&*book);
     let ok = h.ok;
@@ -63,7 +58,7 @@ pub extern "C" fn submission_book_replay_rollback_height(book: &mut [u8], answer
 
 #[no_mangle]
 pub extern "C" fn submission_book_emit_retirement(book: &mut [u8], id: u64) -> u8
-    ensures { λ r. ⌜ GivesBook (boundary noForm (emitRetirement id) (now (book .entry)) []) r (now (book .exit)) ⌝ }
+    ensures { λ r. ⌜ Did (now (book .entry)) (CCall.EmitRetirement id) (back r (now (book .exit))) ⌝ }
 {
     let h = held(&*book);
     let ok = h.ok;
@@ -76,7 +71,7 @@ pub extern "C" fn submission_book_emit_retirement(book: &mut [u8], id: u64) -> u
 
 #[no_mangle]
 pub extern "C" fn submission_book_drain_retirements(book: &mut [u8], answer: &mut [u8]) -> u8
-    ensures { λ r. ⌜ Gives (boundary idsForm drainRetirements (now (book .entry)) (now (answer .entry))) r (now (book .exit)) (now (answer .exit)) ⌝ }
+    ensures { λ r. ⌜ Did (now (book .entry)) (CCall.DrainRetirements (now (answer .entry))) (answered r (now (book .exit)) (now (answer .exit))) ⌝ }
 {
     let h = held(&*book);
     let ok = h.ok;

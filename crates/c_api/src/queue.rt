@@ -10,20 +10,11 @@ use rebroadcast_call::queue_rebroadcast_epoch_sound;
 use replay_queue::collect_rollback_replay_ids_sound;
 use spend_read::kind::read_goal;
 use spend_read::kind::read_trigger;
-ghost use mathlib.Core.List.{[]};
-ghost use Rattle.rules.specs.Calls.QueueFeeReadiness.{queueFeeReadiness};
-ghost use Rattle.rules.specs.Calls.CollectRollbackReplayIds.{collectRollbackReplayIds};
-ghost use Rattle.boundary.specs.Settle.{boundary, GivesBook};
-ghost use Rattle.boundary.specs.Forms.{noForm};
-ghost use Rattle.boundary.specs.Arguments.{given, byteAs, bytesAs};
-ghost use Rattle.archive_form.specs.Parse.{parseDelivery, parseTrigger, parseGoal};
-ghost use Rattle.rules.specs.Calls.Queue.{queue};
-ghost use Rattle.rules.specs.Calls.QueueRebroadcastEpoch.{queueRebroadcastEpoch};
-ghost use Rattle.rules.specs.Calls.QueueRetainedDelivery.{queueRetainedDelivery};
+ghost use Rattle.c_api.specs.Functions.{CCall, Did, back};
 
 #[no_mangle]
 pub extern "C" fn submission_book_queue_fee_readiness(book: &mut [u8]) -> u8
-    ensures { λ r. ⌜ GivesBook (boundary noForm queueFeeReadiness (now (book .entry)) []) r (now (book .exit)) ⌝ }
+    ensures { λ r. ⌜ Did (now (book .entry)) CCall.QueueFeeReadiness (back r (now (book .exit))) ⌝ }
 {
     let h = held(&*book);
     let ok = h.ok;
@@ -36,7 +27,7 @@ pub extern "C" fn submission_book_queue_fee_readiness(book: &mut [u8]) -> u8
 
 #[no_mangle]
 pub extern "C" fn submission_book_collect_rollback_replay_ids(book: &mut [u8], ids: &[u64]) -> u8
-    ensures { λ r. ⌜ GivesBook (boundary noForm (collectRollbackReplayIds (now (ids .entry))) (now (book .entry)) []) r (now (book .exit)) ⌝ }
+    ensures { λ r. ⌜ Did (now (book .entry)) (CCall.CollectRollbackReplayIds (now (ids .entry))) (back r (now (book .exit))) ⌝ }
 {
     let h = held(&*book);
     let ok = h.ok;
@@ -50,7 +41,7 @@ pub extern "C" fn submission_book_collect_rollback_replay_ids(book: &mut [u8], i
 // The delivery in its archive form: optional id, bundle, optional expiry, fee intent, trigger, goal.
 #[no_mangle]
 pub extern "C" fn submission_book_queue(book: &mut [u8], delivery: &[u8]) -> u8
-    ensures { λ r. ⌜ GivesBook (boundary noForm (given (bytesAs parseDelivery (now (delivery .entry))) queue) (now (book .entry)) []) r (now (book .exit)) ⌝ }
+    ensures { λ r. ⌜ Did (now (book .entry)) (CCall.Queue (now (delivery .entry))) (back r (now (book .exit))) ⌝ }
 {
     let h = held(&*book);
     let ok = h.ok;
@@ -75,12 +66,15 @@ pub extern "C" fn submission_book_queue_rebroadcast_epoch(
     ids: &[u64],
     trigger: u8,
 ) -> u8
-    ensures { λ r. ⌜ GivesBook (boundary noForm (given (byteAs parseTrigger trigger) (λ t. queueRebroadcastEpoch (now (ids .entry)) t)) (now (book .entry)) []) r (now (book .exit)) ⌝ }
+    ensures { λ r. ⌜ Did (now (book .entry)) (CCall.QueueRebroadcastEpoch (now (ids .entry)) trigger) (back r (now (book .exit))) ⌝ }
 {
     let h = held(&*book);
     let ok = h.ok;
     if !ok {
         return 1;
+    }
+    if 64 < ids.len() {
+        return 2;
     }
     let byte = [trigger];
     let t = read_trigger(&byte, 0);
@@ -100,7 +94,7 @@ pub extern "C" fn submission_book_queue_retained_delivery(
     trigger: u8,
     goal: u8,
 ) -> u8
-    ensures { λ r. ⌜ GivesBook (boundary noForm (given (byteAs parseTrigger trigger) (λ t. given (byteAs parseGoal goal) (λ g. queueRetainedDelivery id t g))) (now (book .entry)) []) r (now (book .exit)) ⌝ }
+    ensures { λ r. ⌜ Did (now (book .entry)) (CCall.QueueRetainedDelivery id trigger goal) (back r (now (book .exit))) ⌝ }
 {
     let h = held(&*book);
     let ok = h.ok;

@@ -6,17 +6,11 @@ use boundary_write::settle_done;
 use clear_call::clear_local_artifacts_sound;
 use restore_call::restore_runtime_sound;
 use retain_call::retain_submitted_sound;
-ghost use mathlib.Core.List.{[]};
-ghost use Rattle.rules.specs.Calls.ActiveIds.{activeIds};
-ghost use Rattle.rules.specs.Calls.RetainSubmitted.{retainSubmitted};
-ghost use Rattle.rules.specs.Calls.ClearLocalArtifacts.{clearLocalArtifacts};
-ghost use Rattle.rules.specs.Calls.RestoreRuntime.{restoreRuntime};
-ghost use Rattle.boundary.specs.Settle.{boundary, Gives, GivesBook};
-ghost use Rattle.boundary.specs.Forms.{idsForm, noForm};
+ghost use Rattle.c_api.specs.Functions.{CCall, Did, answered, back};
 
 #[no_mangle]
 pub extern "C" fn submission_book_active_ids(book: &mut [u8], answer: &mut [u8]) -> u8
-    ensures { λ r. ⌜ Gives (boundary idsForm activeIds (now (book .entry)) (now (answer .entry))) r (now (book .exit)) (now (answer .exit)) ⌝ }
+    ensures { λ r. ⌜ Did (now (book .entry)) (CCall.ActiveIds (now (answer .entry))) (answered r (now (book .exit)) (now (answer .exit))) ⌝ }
 {
     let h = held(&*book);
     let ok = h.ok;
@@ -33,7 +27,7 @@ pub extern "C" fn submission_book_retain_submitted(
     removed: &[u64],
     answer: &mut [u8],
 ) -> u8
-    ensures { λ r. ⌜ Gives (boundary idsForm (retainSubmitted (now (removed .entry))) (now (book .entry)) (now (answer .entry))) r (now (book .exit)) (now (answer .exit)) ⌝ }
+    ensures { λ r. ⌜ Did (now (book .entry)) (CCall.RetainSubmitted (now (removed .entry)) (now (answer .entry))) (answered r (now (book .exit)) (now (answer .exit))) ⌝ }
 {
     let h = held(&*book);
     let ok = h.ok;
@@ -46,7 +40,7 @@ pub extern "C" fn submission_book_retain_submitted(
 
 #[no_mangle]
 pub extern "C" fn submission_book_clear_local_artifacts(book: &mut [u8]) -> u8
-    ensures { λ r. ⌜ GivesBook (boundary noForm clearLocalArtifacts (now (book .entry)) []) r (now (book .exit)) ⌝ }
+    ensures { λ r. ⌜ Did (now (book .entry)) CCall.ClearLocalArtifacts (back r (now (book .exit))) ⌝ }
 {
     let h = held(&*book);
     let ok = h.ok;
@@ -59,7 +53,7 @@ pub extern "C" fn submission_book_clear_local_artifacts(book: &mut [u8]) -> u8
 
 #[no_mangle]
 pub extern "C" fn submission_book_restore_runtime(book: &mut [u8]) -> u8
-    ensures { λ r. ⌜ GivesBook (boundary noForm restoreRuntime (now (book .entry)) []) r (now (book .exit)) ⌝ }
+    ensures { λ r. ⌜ Did (now (book .entry)) CCall.RestoreRuntime (back r (now (book .exit))) ⌝ }
 {
     let h = held(&*book);
     let ok = h.ok;

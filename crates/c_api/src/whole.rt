@@ -7,19 +7,12 @@ use book_data::Token;
 use boundary_read::held;
 use boundary_write::put_back;
 use open_book::open;
-ghost use mathlib.Core.Path.{_≡_};
-ghost use mathlib.Core.List.{[]};
-ghost use Rattle.rules.specs.Opened.{opened};
-ghost use Rattle.archive_form.specs.Encode.{encodeModel};
-ghost use Rattle.archive_form.specs.Parse.{readArchive};
-ghost use Rattle.boundary.specs.Held.{heldIn};
-ghost use Rattle.boundary.specs.Settle.{GivesBook, written};
-ghost use Rattle.c_api.specs.Whole.{GivesPlace, readInto, GivesLength, writeFrom};
+ghost use Rattle.c_api.specs.Functions.{CCall, OpenDid, ReadDid, Did, counted};
 
 // An empty book with these two numbers.
 #[no_mangle]
 pub extern "C" fn submission_book_open(book: &mut [u8], next_token: u64, next_id: u64) -> u8
-    ensures { λ r. ⌜ GivesBook (written 0 (encodeModel (opened «next_token» «next_id»)) [] (now (book .entry)) []) r (now (book .exit)) ⌝ }
+    ensures { λ r. ⌜ OpenDid (now (book .entry)) «next_token» «next_id» r (now (book .exit)) ⌝ }
 {
     let b = open(Token(next_token), SubmissionId(next_id));
     put_back(0, b, book)
@@ -28,7 +21,7 @@ pub extern "C" fn submission_book_open(book: &mut [u8], next_token: u64, next_id
 // The book of an archive; 13 with the place of its first broken item.
 #[no_mangle]
 pub extern "C" fn submission_book_read(book: &mut [u8], archive: &[u8], place: &mut u64) -> u8
-    ensures { λ r. ⌜ GivesPlace (readInto (readArchive (now (archive .entry))) (now (book .entry)) (now (place .entry))) r (now (book .exit)) (now (place .exit)) ⌝ }
+    ensures { λ r. ⌜ ReadDid (now (book .entry)) (now (archive .entry)) (now (place .entry)) r (now (book .exit)) (now (place .exit)) ⌝ }
 {
     let x = read_archive(archive);
     let ok = x.ok;
@@ -42,7 +35,7 @@ pub extern "C" fn submission_book_read(book: &mut [u8], archive: &[u8], place: &
 // The archive of the book, and its length.
 #[no_mangle]
 pub extern "C" fn submission_book_write(book: &[u8], archive: &mut [u8], length: &mut u64) -> u8
-    ensures { λ r. ⌜ GivesLength (writeFrom (heldIn (now (book .entry))) (now (archive .entry)) (now (length .entry))) r (now (archive .exit)) (now (length .exit)) ⌝ }
+    ensures { λ r. ⌜ Did (now (book .entry)) (CCall.Write (now (archive .entry)) (now (length .entry))) (counted r (now (book .entry)) (now (archive .exit)) (now (length .exit))) ⌝ }
 {
     let h = held(book);
     let ok = h.ok;

@@ -1,6 +1,6 @@
 use mathlib.Core.Path.{ap, _∙_}
 use Rattle.boundary.specs.Settle.{gives-book-as, finish-done, written}
-use Rattle.archive_form.specs.Encode.{encodeBook}
+use Rattle.book_data.specs.Model.{view}
 use mathlib.Core.List.{[]}
 use Prim.Native.Nat.{ℕ}
 use borrow.Author.Needs.{needs}
@@ -17,7 +17,7 @@ same-length : tie.Need-same-length
 same-length c = search needs
 
 returns : tie.Need-returns
-returns c = gives-book-as (ap (λ (n : ℕ). written n (encodeBook (c .before .before .before .before .before .before .before .args .r .book)) [] (c .before .before .before .before .before .before .before .args .book .now) []) (c .before .before .before .before .refusal-number .ensures) ∙ finish-done (c .before .before .before .before .before .before .before .args .r .answer) (c .before .before .before .before .before .before .before .args .r .book) (c .before .before .before .before .before .before .before .args .book .now) []) (c .before .before .put-back .ensures)
+returns c = gives-book-as (ap (λ (n : ℕ). written n (view (c .before .before .before .before .before .before .before .args .r .book)) [] (c .before .before .before .before .before .before .before .args .book .now) []) (c .before .before .before .before .refusal-number .ensures) ∙ finish-done (c .before .before .before .before .before .before .before .args .r .answer) (c .before .before .before .before .before .before .before .args .r .book) (c .before .before .before .before .before .before .before .args .book .now) []) (c .before .before .put-back .ensures)
 
 pub settle-done-spec : {M : Type 1} → statement M
 settle-done-spec =

@@ -1,3 +1,4 @@
+use Rattle.c_api.specs.Functions.{absent-outputs-did}
 use borrow.Author.Tests.{not-true, not-false}
 use lib.ListN.{length}
 use Rattle.book_data.specs.Model.{view}
@@ -11,7 +12,7 @@ held-requires : tie.Need-held-requires
 held-requires c κs = search needs
 
 returns : tie.Need-returns
-returns c = bytes-absent (c .before .before .before .before .before .before .args .book .now) (c .before .before .before .before .before .before .args .answer .now) (c .before .before .before .before .before .before .args .count .now) (absentOutputsForIds (c .before .before .before .before .before .before .args .ids .now) (c .before .before .before .before .before .before .args .absent .now) (length (c .before .before .before .before .before .before .args .answer .now))) (c .before .held .ensures .absent (not-true _ (c .if1 .taken)))
+returns c = absent-outputs-did _ _ _ _ (bytes-absent (c .before .before .before .before .before .before .args .book .now) (c .before .before .before .before .before .before .args .answer .now) (c .before .before .before .before .before .before .args .count .now) (absentOutputsForIds (c .before .before .before .before .before .before .args .ids .now) (c .before .before .before .before .before .before .args .absent .now) (length (c .before .before .before .before .before .before .args .answer .now))) (c .before .held .ensures .absent (not-true _ (c .if1 .taken))))
 
 absent-outputs-for-ids-sound-requires : tie.Need-absent-outputs-for-ids-sound-requires
 absent-outputs-for-ids-sound-requires c κs = (c .before .before .held .ensures .present (not-false _ (c .before .if1 .left))) .sound
@@ -26,13 +27,13 @@ same-length : tie.Need-same-length
 same-length c = search needs
 
 returns-2 : tie.Need-returns-2
-returns-2 c = bytes-done (c .before .before .before .before .before .before .before .before .before .before .before .before .args .book .now) (c .before .before .before .before .before .before .before .before .before .before .before .before .args .answer .now) (c .before .before .before .before .before .before .before .held .result .book) (c .before .before .before .before .before .before .before .held .ensures .present (not-false _ (c .before .before .before .before .before .before .if1 .left))) (c .before .before .before .before .before .before .before .before .before .before .before .before .args .count .now) (c .before .before .before .before .absent-outputs-for-ids-sound .result) (absentOutputsForIds (c .before .before .before .before .before .before .before .before .before .before .before .before .args .ids .now) (c .before .before .before .before .before .before .before .before .before .before .before .before .args .absent .now) (length (c .before .before .before .before .before .before .before .before .before .before .before .before .args .answer .now))) (absent-quiet (c .before .before .before .before .before .before .before .before .before .before .before .before .args .ids .now) (c .before .before .before .before .before .before .before .before .before .before .before .before .args .absent .now) (length (c .before .before .before .before .before .before .before .before .before .before .before .before .args .answer .now)) (view (c .before .before .before .before .before .before .before .held .result .book))) (c .before .before .before .before .absent-outputs-for-ids-sound .ensures .0) (c .before .before .before .before .absent-outputs-for-ids-sound .ensures .1) (c .enum-told .given .1)
+returns-2 c = absent-outputs-did _ _ _ _ (bytes-done (c .before .before .before .before .before .before .before .before .before .before .before .before .args .book .now) (c .before .before .before .before .before .before .before .before .before .before .before .before .args .answer .now) (c .before .before .before .before .before .before .before .held .result .book) (c .before .before .before .before .before .before .before .held .ensures .present (not-false _ (c .before .before .before .before .before .before .if1 .left))) (c .before .before .before .before .before .before .before .before .before .before .before .before .args .count .now) (c .before .before .before .before .absent-outputs-for-ids-sound .result) (absentOutputsForIds (c .before .before .before .before .before .before .before .before .before .before .before .before .args .ids .now) (c .before .before .before .before .before .before .before .before .before .before .before .before .args .absent .now) (length (c .before .before .before .before .before .before .before .before .before .before .before .before .args .answer .now))) (absent-quiet (c .before .before .before .before .before .before .before .before .before .before .before .before .args .ids .now) (c .before .before .before .before .before .before .before .before .before .before .before .before .args .absent .now) (length (c .before .before .before .before .before .before .before .before .before .before .before .before .args .answer .now)) (view (c .before .before .before .before .before .before .before .held .result .book))) (c .before .before .before .before .absent-outputs-for-ids-sound .ensures .0) (c .before .before .before .before .absent-outputs-for-ids-sound .ensures .1) (c .enum-told .given .1))
 
 same-length-2 : tie.Need-same-length-2
 same-length-2 c = search needs
 
 returns-3 : tie.Need-returns-3
-returns-3 c = bytes-refused (c .before .before .before .before .before .before .before .before .before .before .before .before .before .args .book .now) (c .before .before .before .before .before .before .before .before .before .before .before .before .before .args .answer .now) (c .before .before .before .before .before .before .before .before .held .result .book) (c .before .before .before .before .before .before .before .before .held .ensures .present (not-false _ (c .before .before .before .before .before .before .before .if1 .left))) (c .before .before .before .before .before .before .before .before .before .before .before .before .before .args .count .now) (c .before .before .before .before .before .absent-outputs-for-ids-sound .result) (absentOutputsForIds (c .before .before .before .before .before .before .before .before .before .before .before .before .before .args .ids .now) (c .before .before .before .before .before .before .before .before .before .before .before .before .before .args .absent .now) (length (c .before .before .before .before .before .before .before .before .before .before .before .before .before .args .answer .now))) (absent-quiet (c .before .before .before .before .before .before .before .before .before .before .before .before .before .args .ids .now) (c .before .before .before .before .before .before .before .before .before .before .before .before .before .args .absent .now) (length (c .before .before .before .before .before .before .before .before .before .before .before .before .before .args .answer .now)) (view (c .before .before .before .before .before .before .before .before .held .result .book))) (c .before .before .before .before .before .absent-outputs-for-ids-sound .ensures .0) (c .before .before .before .before .before .absent-outputs-for-ids-sound .ensures .1) _ (c .before .said .given .1)
+returns-3 c = absent-outputs-did _ _ _ _ (bytes-refused (c .before .before .before .before .before .before .before .before .before .before .before .before .before .args .book .now) (c .before .before .before .before .before .before .before .before .before .before .before .before .before .args .answer .now) (c .before .before .before .before .before .before .before .before .held .result .book) (c .before .before .before .before .before .before .before .before .held .ensures .present (not-false _ (c .before .before .before .before .before .before .before .if1 .left))) (c .before .before .before .before .before .before .before .before .before .before .before .before .before .args .count .now) (c .before .before .before .before .before .absent-outputs-for-ids-sound .result) (absentOutputsForIds (c .before .before .before .before .before .before .before .before .before .before .before .before .before .args .ids .now) (c .before .before .before .before .before .before .before .before .before .before .before .before .before .args .absent .now) (length (c .before .before .before .before .before .before .before .before .before .before .before .before .before .args .answer .now))) (absent-quiet (c .before .before .before .before .before .before .before .before .before .before .before .before .before .args .ids .now) (c .before .before .before .before .before .before .before .before .before .before .before .before .before .args .absent .now) (length (c .before .before .before .before .before .before .before .before .before .before .before .before .before .args .answer .now)) (view (c .before .before .before .before .before .before .before .before .held .result .book))) (c .before .before .before .before .before .absent-outputs-for-ids-sound .ensures .0) (c .before .before .before .before .before .absent-outputs-for-ids-sound .ensures .1) _ (c .before .said .given .1))
 
 pub submission-book-absent-outputs-for-ids-spec : {M : Type 1} → statement M
 submission-book-absent-outputs-for-ids-spec =

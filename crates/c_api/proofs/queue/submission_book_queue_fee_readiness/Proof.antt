@@ -1,3 +1,4 @@
+use Rattle.c_api.specs.Functions.{fee-readiness-did}
 use borrow.Author.Tests.{not-true, not-false}
 use Rattle.rules.specs.Calls.QueueFeeReadiness.{queueFeeReadiness}
 use Rattle.boundary.specs.Forms.{gives-book-absent, done-given, noForm}
@@ -12,7 +13,7 @@ same-length : tie.Need-same-length
 same-length c = search needs
 
 returns : tie.Need-returns
-returns c = gives-book-absent noForm (queueFeeReadiness) (c .before .before .before .before .args .book .now) (c .before .held .ensures .absent (not-true _ (c .if1 .taken)))
+returns c = fee-readiness-did (gives-book-absent noForm (queueFeeReadiness) (c .before .before .before .before .args .book .now) (c .before .held .ensures .absent (not-true _ (c .if1 .taken))))
 
 queue-fee-readiness-sound-requires : tie.Need-queue-fee-readiness-sound-requires
 queue-fee-readiness-sound-requires c κs = c .before .held .ensures .present (not-false _ (c .if1 .left)) .sound
@@ -24,7 +25,7 @@ same-length-2 : tie.Need-same-length-2
 same-length-2 c = search needs
 
 returns-2 : tie.Need-returns-2
-returns-2 c = done-given (c .before .before .before .before .before .before .before .before .before .args .book .now) (c .before .before .before .before .before .before .held .result .book) (c .before .before .before .before .before .before .held .ensures .present (not-false _ (c .before .before .before .before .before .if1 .left))) (queueFeeReadiness) (c .before .before .before .before .queue-fee-readiness-sound .result) (c .before .before .before .before .queue-fee-readiness-sound .ensures) (c .before .before .settle-done .ensures)
+returns-2 c = fee-readiness-did (done-given (c .before .before .before .before .before .before .before .before .before .args .book .now) (c .before .before .before .before .before .before .held .result .book) (c .before .before .before .before .before .before .held .ensures .present (not-false _ (c .before .before .before .before .before .if1 .left))) (queueFeeReadiness) (c .before .before .before .before .queue-fee-readiness-sound .result) (c .before .before .before .before .queue-fee-readiness-sound .ensures) (c .before .before .settle-done .ensures))
 
 pub submission-book-queue-fee-readiness-spec : {M : Type 1} → statement M
 submission-book-queue-fee-readiness-spec =

@@ -1,3 +1,4 @@
+use Rattle.c_api.specs.Functions.{restore-did}
 use borrow.Author.Tests.{not-true, not-false}
 use Rattle.rules.specs.Calls.RestoreRuntime.{restoreRuntime}
 use Rattle.boundary.specs.Forms.{gives-book-absent, done-given, noForm}
@@ -12,7 +13,7 @@ same-length : tie.Need-same-length
 same-length c = search needs
 
 returns : tie.Need-returns
-returns c = gives-book-absent noForm (restoreRuntime) (c .before .before .before .before .args .book .now) (c .before .held .ensures .absent (not-true _ (c .if1 .taken)))
+returns c = restore-did (gives-book-absent noForm (restoreRuntime) (c .before .before .before .before .args .book .now) (c .before .held .ensures .absent (not-true _ (c .if1 .taken))))
 
 restore-runtime-sound-requires : tie.Need-restore-runtime-sound-requires
 restore-runtime-sound-requires c κs = c .before .held .ensures .present (not-false _ (c .if1 .left)) .sound
@@ -24,7 +25,7 @@ same-length-2 : tie.Need-same-length-2
 same-length-2 c = search needs
 
 returns-2 : tie.Need-returns-2
-returns-2 c = done-given (c .before .before .before .before .before .before .before .before .before .args .book .now) (c .before .before .before .before .before .before .held .result .book) (c .before .before .before .before .before .before .held .ensures .present (not-false _ (c .before .before .before .before .before .if1 .left))) (restoreRuntime) (c .before .before .before .before .restore-runtime-sound .result) (c .before .before .before .before .restore-runtime-sound .ensures) (c .before .before .settle-done .ensures)
+returns-2 c = restore-did (done-given (c .before .before .before .before .before .before .before .before .before .args .book .now) (c .before .before .before .before .before .before .held .result .book) (c .before .before .before .before .before .before .held .ensures .present (not-false _ (c .before .before .before .before .before .if1 .left))) (restoreRuntime) (c .before .before .before .before .restore-runtime-sound .result) (c .before .before .before .before .restore-runtime-sound .ensures) (c .before .before .settle-done .ensures))
 
 pub submission-book-restore-runtime-spec : {M : Type 1} → statement M
 submission-book-restore-runtime-spec =

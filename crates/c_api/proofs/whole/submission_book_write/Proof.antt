@@ -1,3 +1,4 @@
+use Rattle.c_api.specs.Functions.{write-did}
 use borrow.Author.Tests.{not-true, not-false}
 use Rattle.c_api.specs.Whole.{write-absent, write-short, write-whole}
 use borrow.Author.Needs.{needs}
@@ -8,13 +9,13 @@ held-requires : tie.Need-held-requires
 held-requires c κs = search needs
 
 returns : tie.Need-returns
-returns c = write-absent (c .before .before .before .before .args .book .now) (c .before .before .before .before .args .archive .now) (c .before .before .before .before .args .length .now) (c .before .held .ensures .absent (not-true _ (c .if1 .taken)))
+returns c = write-did _ _ (write-absent (c .before .before .before .before .args .book .now) (c .before .before .before .before .args .archive .now) (c .before .before .before .before .args .length .now) (c .before .held .ensures .absent (not-true _ (c .if1 .taken))))
 
 size-archive-requires : tie.Need-size-archive-requires
 size-archive-requires c κs = search needs
 
 returns-2 : tie.Need-returns-2
-returns-2 c = write-short (c .before .before .before .before .before .before .args .book .now) (c .before .before .before .before .before .before .args .archive .now) (c .before .before .before .before .before .before .args .length .now) (c .before .before .before .held .result .book) (c .before .before .before .held .ensures .present (not-false _ (c .before .before .if1 .left))) (c .before .size-archive .result) (c .before .size-archive .ensures) (c .if2 .taken)
+returns-2 c = write-did _ _ (write-short (c .before .before .before .before .before .before .args .book .now) (c .before .before .before .before .before .before .args .archive .now) (c .before .before .before .before .before .before .args .length .now) (c .before .before .before .held .result .book) (c .before .before .before .held .ensures .present (not-false _ (c .before .before .if1 .left))) (c .before .size-archive .result) (c .before .size-archive .ensures) (c .if2 .taken))
 
 write-book-requires : tie.Need-write-book-requires
 write-book-requires c κs = search needs
@@ -23,7 +24,7 @@ same-length : tie.Need-same-length
 same-length c = search needs
 
 returns-3 : tie.Need-returns-3
-returns-3 c = write-whole (c .before .before .before .before .before .before .before .before .before .before .args .book .now) (c .before .before .before .before .before .before .before .before .before .before .args .archive .now) (c .before .before .before .before .before .before .before .before .before .before .args .length .now) (c .before .before .before .before .before .before .before .held .result .book) (c .before .before .before .before .before .before .before .held .ensures .present (not-false _ (c .before .before .before .before .before .before .if1 .left))) (c .before .before .before .before .before .size-archive .result) (c .before .before .before .before .before .size-archive .ensures) (c .before .before .before .before .if2 .left) (c .before .before .write-book .ensures)
+returns-3 c = write-did _ _ (write-whole (c .before .before .before .before .before .before .before .before .before .before .args .book .now) (c .before .before .before .before .before .before .before .before .before .before .args .archive .now) (c .before .before .before .before .before .before .before .before .before .before .args .length .now) (c .before .before .before .before .before .before .before .held .result .book) (c .before .before .before .before .before .before .before .held .ensures .present (not-false _ (c .before .before .before .before .before .before .if1 .left))) (c .before .before .before .before .before .size-archive .result) (c .before .before .before .before .before .size-archive .ensures) (c .before .before .before .before .if2 .left) (c .before .before .write-book .ensures))
 
 pub submission-book-write-spec : {M : Type 1} → statement M
 submission-book-write-spec =

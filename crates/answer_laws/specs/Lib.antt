@@ -1,0 +1,4 @@
+pub mod Kind
+pub mod Turned
+pub mod Said
+pub mod Coins

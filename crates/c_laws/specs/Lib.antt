@@ -1,0 +1,9 @@
+pub mod Functions
+pub mod Told
+pub mod Typed
+pub mod Listed
+pub mod Steps
+pub mod Drains
+pub mod Library
+pub mod Sized
+pub mod Demand1
