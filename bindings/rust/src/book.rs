@@ -107,14 +107,14 @@ impl SubmissionBook {
     ///
     /// # Errors
     ///
-    /// [`NotAnArchive`](Refusal::NotAnArchive) with the place of the first broken item.
+    /// [`NoArchive`](Refusal::NoArchive) with the place of the first broken item.
     ///
     /// ```
     /// use submission_book::{Refusal, SubmissionBook, SubmissionId, Token};
     ///
     /// let archive = SubmissionBook::open(Token(5), SubmissionId(1)).to_archive();
     /// let cut = SubmissionBook::from_archive(&archive[..12]);
-    /// assert_eq!(cut, Err(Refusal::NotAnArchive { place: 9 }));
+    /// assert_eq!(cut, Err(Refusal::NoArchive { place: 9 }));
     /// ```
     pub fn from_archive(archive: &[u8]) -> Result<SubmissionBook, Refusal> {
         let mut book = SubmissionBook::blank();
@@ -157,7 +157,7 @@ impl SubmissionBook {
     ///
     /// # Errors
     ///
-    /// [`ValueOutOfRange`](Refusal::ValueOutOfRange) for a bundle that is too large,
+    /// [`BadValue`](Refusal::BadValue) for a bundle that is too large,
     /// [`Full`](Refusal::Full) for a 17th delivery.
     ///
     /// ```
@@ -175,7 +175,7 @@ impl SubmissionBook {
     ///
     /// let five = SpendBundle { spends: vec![spend; 5] };
     /// let refused = book.queue(&PendingDelivery::protocol(five, None, fee));
-    /// assert_eq!(refused, Err(Refusal::ValueOutOfRange));
+    /// assert_eq!(refused, Err(Refusal::BadValue));
     /// # Ok::<(), Refusal>(())
     /// ```
     pub fn queue(&mut self, delivery: &PendingDelivery) -> Result<(), Refusal> {
@@ -188,7 +188,7 @@ impl SubmissionBook {
     ///
     /// # Errors
     ///
-    /// [`ListOutOfRange`](Refusal::ListOutOfRange) for over 64 ids, [`Full`](Refusal::Full).
+    /// [`BadList`](Refusal::BadList) for over 64 ids, [`Full`](Refusal::Full).
     pub fn queue_rebroadcast_epoch(
         &mut self,
         ids: &[SubmissionId],
@@ -233,7 +233,7 @@ impl SubmissionBook {
     /// [`Full`](Refusal::Full) where a 17th submission or a 65th retirement would come up; the
     /// book, its queue too, stays as it was.
     ///
-    /// [`TokensExhausted`](Refusal::TokensExhausted) where a token is needed and the next one is
+    /// [`NoToken`](Refusal::NoToken) where a token is needed and the next one is
     /// 2^64 − 1. **The book then keeps what the drain had done**, and its queue is empty.
     ///
     /// ```
@@ -278,10 +278,10 @@ impl SubmissionBook {
     ///
     /// # Errors
     ///
-    /// [`ValueOutOfRange`](Refusal::ValueOutOfRange) for a joined bundle that is too large,
+    /// [`BadValue`](Refusal::BadValue) for a joined bundle that is too large,
     /// [`UnknownToken`](Refusal::UnknownToken), [`AlreadyFinalized`](Refusal::AlreadyFinalized),
     /// [`InvalidSubmission`](Refusal::InvalidSubmission), [`StaleVariant`](Refusal::StaleVariant),
-    /// [`FeeSourceNotRequested`](Refusal::FeeSourceNotRequested).
+    /// [`UnrequestedFee`](Refusal::UnrequestedFee).
     ///
     /// ```
     /// use submission_book::*;
@@ -407,7 +407,7 @@ impl SubmissionBook {
     ///
     /// # Errors
     ///
-    /// [`ListOutOfRange`](Refusal::ListOutOfRange) for over 64 ids, [`Full`](Refusal::Full) where
+    /// [`BadList`](Refusal::BadList) for over 64 ids, [`Full`](Refusal::Full) where
     /// there would be over 64 retirements.
     pub fn retain_submitted(
         &mut self,
@@ -485,7 +485,7 @@ impl SubmissionBook {
     ///
     /// # Errors
     ///
-    /// [`ListOutOfRange`](Refusal::ListOutOfRange) for over 64 ids, [`Full`](Refusal::Full).
+    /// [`BadList`](Refusal::BadList) for over 64 ids, [`Full`](Refusal::Full).
     pub fn collect_rollback_replay_ids(&mut self, ids: &[SubmissionId]) -> Result<(), Refusal> {
         let ids = wire::ids(ids);
         accepted(ffi::submission_book_collect_rollback_replay_ids(&mut self.bytes, &ids))
@@ -502,7 +502,7 @@ impl SubmissionBook {
     ///
     /// # Errors
     ///
-    /// [`ListOutOfRange`](Refusal::ListOutOfRange), [`Full`](Refusal::Full) for a 65th retirement.
+    /// [`BadList`](Refusal::BadList), [`Full`](Refusal::Full) for a 65th retirement.
     pub fn reconcile_chain_terminality(
         &mut self,
         observed_created: &[CoinString],
@@ -527,7 +527,7 @@ impl SubmissionBook {
     ///
     /// # Errors
     ///
-    /// [`ListOutOfRange`](Refusal::ListOutOfRange).
+    /// [`BadList`](Refusal::BadList).
     pub fn causally_rolled_back_ids(
         &self,
         explicitly_absent: &[CoinString],
@@ -550,7 +550,7 @@ impl SubmissionBook {
     ///
     /// # Errors
     ///
-    /// [`ListOutOfRange`](Refusal::ListOutOfRange).
+    /// [`BadList`](Refusal::BadList).
     pub fn reconciliation_input_coins(
         &self,
         landed_outputs: &[CoinString],
@@ -566,7 +566,7 @@ impl SubmissionBook {
     ///
     /// # Errors
     ///
-    /// [`ListOutOfRange`](Refusal::ListOutOfRange).
+    /// [`BadList`](Refusal::BadList).
     pub fn absent_outputs_for_ids(
         &self,
         ids: &[SubmissionId],

@@ -47,7 +47,7 @@
 //! # Refusals
 //!
 //! A call that the rules turn away answers a [`Refusal`] and leaves the book as it was. The one
-//! exception is [`Refusal::TokensExhausted`]: that drain keeps the book that it reached.
+//! exception is [`Refusal::NoToken`]: that drain keeps the book that it reached.
 //!
 //! Values that are too large for the book (five spends, a coin of over 73 bytes, 65 ids) are
 //! refused by the library as its rules say; none is cut short.

@@ -253,7 +253,7 @@ impl Trial {
         let result = self.call();
         let after = self.book.to_archive();
         match result {
-            Err(Refusal::TokensExhausted) => self.next_token = u64::MAX,
+            Err(Refusal::NoToken) => self.next_token = u64::MAX,
             Err(_) => assert_eq!(before, after, "{result:?} changed the book"),
             Ok(()) => {}
         }

@@ -17,7 +17,7 @@ type Answered<T> = Result<T, Vec<u8>>;
 
 fn refusal(refusal: Refusal) -> Vec<u8> {
     let mut bytes = vec![refusal.number()];
-    if let Refusal::NotAnArchive { place } = refusal {
+    if let Refusal::NoArchive { place } = refusal {
         bytes.extend(place.to_be_bytes());
     }
     bytes
