@@ -59,9 +59,9 @@
 //!
 //! # Stack
 //!
-//! The library keeps whole books on the stack: a call takes up to about 1 MiB, and
-//! SUBMISSION_BOOK_STACK_BYTES in `submission_book.h` has the number. The main thread and the threads
-//! of Rust, with 2 MiB, have enough. A thread with less is to be given more
+//! The library keeps whole books on the stack: a call takes at most 1,000,000 bytes of it
+//! (SUBMISSION_BOOK_STACK_BYTES in `submission_book.h`). The main thread and the threads of Rust,
+//! with 2 MiB, have enough. A thread with less is to be given more
 //! ([`stack_size`](std::thread::Builder::stack_size)); else the program ends with a stack overflow.
 //!
 //! # Panics
