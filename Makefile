@@ -5,7 +5,7 @@
 
 CC ?= cc
 CXX ?= c++
-CFLAGS = -std=c11 -Wall -Wextra -Werror -pedantic -O2
+CFLAGS = -std=c11 -Wall -Wextra -Wconversion -Wsign-conversion -Werror -pedantic -O2
 SOURCES = crates.txt $(shell find crates -name '*.rt' -o -name '*.antt')
 PROVED = target/staticlib/libc_api.a
 LIBRARY = target/lib/libsubmission_book.a
@@ -56,7 +56,7 @@ $(PROVED): $(SOURCES)
 # The proved part, and readers and builders in C beside it.
 $(LIBRARY): $(PROVED) lib/submission_book_answers.c $(addprefix include/, $(PUBLIC))
 	@mkdir -p target/lib
-	@$(CC) $(CFLAGS) -Wconversion -Wsign-conversion -fPIC -I include -c lib/submission_book_answers.c -o target/submission_book_answers.o
+	@$(CC) $(CFLAGS) -fPIC -I include -c lib/submission_book_answers.c -o target/submission_book_answers.o
 	@cp $(PROVED) $@.new
 	@$(AR) rs $@.new target/submission_book_answers.o
 	@mv $@.new $@

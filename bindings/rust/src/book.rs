@@ -4,9 +4,10 @@ use std::fmt;
 
 use crate::coin::{CoinID, CoinString};
 use crate::ffi;
+use crate::reader::{Read, Reader};
 use crate::refusal::Refusal;
 use crate::submission::*;
-use crate::wire::{self, Answer};
+use crate::wire;
 
 /// A submission book: the queue of deliveries, the retained submissions with their attempts, the
 /// retirements and the replay epoch.
@@ -63,11 +64,11 @@ fn never_refused<T>(result: Result<T, Refusal>) -> T {
 fn answered<T>(
     size: usize,
     call: impl FnOnce(&mut [u8]) -> u8,
-    read: impl FnOnce(&mut Answer) -> Option<T>,
+    read: impl FnOnce(&mut Reader) -> Read<T>,
 ) -> Result<T, Refusal> {
     let mut answer = vec![0; size];
     accepted(call(&mut answer))?;
-    Ok(read(&mut Answer(&answer)).unwrap_or_else(|| wrong_library()))
+    Ok(read(&mut Reader::new(&answer)).unwrap_or_else(|_| wrong_library()))
 }
 
 /// The same for the two calls that answer a coin list and its length.
@@ -79,7 +80,7 @@ fn answered_coins(
     let mut length = 0;
     accepted(call(&mut answer, &mut length))?;
     let list = usize::try_from(length).ok().and_then(|length| answer.get(..length));
-    Ok(list.and_then(|list| Answer(list).coins()).unwrap_or_else(|| wrong_library()))
+    Ok(list.and_then(|list| Reader::new(list).coins().ok()).unwrap_or_else(|| wrong_library()))
 }
 
 /// The whole book.
@@ -395,7 +396,7 @@ impl SubmissionBook {
         never_refused(answered(
             ffi::ATTEMPT_BYTES,
             |answer| ffi::submission_book_attempt(&mut copy, token.0, answer),
-            |answer| answer.attempt(),
+            |answer| answer.optional_attempt(),
         ))
     }
 }

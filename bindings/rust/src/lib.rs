@@ -71,14 +71,19 @@
 
 #![deny(unsafe_code, unsafe_op_in_unsafe_fn, missing_docs)]
 
+mod archive;
 mod book;
 mod coin;
 #[allow(unsafe_code)]
 mod ffi;
+mod reader;
 mod refusal;
 mod submission;
 mod wire;
 
+pub use archive::{
+    Archive, FeeResolution, SubmissionBroadcastVariant, SubmissionChainTerminality, SubmittedTx,
+};
 pub use book::SubmissionBook;
 pub use coin::{CoinID, CoinString, Hash32, PuzzleHash};
 pub use refusal::Refusal;
