@@ -114,7 +114,7 @@ library: lib target/first target/kitchen target/c_api_calls target/c_api_stack t
 	target/c_api_stack >target/c_api_stack.txt
 	tests/c_api/headers.sh
 	examples/c/sanitize.sh
-	cd bindings/rust && cargo test --offline --quiet
+	bindings/rust/check.sh
 	tests/show_archive/run.sh
 	@if command -v python3 >/dev/null; then python3 tests/archive_decoder/run.py; else echo "There is no python3 here: the archive decoder was not run."; fi
 	tests/install/run.sh

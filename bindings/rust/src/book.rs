@@ -40,6 +40,33 @@ pub struct SubmissionBook {
     bytes: Box<[u8]>,
 }
 
+/// A part of this crate's version as a number.
+const fn part(text: &str) -> u32 {
+    let digits = text.as_bytes();
+    let (mut number, mut at) = (0, 0);
+    while at < digits.len() {
+        number = 10 * number + (digits[at] - b'0') as u32;
+        at += 1;
+    }
+    number
+}
+
+/// SUBMISSION_BOOK_VERSION of the library that this crate is for.
+const VERSION: u32 = part(env!("CARGO_PKG_VERSION_MAJOR")) << 16
+    | part(env!("CARGO_PKG_VERSION_MINOR")) << 8
+    | part(env!("CARGO_PKG_VERSION_PATCH"));
+
+/// Another version may have other sizes, numbers and forms.
+fn expect_version(library: u32) {
+    let (major, minor, patch) = (library >> 16, library >> 8 & 0xff, library & 0xff);
+    assert!(
+        library == VERSION,
+        "the linked library has version {major}.{minor}.{patch}, and this crate is for version {}: \
+         build it anew with `make lib`",
+        env!("CARGO_PKG_VERSION")
+    );
+}
+
 /// The library does not do as its header says, so it is another one than this crate is for.
 #[cold]
 fn wrong_library() -> ! {
@@ -85,7 +112,9 @@ fn answered_coins(
 
 /// The whole book.
 impl SubmissionBook {
+    /// Every book begins here, so no other function of another version's library is called.
     fn blank() -> SubmissionBook {
+        expect_version(ffi::version());
         SubmissionBook { bytes: vec![0; ffi::BOOK_BYTES].into_boxed_slice() }
     }
 
@@ -610,4 +639,20 @@ impl fmt::Debug for SubmissionBook {
 
 fn number_of(bytes: &[u8]) -> u64 {
     bytes.iter().fold(0, |number, byte| number << 8 | u64::from(*byte))
+}
+
+#[cfg(test)]
+mod tests {
+    use super::*;
+
+    #[test]
+    fn the_linked_library_is_of_this_version() {
+        assert_eq!(ffi::version(), VERSION);
+    }
+
+    #[test]
+    #[should_panic(expected = "has version 1.2.3, and this crate is for version ")]
+    fn a_library_of_another_version_is_refused() {
+        expect_version(0x010203);
+    }
 }

@@ -66,8 +66,9 @@
 //!
 //! # Panics
 //!
-//! No value makes a method panic. They panic only if the linked library answers otherwise than its
-//! header says, as one of another revision might.
+//! No value makes a method panic. [`SubmissionBook::open`] and [`SubmissionBook::from_archive`] panic
+//! if the linked library is of another version than this crate, and any method if the library
+//! answers otherwise than its header says.
 
 #![deny(unsafe_code, unsafe_op_in_unsafe_fn, missing_docs)]
 

@@ -54,6 +54,7 @@ fn in_c(argument: &str) -> String {
 fn wrapped() -> Vec<String> {
     let lines = FFI.lines().filter_map(|line| line.trim().strip_prefix("fn submission_book_"));
     let mut all: Vec<String> = lines
+        .filter(|line| line.ends_with(");"))
         .map(|line| {
             let (name, rest) = line.split_once('(').unwrap();
             let arguments: Vec<String> =
@@ -101,6 +102,12 @@ fn the_sizes_are_those_of_the_header() {
         let size = number_behind(FFI, &format!("pub const {here}: usize ="));
         assert_eq!(size, number_behind(&header, &format!("#define {there} ")), "{here}");
     }
+}
+
+#[test]
+fn the_version_is_that_of_the_header() {
+    let version = format!("VERSION_STRING \"{}\"", env!("CARGO_PKG_VERSION"));
+    assert!(header().contains(&version), "{version}");
 }
 
 /// `NO_BOOK` as `NoBook`.
