@@ -5,24 +5,26 @@
 
 CC ?= cc
 CXX ?= c++
-CFLAGS = -std=c11 -Wall -Wextra -Werror -pedantic -O2
+CFLAGS = -std=c11 -Wall -Wextra -Wconversion -Wsign-conversion -Werror -pedantic -O2
 SOURCES = crates.txt $(shell find crates -name '*.rt' -o -name '*.antt')
+PROVED = target/staticlib/libc_api.a
 LIBRARY = target/lib/libsubmission_book.a
 SONAME = libsubmission_book.so.0
 SHARED = target/lib/$(SONAME)
-VERSION = 0.1.0
+VERSION = $(shell sed -n 's/^\#define SUBMISSION_BOOK_VERSION_STRING "\(.*\)"/\1/p' include/submission_book.h)
 PREFIX ?= /usr/local
-EXAMPLE = examples/c/kitchen.c examples/c/account.c examples/c/wire.c examples/c/sha256.c
-CALLS = tests/c_api/calls.c tests/c_api/buffers.c tests/c_api/sizes.c
-SAMPLE = tests/c_api/sample.c examples/c/wire.c examples/c/sha256.c
+PUBLIC = submission_book.h submission_book_answers.h
+EXAMPLE = examples/c/kitchen.c examples/c/account.c examples/c/coins.c examples/c/sha256.c
+CALLS = tests/c_api/calls.c tests/c_api/answers.c tests/c_api/buffers.c tests/c_api/sizes.c
+SAMPLE = tests/c_api/sample.c examples/c/coins.c examples/c/sha256.c
 INCLUDE = -I include -I examples/c -I tests/c_api
-HEADERS = include/submission_book.h $(wildcard examples/c/*.h tests/c_api/*.h)
+HEADERS = $(addprefix include/, $(PUBLIC)) $(wildcard examples/c/*.h tests/c_api/*.h)
 
 help:
 	@echo "make run       play a sample kitchen through the library, write its archive and show it"
 	@echo "make test      the gate: every proof, must-fail edit and program, the Rust comparison, the library's own tests (.ci/run)"
-	@echo "make lib       target/lib: libsubmission_book.a, proved as it is built, the same as a shared library, and submission_book.h"
-	@echo "make install   library, header, pkg-config file and show_archive below PREFIX=/usr/local (DESTDIR= in front of it); make uninstall"
+	@echo "make lib       target/lib: libsubmission_book.a, proved as it is built, the same as a shared library, and the headers"
+	@echo "make install   library, headers, pkg-config file and show_archive below PREFIX=/usr/local (DESTDIR= in front of it); make uninstall"
 	@echo "make library   the library's tests alone: C, C++, stack, sanitizers, the Rust crate, archives shown and decoded, installing"
 	@echo "make compare   call scripts, played by the driver and by the Rust (N=6000 SEED=1: so many, of this seed)"
 	@echo "make bench     every call, archives and SHA-256 against Rust, in one run"
@@ -39,27 +41,34 @@ run: lib target/bin/show_archive target/kitchen
 test:
 	@.ci/run
 
-lib: $(LIBRARY) $(SHARED) target/lib/submission_book.h
+lib: $(LIBRARY) $(SHARED) $(addprefix target/lib/, $(PUBLIC))
 
 # Programs that are asked for as well are proved in one go with what the library needs.
 PROGRAMS =
 run install: PROGRAMS = show_archive
 library: PROGRAMS = show_archive book_driver
 
-# A library is proved again when it is built, so the header is copied by a rule of its own.
-$(LIBRARY): $(SOURCES)
+# The proved part is proved again when it is built, so it has a rule of its own.
+$(PROVED): $(SOURCES)
 	@tools/prove --library c_api $(PROGRAMS)
+	@touch $@
+
+# The proved part, and readers and builders in C beside it.
+$(LIBRARY): $(PROVED) lib/submission_book_answers.c $(addprefix include/, $(PUBLIC))
 	@mkdir -p target/lib
-	@cp target/staticlib/libc_api.a $(LIBRARY)
+	@$(CC) $(CFLAGS) -fPIC -I include -c lib/submission_book_answers.c -o target/submission_book_answers.o
+	@cp $(PROVED) $@.new
+	@$(AR) rs $@.new target/submission_book_answers.o
+	@mv $@.new $@
 
 # The compiler's code is position independent, so the static library is a shared one when it is linked.
 $(SHARED): $(LIBRARY)
 	@$(CC) -shared -Wl,-soname,$(SONAME),-z,defs,-z,noexecstack,--whole-archive $(LIBRARY) -Wl,--no-whole-archive -o $@
 	@ln -sf $(SONAME) target/lib/libsubmission_book.so
 
-target/lib/submission_book.h: include/submission_book.h
+$(addprefix target/lib/, $(PUBLIC)): target/lib/%: include/%
 	@mkdir -p target/lib
-	@cp include/submission_book.h target/lib/
+	@cp $< $@
 
 target/bin/show_archive target/bin/book_driver: $(SOURCES)
 	@tools/prove $(@F)
@@ -67,7 +76,7 @@ target/bin/show_archive target/bin/book_driver: $(SOURCES)
 
 # What is installed, below DESTDIR and PREFIX.
 PLACE = $(DESTDIR)$(abspath $(PREFIX))
-INSTALLED = lib/libsubmission_book.a lib/$(SONAME) lib/libsubmission_book.so lib/pkgconfig/submission_book.pc include/submission_book.h \
+INSTALLED = lib/libsubmission_book.a lib/$(SONAME) lib/libsubmission_book.so lib/pkgconfig/submission_book.pc $(addprefix include/, $(PUBLIC)) \
 	bin/show_archive $(addprefix share/doc/submission_book/, ARCHIVE.md NOTICE)
 
 install: lib target/bin/show_archive
@@ -75,7 +84,7 @@ install: lib target/bin/show_archive
 	@install -m 644 $(LIBRARY) $(SHARED) $(PLACE)/lib/
 	@ln -sf $(SONAME) $(PLACE)/lib/libsubmission_book.so
 	@sed -e 's|@PREFIX@|$(abspath $(PREFIX))|' -e 's|@VERSION@|$(VERSION)|' tools/submission_book.pc.in >$(PLACE)/lib/pkgconfig/submission_book.pc
-	@install -m 644 include/submission_book.h $(PLACE)/include/
+	@install -m 644 $(addprefix include/, $(PUBLIC)) $(PLACE)/include/
 	@install -m 755 target/bin/show_archive $(PLACE)/bin/
 	@install -m 644 docs/ARCHIVE.md NOTICE $(PLACE)/share/doc/submission_book/
 	@echo "installed below $(PLACE): $(INSTALLED)"
@@ -84,7 +93,7 @@ uninstall:
 	@rm -f $(addprefix $(PLACE)/, $(INSTALLED))
 	@rmdir $(PLACE)/share/doc/submission_book 2>/dev/null || true
 
-target/first: examples/first.c $(LIBRARY) target/lib/submission_book.h
+target/first: examples/first.c $(LIBRARY) $(addprefix target/lib/, $(PUBLIC))
 	$(CC) $(CFLAGS) -I target/lib examples/first.c $(LIBRARY) -o $@
 
 target/kitchen: $(EXAMPLE) $(HEADERS) $(LIBRARY)
@@ -103,9 +112,9 @@ library: lib target/first target/kitchen target/c_api_calls target/c_api_stack t
 	target/kitchen target/kitchen.archive >target/kitchen.txt
 	target/c_api_calls
 	target/c_api_stack >target/c_api_stack.txt
-	@printf '#include "submission_book.h"\n' | $(CXX) -std=c++11 -Wall -Wextra -Werror -pedantic -I include -x c++ -fsyntax-only -
+	tests/c_api/headers.sh
 	examples/c/sanitize.sh
-	cd bindings/rust && cargo test --offline --quiet
+	bindings/rust/check.sh
 	tests/show_archive/run.sh
 	@if command -v python3 >/dev/null; then python3 tests/archive_decoder/run.py; else echo "There is no python3 here: the archive decoder was not run."; fi
 	tests/install/run.sh

@@ -1,5 +1,6 @@
 #!/bin/sh
-# Fuzzes the C boundary: fuzz/run.sh [SECONDS]. Half of the seconds (600 if none are given) go to each target. It installs nothing.
+# Fuzzes the C boundary: fuzz/run.sh [SECONDS]. Of the seconds (600 if none are given) a tenth goes to the readers of answers, and half of the rest to
+# each of the other targets. It installs nothing.
 set -eu
 cd "$(dirname "$0")/.."
 seconds=${1:-600}
@@ -118,10 +119,24 @@ fuzz_target() {
     echo "fuzz: $1: no crash and no failed check; $(find "$out/corpus/$1" "fuzz/corpus/$1" -type f | wc -l) inputs played on the delivered library too"
 }
 
+# The readers of answers are C: nothing is proved for them, and all of them is instrumented.
+fuzz_answers() {
+    clang -std=c11 -g -O1 -Wall -Wextra -I include -fsanitize=fuzzer,address,undefined -fno-sanitize-recover=all fuzz/answers.c lib/submission_book_answers.c -o "$out/answers"
+    mkdir -p "$out/corpus/answers"
+    "$out/answers" -max_len=20000 -print_final_stats=1 -artifact_prefix="$out/answers-" -max_total_time=$((seconds / 10)) "$out/corpus/answers" >"$out/answers.log" 2>&1 || {
+        grep -a -E 'check failed|ERROR|SUMMARY|Test unit' "$out/answers.log" >&2
+        fail "answers FAILED: target/fuzz/answers.log; repeat with: target/fuzz/answers FILE"
+    }
+    report answers "$out/answers.log"
+    echo "fuzz: answers: no crash and no failed check"
+}
+
 # The fuzzer takes 0 seconds for no end.
-[ "$seconds" -ge 2 ] 2>/dev/null || fail "the seconds are a number from 2 on, not '$seconds'"
+[ "$seconds" -ge 10 ] 2>/dev/null || fail "the seconds are a number from 10 on, not '$seconds'"
 mkdir -p "$out"
 need_tools
+fuzz_answers
+seconds=$((seconds - seconds / 10))
 build_module
 instrument_module
 build_target archive

@@ -1,4 +1,5 @@
-/* The submission book, for C11 and C++: link libsubmission_book.a.
+/* The submission book, for C11 and C++ on x86-64 Linux: link libsubmission_book.a, which is compiled by rattle-kit-5b.
+ * Readers of answers and builders of arguments are in submission_book_answers.h.
  *
  * A submission book queues payments for a wallet. Each payment is a bundle of coin spends. Draining the queue
  * retains each new payment as a submission with an id, and issues a token for one attempt to deliver it. The
@@ -8,8 +9,8 @@
  * acknowledged, stopped or abandoned. A live attempt that is acknowledged or stopped, or whose submission the chain
  * has settled, is set aside; it becomes the predecessor of the submission's next attempt.
  *
- * MEMORY. The caller owns all memory. A function keeps no pointer, allocates nothing and needs nothing but memcpy
- * and memset. The book is bytes of the caller's: `book` points to them and `book_len` is how many are lent. In
+ * MEMORY. The caller owns all memory. A function keeps no pointer, allocates nothing and needs nothing but memcpy,
+ * memmove and memset. The book is bytes of the caller's: `book` points to them and `book_len` is how many are lent. In
  * front stand 8 bytes with the length of the archive, big-endian, and then the archive itself (docs/ARCHIVE.md).
  * The bytes behind it are the caller's and stay as they are. SUBMISSION_BOOK_BYTES are enough for every book. The
  * bytes may be copied, moved or saved between calls.
@@ -37,7 +38,7 @@
  * caller's, also those that only look (they write the same bytes again); only functions with a `const` book may run
  * at once on it.
  *
- * STACK. A call takes at most SUBMISSION_BOOK_STACK_BYTES (1 MB) of the calling thread's stack. The usual main
+ * STACK. A call takes at most SUBMISSION_BOOK_STACK_BYTES (1,000,000) of the calling thread's stack. The usual main
  * thread of 8 MB has room for it; a thread that is made with a smaller stack must have so much and what the caller
  * itself needs, else the program ends with a stack overflow. A call ends for every input, and calls nothing of the
  * caller's. */
@@ -45,6 +46,23 @@
 #define SUBMISSION_BOOK_H
 #include <stddef.h>
 #include <stdint.h>
+
+/* ---- version: the higher one of two is the greater number */
+#define SUBMISSION_BOOK_VERSION_MAJOR 0
+#define SUBMISSION_BOOK_VERSION_MINOR 2
+#define SUBMISSION_BOOK_VERSION_PATCH 0
+#define SUBMISSION_BOOK_VERSION_STRING "0.2.0"
+#define SUBMISSION_BOOK_VERSION \
+    (SUBMISSION_BOOK_VERSION_MAJOR << 16 | SUBMISSION_BOOK_VERSION_MINOR << 8 | SUBMISSION_BOOK_VERSION_PATCH)
+
+/* In front of a function: the compiler warns where what it returns is not looked at. */
+#if defined(__cplusplus) && __cplusplus >= 201703L || defined(__STDC_VERSION__) && __STDC_VERSION__ >= 202311L
+#define SUBMISSION_BOOK_NODISCARD [[nodiscard]]
+#elif defined(__GNUC__)
+#define SUBMISSION_BOOK_NODISCARD __attribute__((warn_unused_result))
+#else
+#define SUBMISSION_BOOK_NODISCARD
+#endif
 
 /* ---- sizes in bytes: enough for every book, argument and answer, and none of them more than can come up but that of
  * a drain */
@@ -69,7 +87,7 @@
 #define SUBMISSION_BOOK_INPUT_COINS_BYTES 4738
 #define SUBMISSION_BOOK_ABSENT_OUTPUTS_BYTES 18946
 
-/* stack of one call; the largest measured (tests/c_api/stack.c) is 908,375 */
+/* stack of one call; the largest that tests/c_api/stack.c measures is about 910,000 */
 #define SUBMISSION_BOOK_STACK_BYTES 1000000
 
 /* ---- limits */
@@ -184,16 +202,19 @@ extern "C" {
 
 /* Makes an empty book: its first token will be `next_token`, its first submission's id `next_id`. What `book` held
  * before is not looked at. Refusals: 12 fewer than 30 bytes. */
+SUBMISSION_BOOK_NODISCARD
 uint8_t submission_book_open(uint8_t *book, size_t book_len, uint64_t next_token, uint64_t next_id);
 
 /* Makes the book of an archive, all of whose `archive_len` bytes count. What `book` held before is not looked at.
  * Refusals: 13 the bytes are no archive, and *place is the offset of the first item that is cut short or breaks a
  * rule (docs/ARCHIVE.md); *place stays with any other answer. */
+SUBMISSION_BOOK_NODISCARD
 uint8_t submission_book_read(uint8_t *book, size_t book_len, const uint8_t *archive, size_t archive_len,
     uint64_t *place);
 
 /* Writes the archive of the book to the front of `archive` and its length to *length. They are the bytes of `book`
  * from the ninth on. Reading them gives this book again. A refusal leaves *length. */
+SUBMISSION_BOOK_NODISCARD
 uint8_t submission_book_write(const uint8_t *book, size_t book_len, uint8_t *archive, size_t archive_len,
     uint64_t *length);
 
@@ -203,6 +224,7 @@ uint8_t submission_book_write(const uint8_t *book, size_t book_len, uint8_t *arc
  * before the drain. A new payment has no id, trigger 0 and goal 0; with an id it is a further delivery of that
  * submission, and everything else in it must be as it was first queued.
  * Refusals: 3 the bytes are not exactly one delivery; 10 the queue would pass 16 entries. */
+SUBMISSION_BOOK_NODISCARD
 uint8_t submission_book_queue(uint8_t *book, size_t book_len, const uint8_t *delivery, size_t delivery_len);
 
 /* Offers a retained submission for another delivery: queues its own base bundle, expiry and fee intent under its
@@ -210,18 +232,21 @@ uint8_t submission_book_queue(uint8_t *book, size_t book_len, const uint8_t *del
  * settled the submission; where an attempt is live and `trigger` is 0; where an attempt is live and not finalised,
  * the fee is open and `trigger` is 1 or 3; and where `goal` is 1 and no fee is open.
  * Refusals: 3 `trigger` over 3 or `goal` over 1; 10 the queue would pass 16 entries. */
+SUBMISSION_BOOK_NODISCARD
 uint8_t submission_book_queue_retained_delivery(uint8_t *book, size_t book_len, uint64_t id, uint8_t trigger,
     uint8_t goal);
 
 /* Offers each listed submission in the list's order, as submission_book_queue_retained_delivery does: with goal 1
  * where its current bundle is acknowledged, else with goal 0. Ids that are not retained are passed over.
  * Refusals: 3 `trigger` over 3; 2 over 64 ids; 10 the queue would pass 16 entries. */
+SUBMISSION_BOOK_NODISCARD
 uint8_t submission_book_queue_rebroadcast_epoch(uint8_t *book, size_t book_len, const uint64_t *ids, size_t ids_len,
     uint8_t trigger);
 
 /* The wallet can provide fees now: offers every active submission whose fee is open, with trigger 3 and the goals
  * of submission_book_queue_rebroadcast_epoch.
  * Refusals: 10 the queue would pass 16 entries. */
+SUBMISSION_BOOK_NODISCARD
 uint8_t submission_book_queue_fee_readiness(uint8_t *book, size_t book_len);
 
 /* Empties the queue and handles its entries in order. An entry without an id is a retained submission if their
@@ -243,6 +268,7 @@ uint8_t submission_book_queue_fee_readiness(uint8_t *book, size_t book_len);
  * one is 2^64 - 1: the queue is empty then, `answer` stays, and the book keeps all that was done up to that entry,
  * tokens included (they are in the archive, and submission_book_attempt shows the live ones). 10 or 11 goes by the
  * earlier entry, within one entry 10. */
+SUBMISSION_BOOK_NODISCARD
 uint8_t submission_book_drain(uint8_t *book, size_t book_len, uint8_t *answer, size_t answer_len);
 
 /* ==== attempts, by token ====
@@ -254,6 +280,7 @@ uint8_t submission_book_drain(uint8_t *book, size_t book_len, uint8_t *answer, s
 /* The open fee of a live attempt's submission.
  * Answer, at most SUBMISSION_BOOK_FEE_INTENT_ANSWER_BYTES (42): mark; if 1 the fee intent (2 attach where a fee is
  * open, else 0). Mark 0: the token is inactive. Refusals: 4. */
+SUBMISSION_BOOK_NODISCARD
 uint8_t submission_book_fee_intent_for_attempt(uint8_t *book, size_t book_len, uint64_t token,
     uint8_t *answer, size_t answer_len);
 
@@ -270,6 +297,7 @@ uint8_t submission_book_fee_intent_for_attempt(uint8_t *book, size_t book_len, u
  * other); 4; 5 finalised before; 7 the submission contradicts itself; 8 its current bundle is not the one that was
  * drained; 9 no fee is open and `source` is not 0. 7 and 8 are for books put together by hand: as far as we know
  * the calls themselves lead to neither. */
+SUBMISSION_BOOK_NODISCARD
 uint8_t submission_book_finalize_attempt(uint8_t *book, size_t book_len, uint64_t token, uint8_t source,
     const uint8_t *joined, size_t joined_len, uint8_t *answer, size_t answer_len);
 
@@ -277,11 +305,13 @@ uint8_t submission_book_finalize_attempt(uint8_t *book, size_t book_len, uint64_
  * aside, and queue entries of this submission are dropped.
  * Answer, 1 byte: 0 applied; 1 stale, the token is inactive and nothing changed.
  * Refusals, in this order: 4; 6 not finalised; 8 the current bundle is not the one that was finalised (as above). */
+SUBMISSION_BOOK_NODISCARD
 uint8_t submission_book_acknowledge_attempt(uint8_t *book, size_t book_len, uint64_t token,
     uint8_t *answer, size_t answer_len);
 
 /* The attempt is over without an acknowledgement: it is set aside, and nothing else changes.
  * Answer, 1 byte: 0 applied; 1 stale, the token is inactive and nothing changed. Refusals: 4. */
+SUBMISSION_BOOK_NODISCARD
 uint8_t submission_book_stop_attempt(uint8_t *book, size_t book_len, uint64_t token,
     uint8_t *answer, size_t answer_len);
 
@@ -289,17 +319,20 @@ uint8_t submission_book_stop_attempt(uint8_t *book, size_t book_len, uint64_t to
  * mark, and its id retired.
  * Answer, 1 byte: 0 applied; 1 stale, the token is inactive and nothing changed.
  * Refusals: 4; 10 more than 64 retirements would result. */
+SUBMISSION_BOOK_NODISCARD
 uint8_t submission_book_abandon_attempt(uint8_t *book, size_t book_len, uint64_t token,
     uint8_t *answer, size_t answer_len);
 
 /* Whether a token is set aside. Changes nothing.
  * Answer, 1 byte: 0 applied, it is set aside; 1 stale, it was issued and is live, displaced or gone. Refusals: 4. */
+SUBMISSION_BOOK_NODISCARD
 uint8_t submission_book_relinquish_completed_attempt(uint8_t *book, size_t book_len, uint64_t token,
     uint8_t *answer, size_t answer_len);
 
 /* A live attempt. Changes nothing.
  * Answer, at most SUBMISSION_BOOK_ATTEMPT_BYTES (75): mark; if 1 the attempt. Mark 0: the token is not live, or was
  * never issued. No refusal but 1 and 12. */
+SUBMISSION_BOOK_NODISCARD
 uint8_t submission_book_attempt(uint8_t *book, size_t book_len, uint64_t token, uint8_t *answer, size_t answer_len);
 
 /* ==== retained submissions and retirements ==== */
@@ -308,29 +341,35 @@ uint8_t submission_book_attempt(uint8_t *book, size_t book_len, uint64_t token, 
  * retained are passed over. (The Rust's function takes a test of what to keep; this one the ids to remove.)
  * Answer, at most SUBMISSION_BOOK_IDS_BYTES (513): the ids that were removed, rising.
  * Refusals: 2 over 64 ids; 10 more than 64 retirements would result. */
+SUBMISSION_BOOK_NODISCARD
 uint8_t submission_book_retain_submitted(uint8_t *book, size_t book_len,
     const uint64_t *removed, size_t removed_len, uint8_t *answer, size_t answer_len);
 
 /* The submissions that the chain has not settled. Changes nothing.
  * Answer, at most SUBMISSION_BOOK_IDS_BYTES (513): their ids, in the order in which they were retained. No refusal
  * but 1 and 12. */
+SUBMISSION_BOOK_NODISCARD
 uint8_t submission_book_active_ids(uint8_t *book, size_t book_len, uint8_t *answer, size_t answer_len);
 
 /* Retires an id by hand: it is put behind the retirements, unless it is among them.
  * Refusals: 10 more than 64 retirements would result. */
+SUBMISSION_BOOK_NODISCARD
 uint8_t submission_book_emit_retirement(uint8_t *book, size_t book_len, uint64_t id);
 
 /* Hands out the retired ids, which the wallet should forget, and empties their list.
  * Answer, at most SUBMISSION_BOOK_IDS_BYTES (513): the ids, in the order in which they were retired. No refusal but 1
  * and 12; a 12 keeps them. */
+SUBMISSION_BOOK_NODISCARD
 uint8_t submission_book_drain_retirements(uint8_t *book, size_t book_len, uint8_t *answer, size_t answer_len);
 
 /* Removes and retires every submission, rising, empties the queue and ends a replay. Earlier retirements and the
  * two next numbers stay.
  * Refusals: 10 more than 64 retirements would result. */
+SUBMISSION_BOOK_NODISCARD
 uint8_t submission_book_clear_local_artifacts(uint8_t *book, size_t book_len);
 
 /* After a restart of the program that delivers: every live attempt is set aside. No refusal but 1 and 12. */
+SUBMISSION_BOOK_NODISCARD
 uint8_t submission_book_restore_runtime(uint8_t *book, size_t book_len);
 
 /* ==== what the chain shows ==== */
@@ -340,6 +379,7 @@ uint8_t submission_book_restore_runtime(uint8_t *book, size_t book_len);
  * 0. Else, where its id is among `rolled_back`: Active again. In the first two cases it is settled: its replay mark
  * and queue entries go, its live attempt is set aside, and its id is retired.
  * Refusals: 3 `reorg` over 1; 2 a list out of form, or over 64 ids; 10 more than 64 retirements would result. */
+SUBMISSION_BOOK_NODISCARD
 uint8_t submission_book_reconcile_chain_terminality(uint8_t *book, size_t book_len,
     const uint8_t *observed, size_t observed_len, const uint8_t *spent, size_t spent_len, uint8_t reorg,
     const uint64_t *rolled_back, size_t rolled_back_len);
@@ -349,6 +389,7 @@ uint8_t submission_book_reconcile_chain_terminality(uint8_t *book, size_t book_l
  * ids `inputs`, the coins that can be spent again. Changes nothing; hand the ids to the next report as
  * `rolled_back` and to submission_book_collect_rollback_replay_ids.
  * Answer, at most SUBMISSION_BOOK_IDS_BYTES (513): ids, rising. Refusals: 2 a list out of form. */
+SUBMISSION_BOOK_NODISCARD
 uint8_t submission_book_causally_rolled_back_ids(uint8_t *book, size_t book_len,
     const uint8_t *absent, size_t absent_len, const uint8_t *inputs, size_t inputs_len,
     uint8_t *answer, size_t answer_len);
@@ -357,6 +398,7 @@ uint8_t submission_book_causally_rolled_back_ids(uint8_t *book, size_t book_len,
  * where an output is among `outputs` (coin list). The coins stand in `answer` as a coin list, rising by bytes and
  * without repeats, at most SUBMISSION_BOOK_INPUT_COINS_BYTES (4738); *count is its length in bytes.
  * Refusals: 2 `outputs` out of form. A refusal leaves *count. */
+SUBMISSION_BOOK_NODISCARD
 uint8_t submission_book_reconciliation_input_coins(const uint8_t *book, size_t book_len,
     const uint8_t *outputs, size_t outputs_len, uint8_t *answer, size_t answer_len, uint64_t *count);
 
@@ -364,6 +406,7 @@ uint8_t submission_book_reconciliation_input_coins(const uint8_t *book, size_t b
  * coin list, in retained and output order and with repeats, at most SUBMISSION_BOOK_ABSENT_OUTPUTS_BYTES (18946);
  * *count is its length in bytes.
  * Refusals: 2 `absent` out of form, or over 64 ids. A refusal leaves *count. */
+SUBMISSION_BOOK_NODISCARD
 uint8_t submission_book_absent_outputs_for_ids(const uint8_t *book, size_t book_len,
     const uint64_t *ids, size_t ids_len, const uint8_t *absent, size_t absent_len,
     uint8_t *answer, size_t answer_len, uint64_t *count);
@@ -373,6 +416,7 @@ uint8_t submission_book_absent_outputs_for_ids(const uint8_t *book, size_t book_
 /* The chain has fallen back to `height`: a replay begins, with no ids replayed in it.
  * Answer, 1 byte: 1; or 0 where a replay at this very height runs already, and nothing changed. No refusal but 1
  * and 12. */
+SUBMISSION_BOOK_NODISCARD
 uint8_t submission_book_begin_replay(uint8_t *book, size_t book_len, uint64_t height,
     uint8_t *answer, size_t answer_len);
 
@@ -380,16 +424,19 @@ uint8_t submission_book_begin_replay(uint8_t *book, size_t book_len, uint64_t he
  * submission_book_queue_retained_delivery), in retained order. Those that were not replayed before in this replay
  * are marked, and are Active and unacknowledged again first.
  * Refusals: 2 over 64 ids; 10 the queue would pass 16 entries. */
+SUBMISSION_BOOK_NODISCARD
 uint8_t submission_book_collect_rollback_replay_ids(uint8_t *book, size_t book_len,
     const uint64_t *ids, size_t ids_len);
 
 /* Ends the replay, and forgets its marks, if `height` is above the height at which it began. No refusal but 1 and
  * 12. */
+SUBMISSION_BOOK_NODISCARD
 uint8_t submission_book_finish_replay_if_advanced(uint8_t *book, size_t book_len, uint64_t height);
 
 /* The height of the running replay. Changes nothing.
  * Answer, at most SUBMISSION_BOOK_HEIGHT_BYTES (9): mark; if 1 the height (8) at which it began. No refusal but 1 and
  * 12. */
+SUBMISSION_BOOK_NODISCARD
 uint8_t submission_book_replay_rollback_height(uint8_t *book, size_t book_len, uint8_t *answer, size_t answer_len);
 
 #ifdef __cplusplus

@@ -11,7 +11,7 @@ static Row *current_row(Account *account, uint64_t id) {
     return NULL;
 }
 
-bool account_issued(Account *account, const DrainedSubmission *drained) {
+bool account_issued(Account *account, const submission_book_drained *drained) {
     Row *before = current_row(account, drained->id);
     size_t room = sizeof account->rows / sizeof account->rows[0];
     if (account->count == room || drained->token != account->opening_token + account->count) {

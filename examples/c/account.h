@@ -1,7 +1,7 @@
 /* What became of every token, kept from the answers of the calls alone. */
 #ifndef ACCOUNT_H
 #define ACCOUNT_H
-#include "wire.h"
+#include "coins.h"
 
 typedef enum { LIVE, SET_ASIDE, DISPLACED, STRUCK_OUT } Fate;
 
@@ -18,7 +18,7 @@ typedef struct {
 } Account;
 
 /* A drain issued a token; the predecessor, if any, is displaced by it. False where the token is not the next one. */
-bool account_issued(Account *account, const DrainedSubmission *drained);
+bool account_issued(Account *account, const submission_book_drained *drained);
 /* The live attempt of a submission, if any, is set aside. */
 void account_set_aside(Account *account, uint64_t id, const char *reason);
 /* The submission is gone, with its live or set-aside attempt. */

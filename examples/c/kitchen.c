@@ -6,14 +6,14 @@
 #include <stdlib.h>
 #include <string.h>
 #include "account.h"
-#include "sha256.h"
 
 enum { OPENING_TOKEN = 101, OPENING_ID = 1, SUBMISSIONS = 8 };
 
 typedef struct {
     const char *name;
     uint64_t amount; /* in cents, as every amount here */
-    Delivery delivery;
+    submission_book_delivery delivery;
+    submission_book_bundle fee; /* the wallet's own spend, where a fee is to be attached */
 } Payment;
 
 typedef struct {
@@ -33,26 +33,6 @@ static void expect(bool holds, const char *what) {
     }
 }
 
-static const char *meaning(uint8_t number) {
-    static const char *const meanings[] = {
-        "done",
-        "there is no book in these bytes",
-        "a list out of form",
-        "an argument that stands for no value",
-        "this token was never issued",
-        "this attempt was finalised before",
-        "this attempt is not finalised yet",
-        "the submission contradicts itself",
-        "another variant is current",
-        "a fee source where no fee is open",
-        "the book is full",
-        "no token is left",
-        "a buffer is too short",
-        "no archive",
-    };
-    return number < sizeof meanings / sizeof meanings[0] ? meanings[number] : "unknown";
-}
-
 /* One line for a call: what was asked, and the number it answered. */
 static void told(Planner *p, uint8_t said, uint8_t wanted, const char *format, ...) {
     va_list arguments;
@@ -63,7 +43,7 @@ static void told(Planner *p, uint8_t said, uint8_t wanted, const char *format, .
     if (said == 0) {
         puts(": done");
     } else {
-        printf(": REFUSED %u, %s\n", said, meaning(said));
+        printf(": REFUSED %u, %s\n", said, submission_book_refusal_text(said));
     }
     expect(said == wanted, "the number that the call answers");
 }
@@ -72,7 +52,7 @@ static void chapter(const char *title) {
     printf("\n%s\n", title);
 }
 
-static void print_ids(const char *what, const IdList *list) {
+static void print_ids(const char *what, const submission_book_ids *list) {
     printf("       %s:", what);
     for (size_t i = 0; i < list->count; i++) {
         printf(" %" PRIu64, list->ids[i]);
@@ -80,7 +60,11 @@ static void print_ids(const char *what, const IdList *list) {
     puts(list->count == 0 ? " none" : "");
 }
 
-static void expect_ids(const IdList *list, const uint64_t *wanted, size_t count) {
+static void read_ids(const uint8_t *answer, size_t length, submission_book_ids *list) {
+    expect(submission_book_answer_ids(answer, length, list) == SUBMISSION_BOOK_DONE, "the form of a list of ids");
+}
+
+static void expect_ids(const submission_book_ids *list, const uint64_t *wanted, size_t count) {
     expect(list->count == count, "how many ids are answered");
     for (size_t i = 0; i < count; i++) {
         expect(list->ids[i] == wanted[i], "an id that is answered");
@@ -88,60 +72,51 @@ static void expect_ids(const IdList *list, const uint64_t *wanted, size_t count)
 }
 
 /* ---- sample data */
-static void sample_hash(const char *label, const char *name, uint8_t hash[32]) {
+static submission_book_hash sample_hash(const char *label, const char *name) {
     char text[128];
     int length = snprintf(text, sizeof text, "%s %s", label, name);
     expect(length > 0 && (size_t)length < sizeof text, "a label of sample data");
-    sha256((const uint8_t *)text, (size_t)length, hash);
+    return hash_of((const uint8_t *)text, (size_t)length);
 }
 
-/* A spend of a coin of the customer's: `amount` to the receiver, the rest back. */
-static CoinSpend sample_spend(const char *name, const char *receiver, uint64_t coin_amount, uint64_t amount) {
-    CoinSpend spend = {.readable = true};
-    uint8_t parent[32], customer[32];
-    sample_hash("coin for the", name, parent);
-    sample_hash("puzzle of the", "customer", customer);
-    spend.coin = coin_from_parts(parent, customer, coin_amount);
-    sample_hash("puzzle, solution and signature of the", name, spend.digest);
-    if (amount > 0) {
-        sample_hash("puzzle of the", receiver, spend.outputs[spend.output_count].puzzle_hash);
-        spend.outputs[spend.output_count++].amount = amount;
+static void add_output(submission_book_spend *spend, const char *receiver, uint64_t amount) {
+    submission_book_output *output = &spend->outputs[spend->output_count++];
+    output->puzzle_hash = sample_hash("puzzle of the", receiver);
+    output->amount = amount;
+}
+
+/* A spend of a coin of the customer's, who gets `back` of it; the rest goes to the receiver, or with nobody named is a fee. */
+static submission_book_spend sample_spend(const char *name, const char *receiver, uint64_t coin_amount, uint64_t back) {
+    submission_book_spend spend = {.readable = true};
+    spend.coin = submission_book_coin_from_parts(sample_hash("coin for the", name), sample_hash("puzzle of the", "customer"), coin_amount);
+    spend.digest = sample_hash("puzzle, solution and signature of the", name);
+    if (receiver != NULL) {
+        add_output(&spend, receiver, coin_amount - back);
     }
-    if (coin_amount > amount) {
-        memcpy(spend.outputs[spend.output_count].puzzle_hash, customer, 32);
-        spend.outputs[spend.output_count++].amount = coin_amount - amount;
+    if (back > 0) {
+        add_output(&spend, "customer", back);
     }
     return spend;
 }
 
-static void coin_id_of(const CoinString *coin, uint8_t id[32]) {
-    sha256(coin->bytes, coin->length, id);
-}
-
 static Payment sample_payment(const char *name, uint64_t amount, uint64_t coin_amount, uint64_t fee) {
     Payment payment = {.name = name, .amount = amount};
-    Delivery *delivery = &payment.delivery;
+    submission_book_delivery *delivery = &payment.delivery;
+    char fee_name[96];
     delivery->bundle.spend_count = 1;
-    delivery->bundle.spends[0] = sample_spend(name, "kitchen firm", coin_amount, amount);
-    delivery->fee_intent.kind = fee > 0 ? SUBMISSION_BOOK_FEE_ATTACH : SUBMISSION_BOOK_FEE_NONE_CONFIGURED;
-    if (fee > 0) {
-        coin_id_of(&delivery->bundle.spends[0].coin, delivery->fee_intent.target);
-        delivery->fee_intent.amount = fee;
-    }
+    delivery->bundle.spends[0] = sample_spend(name, "kitchen firm", coin_amount, coin_amount - amount);
+    delivery->fee_intent.kind = SUBMISSION_BOOK_FEE_NONE_CONFIGURED;
     delivery->trigger = SUBMISSION_BOOK_TRIGGER_PROTOCOL;
     delivery->goal = SUBMISSION_BOOK_GOAL_ENSURE_BROADCAST;
+    if (fee > 0) {
+        delivery->fee_intent.kind = SUBMISSION_BOOK_FEE_ATTACH;
+        delivery->fee_intent.target = coin_id_of(&delivery->bundle.spends[0].coin);
+        delivery->fee_intent.amount = fee;
+        snprintf(fee_name, sizeof fee_name, "fee of the %s", name);
+        payment.fee.spend_count = 1;
+        payment.fee.spends[0] = sample_spend(fee_name, NULL, 100, 100 - fee);
+    }
     return payment;
-}
-
-/* The payment's bundle with the wallet's fee spend behind it: what leaves the fee coin is the fee less than what comes in. */
-static SpendBundle join_fee(const Payment *payment) {
-    SpendBundle joined = payment->delivery.bundle;
-    char name[96];
-    snprintf(name, sizeof name, "fee of the %s", payment->name);
-    CoinSpend spend = sample_spend(name, "nobody", 100, 0);
-    spend.outputs[0].amount = 100 - payment->delivery.fee_intent.amount;
-    joined.spends[joined.spend_count++] = spend;
-    return joined;
 }
 
 /* ---- calls */
@@ -153,8 +128,10 @@ static void open_book(Planner *p) {
 
 static void queue_payment(Planner *p, const Payment *payment) {
     uint8_t bytes[SUBMISSION_BOOK_DELIVERY_BYTES];
-    size_t length = write_delivery(bytes, &payment->delivery);
-    uint8_t said = submission_book_queue(p->book, sizeof p->book, bytes, length);
+    size_t length = 0;
+    uint8_t said = submission_book_build_delivery(&payment->delivery, bytes, sizeof bytes, &length);
+    expect(said == SUBMISSION_BOOK_DONE, "the form of a delivery");
+    said = submission_book_queue(p->book, sizeof p->book, bytes, length);
     told(p, said, 0, "queue the %s, %" PRIu64 ".%02" PRIu64 ", fee %s", payment->name, payment->amount / 100, payment->amount % 100,
          payment->delivery.fee_intent.kind == SUBMISSION_BOOK_FEE_ATTACH ? "to be attached" : "none");
     if (payment->delivery.expiry.present) {
@@ -163,7 +140,7 @@ static void queue_payment(Planner *p, const Payment *payment) {
     p->queued = payment;
 }
 
-static void print_drained(const DrainedSubmission *drained) {
+static void print_drained(const submission_book_drained *drained) {
     static const char *const relationships[] = {"initial", "exact", "newer, fee-bearing", "other"};
     printf("       submission %" PRIu64 " gets token %" PRIu64 ", ", drained->id, drained->token);
     if (drained->predecessor.present) {
@@ -181,10 +158,10 @@ static void print_drained(const DrainedSubmission *drained) {
 /* Drains a queue from which one submission is to be delivered, and answers its token. */
 static uint64_t drain_one(Planner *p, uint64_t id, uint8_t relationship) {
     static uint8_t answer[SUBMISSION_BOOK_DRAIN_BYTES];
-    static DrainResult result;
+    static submission_book_drain_result result;
     uint8_t said = submission_book_drain(p->book, sizeof p->book, answer, sizeof answer);
     told(p, said, 0, "drain the queue");
-    expect(read_drain(answer, sizeof answer, &result) != 0, "the form of a drain's answer");
+    expect(submission_book_answer_drain(answer, sizeof answer, &result) == SUBMISSION_BOOK_DONE, "the form of a drain's answer");
     for (size_t i = 0; i < result.submission_count; i++) {
         uint64_t drained = result.submissions[i].id;
         expect(drained < SUBMISSIONS, "at most seven submissions");
@@ -200,15 +177,26 @@ static uint64_t drain_one(Planner *p, uint64_t id, uint8_t relationship) {
     return result.submissions[0].token;
 }
 
-static void expect_bundle(const FinalizedSubmission *finalized, const SpendBundle *bundle) {
-    uint8_t got[SUBMISSION_BOOK_BUNDLE_BYTES], wanted[SUBMISSION_BOOK_BUNDLE_BYTES], fingerprint[32];
-    size_t length = write_bundle(wanted, bundle);
-    expect(write_bundle(got, &finalized->bundle) == length && memcmp(got, wanted, length) == 0, "the bundle to broadcast");
-    sha256(wanted, length, fingerprint);
-    expect(memcmp(finalized->variant_fingerprint, fingerprint, 32) == 0, "the fingerprint of the bundle to broadcast");
+/* The bytes of a payment's bundle, with the wallet's fee joined to it or without. */
+static size_t bundle_bytes(const Payment *payment, bool with_fee, uint8_t *bytes, size_t room) {
+    const submission_book_bundle *base = &payment->delivery.bundle;
+    size_t length = 0;
+    uint8_t said = with_fee ? submission_book_build_joined_bundle(base, &payment->fee, bytes, room, &length)
+                            : submission_book_build_bundle(base, bytes, room, &length);
+    expect(said == SUBMISSION_BOOK_DONE, "the form of a bundle");
+    return length;
 }
 
-static const char *fee_words(const FinalizedSubmission *finalized) {
+static void expect_bundle(const submission_book_finalized *finalized, const uint8_t *wanted, size_t length) {
+    uint8_t got[SUBMISSION_BOOK_BUNDLE_BYTES];
+    size_t got_length = 0;
+    submission_book_hash fingerprint = hash_of(wanted, length);
+    expect(submission_book_build_bundle(&finalized->bundle, got, sizeof got, &got_length) == SUBMISSION_BOOK_DONE, "the form of a bundle");
+    expect(got_length == length && memcmp(got, wanted, length) == 0, "the bundle to broadcast");
+    expect(same_hash(&finalized->variant_fingerprint, &fingerprint), "the fingerprint of the bundle to broadcast");
+}
+
+static const char *fee_words(const submission_book_finalized *finalized) {
     static char words[64];
     const char *when = finalized->disposition == SUBMISSION_BOOK_DISPOSITION_ATTACHED ? "attached now" : "attached before";
     if (finalized->disposition == SUBMISSION_BOOK_DISPOSITION_UNUSED) {
@@ -221,61 +209,65 @@ static const char *fee_words(const FinalizedSubmission *finalized) {
     return words;
 }
 
-/* Finalises a live attempt. `bundle` is what must be broadcast; it is handed in where the fee was joined. */
-static void finalize(Planner *p, uint64_t token, uint8_t source, const SpendBundle *bundle, uint8_t disposition, uint64_t fee) {
+/* Finalises a live attempt. What must be broadcast is the payment's bundle, with its fee joined where one is paid. */
+static void finalize(Planner *p, uint64_t token, uint8_t source, const Payment *payment, uint8_t disposition, uint64_t fee) {
     static const char *const sources[] = {"the wallet is asked for no fee", "the wallet's fee is joined", "the join failed", "the wallet has no fee coin"};
-    uint8_t joined[SUBMISSION_BOOK_BUNDLE_BYTES], answer[SUBMISSION_BOOK_FINALIZED_BYTES];
-    static FinalizedSubmission finalized;
-    size_t length = source == SUBMISSION_BOOK_SOURCE_JOINED ? write_bundle(joined, bundle) : 0;
-    uint8_t said = submission_book_finalize_attempt(p->book, sizeof p->book, token, source, joined, length, answer, sizeof answer);
+    uint8_t bundle[SUBMISSION_BOOK_BUNDLE_BYTES], answer[SUBMISSION_BOOK_FINALIZED_BYTES];
+    static submission_book_finalized finalized;
+    size_t length = bundle_bytes(payment, fee > 0, bundle, sizeof bundle);
+    size_t joined_length = source == SUBMISSION_BOOK_SOURCE_JOINED ? length : 0;
+    uint8_t said = submission_book_finalize_attempt(p->book, sizeof p->book, token, source, bundle, joined_length, answer, sizeof answer);
     told(p, said, 0, "finalise attempt %" PRIu64 ", %s", token, sources[source]);
-    expect(read_finalized(answer, sizeof answer, &finalized) != 0 && finalized.present, "the form of a finalised submission");
+    said = submission_book_answer_finalized(answer, sizeof answer, &finalized);
+    expect(said == SUBMISSION_BOOK_DONE && finalized.present, "the form of a finalised submission");
     printf("       broadcast %zu spend%s, %s\n", finalized.bundle.spend_count, finalized.bundle.spend_count == 1 ? "" : "s",
            fee_words(&finalized));
-    expect_bundle(&finalized, bundle);
+    expect_bundle(&finalized, bundle, length);
     expect(finalized.disposition == disposition && finalized.applied_fee == fee, "what became of the fee");
     expect(finalized.warning == (disposition == SUBMISSION_BOOK_DISPOSITION_UNUSED), "the warning");
     expect(finalized.should_broadcast, "that the bundle is to be broadcast");
 }
 
-static void expect_status(uint8_t status, uint8_t wanted) {
+static void expect_status(const uint8_t *answer, uint8_t wanted) {
+    uint8_t status = 0;
+    expect(submission_book_answer_status(answer, SUBMISSION_BOOK_STATUS_BYTES, &status) == SUBMISSION_BOOK_DONE, "the form of a status");
     puts(status == SUBMISSION_BOOK_STATUS_APPLIED ? "       applied" : "       stale: the attempt is not live, and nothing changed");
     expect(status == wanted, "applied or stale");
 }
 
 static void acknowledge(Planner *p, uint64_t token, uint8_t wanted) {
-    uint8_t status = 255;
-    uint8_t said = submission_book_acknowledge_attempt(p->book, sizeof p->book, token, &status, 1);
+    uint8_t answer[SUBMISSION_BOOK_STATUS_BYTES];
+    uint8_t said = submission_book_acknowledge_attempt(p->book, sizeof p->book, token, answer, sizeof answer);
     told(p, said, 0, "acknowledge attempt %" PRIu64 ": the wallet has taken it", token);
-    expect_status(status, wanted);
-    if (status == SUBMISSION_BOOK_STATUS_APPLIED) {
+    expect_status(answer, wanted);
+    if (wanted == SUBMISSION_BOOK_STATUS_APPLIED) {
         account_set_aside(&p->account, account_id_of(&p->account, token), "acknowledged");
     }
 }
 
 static void stop(Planner *p, uint64_t token) {
-    uint8_t status = 255;
-    uint8_t said = submission_book_stop_attempt(p->book, sizeof p->book, token, &status, 1);
+    uint8_t answer[SUBMISSION_BOOK_STATUS_BYTES];
+    uint8_t said = submission_book_stop_attempt(p->book, sizeof p->book, token, answer, sizeof answer);
     told(p, said, 0, "stop attempt %" PRIu64 ": the wallet was closed", token);
-    expect_status(status, SUBMISSION_BOOK_STATUS_APPLIED);
+    expect_status(answer, SUBMISSION_BOOK_STATUS_APPLIED);
     account_set_aside(&p->account, account_id_of(&p->account, token), "stopped");
 }
 
 static void abandon(Planner *p, uint64_t token) {
-    uint8_t status = 255;
-    uint8_t said = submission_book_abandon_attempt(p->book, sizeof p->book, token, &status, 1);
+    uint8_t answer[SUBMISSION_BOOK_STATUS_BYTES];
+    uint8_t said = submission_book_abandon_attempt(p->book, sizeof p->book, token, answer, sizeof answer);
     told(p, said, 0, "abandon attempt %" PRIu64 ": the amount was wrong", token);
-    expect_status(status, SUBMISSION_BOOK_STATUS_APPLIED);
+    expect_status(answer, SUBMISSION_BOOK_STATUS_APPLIED);
     account_removed(&p->account, account_id_of(&p->account, token), "abandoned");
 }
 
 /* A report of the chain answers no ids. It retires those that it settles, and that is how the planner hears of an attempt that was set aside. */
 static void collect_retirements(Planner *p, const uint64_t *wanted, size_t count, const char *reason) {
     uint8_t answer[SUBMISSION_BOOK_IDS_BYTES];
-    IdList retired;
+    submission_book_ids retired;
     uint8_t said = submission_book_drain_retirements(p->book, sizeof p->book, answer, sizeof answer);
     told(p, said, 0, "collect the retired submissions");
-    expect(read_ids(answer, sizeof answer, &retired) != 0, "the form of a list of ids");
+    read_ids(answer, sizeof answer, &retired);
     print_ids("retired", &retired);
     expect_ids(&retired, wanted, count);
     for (size_t i = 0; i < retired.count; i++) {
@@ -284,16 +276,18 @@ static void collect_retirements(Planner *p, const uint64_t *wanted, size_t count
 }
 
 /* The chain shows the outputs of these payments; a reorganisation says which submissions it has undone. */
-static void report_landed(Planner *p, const Payment *const *landed, size_t count, bool reorg, const IdList *undone) {
-    CoinString coins[4] = {{{0}, 0}};
+static void report_landed(Planner *p, const Payment *const *landed, size_t count, bool reorg, const submission_book_ids *undone) {
+    submission_book_coin coins[4];
     uint8_t observed[2 + 4 * (1 + SUBMISSION_BOOK_COIN_BYTES)];
+    size_t length = 0;
     expect(count <= 4, "at most four payments in a report");
     for (size_t i = 0; i < count; i++) {
         coins[i] = output_coin(&landed[i]->delivery.bundle.spends[0], 0);
     }
-    size_t length = write_coin_list(observed, coins, count);
-    uint8_t said = submission_book_reconcile_chain_terminality(p->book, sizeof p->book, observed, length, NULL, 0, reorg ? 1 : 0,
-                                                               undone->ids, undone->count);
+    uint8_t said = submission_book_build_coin_list(coins, count, observed, sizeof observed, &length);
+    expect(said == SUBMISSION_BOOK_DONE, "the form of a coin list");
+    said = submission_book_reconcile_chain_terminality(p->book, sizeof p->book, observed, length, NULL, 0, reorg ? 1 : 0, undone->ids,
+                                                       undone->count);
     told(p, said, 0, "report of the chain%s: %zu payment%s observed, %zu undone", reorg ? " after a reorganisation" : "", count,
          count == 1 ? "" : "s", undone->count);
 }
@@ -303,75 +297,89 @@ static void deposit(Planner *p, const Payment *payment) {
     chapter("The deposit");
     queue_payment(p, payment);
     uint64_t token = drain_one(p, 1, SUBMISSION_BOOK_RELATIONSHIP_INITIAL);
-    finalize(p, token, SUBMISSION_BOOK_SOURCE_NOT_REQUESTED, &payment->delivery.bundle, SUBMISSION_BOOK_DISPOSITION_NOT_REQUESTED, 0);
+    finalize(p, token, SUBMISSION_BOOK_SOURCE_NOT_REQUESTED, payment, SUBMISSION_BOOK_DISPOSITION_NOT_REQUESTED, 0);
     acknowledge(p, token, SUBMISSION_BOOK_STATUS_APPLIED);
 }
 
-static void delivery(Planner *p, const Payment *payment, const SpendBundle *joined) {
+static void delivery(Planner *p, const Payment *payment) {
     chapter("The delivery, with a fee");
     queue_payment(p, payment);
     uint64_t token = drain_one(p, 2, SUBMISSION_BOOK_RELATIONSHIP_INITIAL);
-    finalize(p, token, SUBMISSION_BOOK_SOURCE_JOINED, joined, SUBMISSION_BOOK_DISPOSITION_ATTACHED, payment->delivery.fee_intent.amount);
+    finalize(p, token, SUBMISSION_BOOK_SOURCE_JOINED, payment, SUBMISSION_BOOK_DISPOSITION_ATTACHED, payment->delivery.fee_intent.amount);
     acknowledge(p, token, SUBMISSION_BOOK_STATUS_APPLIED);
 }
 
-/* Which submissions the new chain has undone: the output of the payment is absent, and its coin can be spent again. */
-static void find_undone(Planner *p, const Payment *payment, IdList *undone) {
-    uint8_t absent[2 + 1 + SUBMISSION_BOOK_COIN_BYTES], input[32], answer[SUBMISSION_BOOK_IDS_BYTES];
-    uint8_t outputs[SUBMISSION_BOOK_ABSENT_OUTPUTS_BYTES];
-    uint64_t count = 0;
-    CoinString coin = output_coin(&payment->delivery.bundle.spends[0], 0);
-    size_t length = write_coin_list(absent, &coin, 1);
-    coin_id_of(&payment->delivery.bundle.spends[0].coin, input);
-    uint8_t said = submission_book_causally_rolled_back_ids(p->book, sizeof p->book, absent, length, input, 32, answer, sizeof answer);
-    told(p, said, 0, "which submissions are undone: the %s's output is absent, its coin unspent", payment->name);
-    expect(read_ids(answer, sizeof answer, undone) != 0, "the form of a list of ids");
-    print_ids("undone", undone);
-    expect_ids(undone, (const uint64_t[]){2}, 1);
-    said = submission_book_absent_outputs_for_ids(p->book, sizeof p->book, undone->ids, undone->count, absent, length, outputs, sizeof outputs,
-                                                  &count);
+/* Which outputs of the undone submissions are among the absent coins. */
+static void find_absent(Planner *p, const submission_book_ids *undone, const uint8_t *absent, size_t absent_length) {
+    static uint8_t answer[SUBMISSION_BOOK_ABSENT_OUTPUTS_BYTES];
+    static submission_book_coins outputs;
+    uint64_t length = 0;
+    uint8_t said = submission_book_absent_outputs_for_ids(p->book, sizeof p->book, undone->ids, undone->count, absent, absent_length, answer,
+                                                          sizeof answer, &length);
     told(p, said, 0, "which of their outputs are absent");
-    printf("       coins: %d\n", outputs[0] << 8 | outputs[1]);
-    expect(count == length && memcmp(outputs, absent, length) == 0, "the absent outputs");
+    expect(submission_book_answer_coins(answer, (size_t)length, &outputs) == SUBMISSION_BOOK_DONE, "the form of a coin list");
+    printf("       coins: %zu\n", outputs.count);
+    expect(length == absent_length && memcmp(answer, absent, absent_length) == 0, "the absent outputs");
 }
 
-static void begin_replay(Planner *p, uint64_t height, uint8_t wanted) {
-    uint8_t began = 255;
-    uint8_t said = submission_book_begin_replay(p->book, sizeof p->book, height, &began, 1);
+/* Which submissions the new chain has undone: the output of the payment is absent, and its coin can be spent again. */
+static void find_undone(Planner *p, const Payment *payment, submission_book_ids *undone) {
+    uint8_t absent[2 + 1 + SUBMISSION_BOOK_COIN_BYTES], inputs[SUBMISSION_BOOK_COIN_ID_BYTES], answer[SUBMISSION_BOOK_IDS_BYTES];
+    const submission_book_spend *spend = &payment->delivery.bundle.spends[0];
+    submission_book_coin output = output_coin(spend, 0);
+    submission_book_hash input = coin_id_of(&spend->coin);
+    size_t absent_length = 0, inputs_length = 0;
+    expect(submission_book_build_coin_list(&output, 1, absent, sizeof absent, &absent_length) == SUBMISSION_BOOK_DONE, "the form of a coin list");
+    expect(submission_book_build_coin_ids(&input, 1, inputs, sizeof inputs, &inputs_length) == SUBMISSION_BOOK_DONE, "the form of coin ids");
+    uint8_t said = submission_book_causally_rolled_back_ids(p->book, sizeof p->book, absent, absent_length, inputs, inputs_length, answer, sizeof answer);
+    told(p, said, 0, "which submissions are undone: the %s's output is absent, its coin unspent", payment->name);
+    read_ids(answer, sizeof answer, undone);
+    print_ids("undone", undone);
+    expect_ids(undone, (const uint64_t[]){2}, 1);
+    find_absent(p, undone, absent, absent_length);
+}
+
+static void begin_replay(Planner *p, uint64_t height, bool wanted) {
+    uint8_t answer[SUBMISSION_BOOK_FLAG_BYTES];
+    bool began = false;
+    uint8_t said = submission_book_begin_replay(p->book, sizeof p->book, height, answer, sizeof answer);
     told(p, said, 0, "begin the replay at height %" PRIu64, height);
-    puts(began == 1 ? "       begun" : "       it runs already");
+    expect(submission_book_answer_flag(answer, sizeof answer, &began) == SUBMISSION_BOOK_DONE, "the form of a flag");
+    puts(began ? "       begun" : "       it runs already");
     expect(began == wanted, "whether the replay began");
 }
 
 static void finish_replay(Planner *p, uint64_t height, bool over) {
     uint8_t answer[SUBMISSION_BOOK_HEIGHT_BYTES];
+    submission_book_optional replay;
     uint8_t said = submission_book_finish_replay_if_advanced(p->book, sizeof p->book, height);
     told(p, said, 0, "finish the replay if height %" PRIu64 " is beyond it", height);
     said = submission_book_replay_rollback_height(p->book, sizeof p->book, answer, sizeof answer);
     told(p, said, 0, "ask for the height of the replay");
-    if (answer[0] == 1) {
-        printf("       %" PRIu64 "\n", number_at(answer + 1));
+    expect(submission_book_answer_height(answer, sizeof answer, &replay) == SUBMISSION_BOOK_DONE, "the form of a height");
+    if (replay.present) {
+        printf("       %" PRIu64 "\n", replay.value);
     } else {
         puts("       none: the replay is over");
     }
-    expect(answer[0] == (over ? 0 : 1), "whether the replay is over");
+    expect(replay.present == !over, "whether the replay is over");
 }
 
-static void reorganisation(Planner *p, const Payment *paid, const Payment *undone, const SpendBundle *joined) {
-    static const IdList none;
+static void reorganisation(Planner *p, const Payment *paid, const Payment *undone) {
+    static const submission_book_ids none;
     const Payment *both[] = {paid, undone};
-    IdList ids;
+    submission_book_ids ids;
     chapter("Both payments land; then a reorganisation undoes the delivery");
     report_landed(p, both, 2, false, &none);
     collect_retirements(p, (const uint64_t[]){1, 2}, 2, "settled by the chain");
     find_undone(p, undone, &ids);
     report_landed(p, both, 1, true, &ids);
-    begin_replay(p, 5200, 1);
-    begin_replay(p, 5200, 0);
+    begin_replay(p, 5200, true);
+    begin_replay(p, 5200, false);
     uint8_t said = submission_book_collect_rollback_replay_ids(p->book, sizeof p->book, ids.ids, ids.count);
     told(p, said, 0, "offer what was undone for delivery again");
     uint64_t token = drain_one(p, 2, SUBMISSION_BOOK_RELATIONSHIP_EXACT);
-    finalize(p, token, SUBMISSION_BOOK_SOURCE_NOT_REQUESTED, joined, SUBMISSION_BOOK_DISPOSITION_NOT_REQUESTED, 25);
+    finalize(p, token, SUBMISSION_BOOK_SOURCE_NOT_REQUESTED, undone, SUBMISSION_BOOK_DISPOSITION_NOT_REQUESTED, 25);
     finish_replay(p, 5200, false);
     finish_replay(p, 5201, true);
     report_landed(p, both, 2, false, &none);
@@ -379,18 +387,18 @@ static void reorganisation(Planner *p, const Payment *paid, const Payment *undon
     acknowledge(p, token, SUBMISSION_BOOK_STATUS_STALE);
 }
 
-static void fitting(Planner *p, const Payment *payment, const SpendBundle *joined) {
+static void fitting(Planner *p, const Payment *payment) {
     uint64_t fee = payment->delivery.fee_intent.amount;
     chapter("The fitting: the fee comes later, as a fee upgrade");
     queue_payment(p, payment);
     uint64_t first = drain_one(p, 3, SUBMISSION_BOOK_RELATIONSHIP_INITIAL);
-    finalize(p, first, SUBMISSION_BOOK_SOURCE_FAILED, &payment->delivery.bundle, SUBMISSION_BOOK_DISPOSITION_UNUSED, 0);
+    finalize(p, first, SUBMISSION_BOOK_SOURCE_FAILED, payment, SUBMISSION_BOOK_DISPOSITION_UNUSED, 0);
     acknowledge(p, first, SUBMISSION_BOOK_STATUS_APPLIED);
     uint8_t said = submission_book_queue_retained_delivery(p->book, sizeof p->book, 3, SUBMISSION_BOOK_TRIGGER_PROVIDER_READINESS,
                                                            SUBMISSION_BOOK_GOAL_FEE_UPGRADE);
     told(p, said, 0, "queue submission 3 again for a fee upgrade: the wallet is ready");
     uint64_t second = drain_one(p, 3, SUBMISSION_BOOK_RELATIONSHIP_NEWER_FEE_BEARING);
-    finalize(p, second, SUBMISSION_BOOK_SOURCE_JOINED, joined, SUBMISSION_BOOK_DISPOSITION_ATTACHED, fee);
+    finalize(p, second, SUBMISSION_BOOK_SOURCE_JOINED, payment, SUBMISSION_BOOK_DISPOSITION_ATTACHED, fee);
     acknowledge(p, second, SUBMISSION_BOOK_STATUS_APPLIED);
 }
 
@@ -416,16 +424,16 @@ static void final_payment(Planner *p, const Payment *wrong, const Payment *right
     queue_payment(p, right);
     uint64_t token = drain_one(p, 5, SUBMISSION_BOOK_RELATIONSHIP_INITIAL);
     refusals(p, token);
-    finalize(p, token, SUBMISSION_BOOK_SOURCE_NOT_REQUESTED, &right->delivery.bundle, SUBMISSION_BOOK_DISPOSITION_NOT_REQUESTED, 0);
+    finalize(p, token, SUBMISSION_BOOK_SOURCE_NOT_REQUESTED, right, SUBMISSION_BOOK_DISPOSITION_NOT_REQUESTED, 0);
     acknowledge(p, token, SUBMISSION_BOOK_STATUS_APPLIED);
 }
 
 static void withdraw(Planner *p, uint64_t id) {
     uint8_t answer[SUBMISSION_BOOK_IDS_BYTES];
-    IdList removed;
+    submission_book_ids removed;
     uint8_t said = submission_book_retain_submitted(p->book, sizeof p->book, &id, 1, answer, sizeof answer);
     told(p, said, 0, "remove submission %" PRIu64 ": the customer does not want it", id);
-    expect(read_ids(answer, sizeof answer, &removed) != 0, "the form of a list of ids");
+    read_ids(answer, sizeof answer, &removed);
     print_ids("removed", &removed);
     expect_ids(&removed, &id, 1);
     for (size_t i = 0; i < removed.count; i++) {
@@ -435,7 +443,7 @@ static void withdraw(Planner *p, uint64_t id) {
 
 static void extras(Planner *p, const Payment *sockets, const Payment *lights, const Payment *handles) {
     uint8_t answer[SUBMISSION_BOOK_IDS_BYTES];
-    IdList active;
+    submission_book_ids active;
     chapter("Extras: one is removed, one is under way, one is queued");
     queue_payment(p, sockets);
     drain_one(p, 6, SUBMISSION_BOOK_RELATIONSHIP_INITIAL);
@@ -444,7 +452,7 @@ static void extras(Planner *p, const Payment *sockets, const Payment *lights, co
     stop(p, drain_one(p, 7, SUBMISSION_BOOK_RELATIONSHIP_INITIAL));
     uint8_t said = submission_book_active_ids(p->book, sizeof p->book, answer, sizeof answer);
     told(p, said, 0, "ask for the active submissions");
-    expect(read_ids(answer, sizeof answer, &active) != 0, "the form of a list of ids");
+    read_ids(answer, sizeof answer, &active);
     print_ids("active", &active);
     expect_ids(&active, (const uint64_t[]){3, 5, 7}, 3);
     said = submission_book_queue_rebroadcast_epoch(p->book, sizeof p->book, active.ids, active.count, SUBMISSION_BOOK_TRIGGER_FRESH_CHAIN);
@@ -455,10 +463,13 @@ static void extras(Planner *p, const Payment *sockets, const Payment *lights, co
 
 /* ---- the account, held against the book */
 static void compare_row(Planner *p, const Row *row) {
-    uint8_t attempt[SUBMISSION_BOOK_ATTEMPT_BYTES], status = 255;
-    expect(submission_book_attempt(p->book, sizeof p->book, row->token, attempt, sizeof attempt) == 0, "the look at an attempt");
-    expect(submission_book_relinquish_completed_attempt(p->book, sizeof p->book, row->token, &status, 1) == 0, "the look at a set-aside attempt");
-    expect((attempt[0] == 1) == (row->fate == LIVE), "which tokens are live");
+    uint8_t answer[SUBMISSION_BOOK_ATTEMPT_BYTES], status = 0;
+    submission_book_live_attempt attempt;
+    expect(submission_book_attempt(p->book, sizeof p->book, row->token, answer, sizeof answer) == 0, "the look at an attempt");
+    expect(submission_book_answer_attempt(answer, sizeof answer, &attempt) == 0, "the form of an attempt");
+    expect(attempt.present == (row->fate == LIVE), "which tokens are live");
+    expect(submission_book_relinquish_completed_attempt(p->book, sizeof p->book, row->token, answer, sizeof answer) == 0, "the look at a set-aside attempt");
+    expect(submission_book_answer_status(answer, sizeof answer, &status) == 0, "the form of a status");
     expect((status == SUBMISSION_BOOK_STATUS_APPLIED) == (row->fate == SET_ASIDE), "which tokens are set aside");
 }
 
@@ -537,9 +548,7 @@ int main(int argc, char **argv) {
     Payment sockets = sample_payment("worktop sockets", 18000, 20000, 0);
     Payment lights = sample_payment("cupboard lights", 32000, 32000, 25);
     Payment handles = sample_payment("drawer handles", 9500, 10000, 0);
-    SpendBundle second_joined = join_fee(&second), third_joined = join_fee(&third);
-
-    third.delivery.expiry = (OptionalNumber){true, 9000};
+    third.delivery.expiry = (submission_book_optional){true, 9000};
 
     puts("A sample kitchen: its payments, and what became of each attempt to deliver them\n"
          "\n"
@@ -549,9 +558,9 @@ int main(int argc, char **argv) {
          "after all, and then it is delivered again (replay). All names and amounts are made up.\n");
     open_book(&planner);
     deposit(&planner, &first);
-    delivery(&planner, &second, &second_joined);
-    reorganisation(&planner, &first, &second, &second_joined);
-    fitting(&planner, &third, &third_joined);
+    delivery(&planner, &second);
+    reorganisation(&planner, &first, &second);
+    fitting(&planner, &third);
     final_payment(&planner, &wrong, &right);
     extras(&planner, &sockets, &lights, &handles);
     keep_archive(&planner, argv[1]);

@@ -8,42 +8,38 @@
 #include "expect.h"
 #include "sample.h"
 
-enum { ROOM = 1 << 16, PAGE = 4096, FILL = 0xa5, OTHER_FILL = 0x5a, NUMBER = 99 };
+enum { ROOM = ROOM_BYTES, PAGE = 4096, FILL = 0xa5, OTHER_FILL = 0x5a, NUMBER = 99 };
 
-typedef struct {
-    uint8_t *end;
-} Guarded;
-
-static Guarded guarded(void) {
+uint8_t *guarded_end(void) {
     uint8_t *start = mmap(NULL, ROOM + PAGE, PROT_READ | PROT_WRITE, MAP_PRIVATE | MAP_ANONYMOUS, -1, 0);
     if (start == MAP_FAILED || mprotect(start + ROOM, PAGE, PROT_NONE) != 0) {
         fputs("no memory\n", stderr);
         exit(1);
     }
-    return (Guarded){start + ROOM};
+    return start + ROOM;
 }
 
-static Guarded book_memory, answer_memory;
+static uint8_t *book_end, *answer_end;
 static uint8_t start_book[SUBMISSION_BOOK_BYTES];
 static uint8_t book_before[ROOM], answer_before[ROOM];
 
 /* Lends `book_len` bytes that begin as the sample book does, and an answer of `answer_len` bytes. */
 static Lent lend(size_t book_len, size_t answer_len, uint8_t fill) {
-    Lent l = {book_memory.end - book_len, book_len, answer_memory.end - answer_len, answer_len, NUMBER};
-    memset(book_memory.end - ROOM, FILL, ROOM);
-    memset(answer_memory.end - ROOM, fill, ROOM);
+    Lent l = {book_end - book_len, book_len, answer_end - answer_len, answer_len, NUMBER};
+    memset(book_end - ROOM, FILL, ROOM);
+    memset(answer_end - ROOM, fill, ROOM);
     memcpy(l.book, start_book, book_len < sizeof start_book ? book_len : sizeof start_book);
-    memcpy(book_before, book_memory.end - ROOM, ROOM);
-    memcpy(answer_before, answer_memory.end - ROOM, ROOM);
+    memcpy(book_before, book_end - ROOM, ROOM);
+    memcpy(answer_before, answer_end - ROOM, ROOM);
     return l;
 }
 
 static bool book_left(void) {
-    return memcmp(book_before, book_memory.end - ROOM, ROOM) == 0;
+    return memcmp(book_before, book_end - ROOM, ROOM) == 0;
 }
 
 static bool answer_left(void) {
-    return memcmp(answer_before, answer_memory.end - ROOM, ROOM) == 0;
+    return memcmp(answer_before, answer_end - ROOM, ROOM) == 0;
 }
 
 static void refused(const SampleCall *c, const char *what, Lent l, uint8_t number) {
@@ -66,7 +62,7 @@ static size_t answer_length(const SampleCall *c) {
         length--;
     }
     expect_for(c->name, "same answer", memcmp(first, l.answer, length) == 0, true);
-    expect_for(c->name, "bytes in front", memcmp(answer_before, answer_memory.end - ROOM, ROOM - sizeof first) == 0, true);
+    expect_for(c->name, "bytes in front", memcmp(answer_before, answer_end - ROOM, ROOM - sizeof first) == 0, true);
     return length;
 }
 
@@ -111,7 +107,7 @@ static void short_books(const SampleCall *c) {
     l = lend(ROOM, SUBMISSION_BOOK_ARCHIVE_BYTES, FILL);
     expect_for(c->name, "a longer buffer", c->call(&l), 0);
     size_t tail = ROOM - after;
-    expect_for(c->name, "bytes behind the book", memcmp(book_before + ROOM - tail, book_memory.end - tail, tail) == 0, true);
+    expect_for(c->name, "bytes behind the book", memcmp(book_before + ROOM - tail, book_end - tail, tail) == 0, true);
 }
 
 /* Length 0 with NULL, for the book and for the answer. */
@@ -138,18 +134,18 @@ static void damaged_books(const SampleCall *c) {
     for (size_t i = 0; i < 8; i++) {
         Lent l = lend(SUBMISSION_BOOK_BYTES, SUBMISSION_BOOK_ARCHIVE_BYTES, FILL);
         l.book[i] = 0xff;
-        memcpy(book_before, book_memory.end - ROOM, ROOM);
+        memcpy(book_before, book_end - ROOM, ROOM);
         refused(c, "length out of range", l, 1);
     }
     Lent l = lend(SUBMISSION_BOOK_BYTES, SUBMISSION_BOOK_ARCHIVE_BYTES, FILL);
     l.book[8] = 3;
-    memcpy(book_before, book_memory.end - ROOM, ROOM);
+    memcpy(book_before, book_end - ROOM, ROOM);
     refused(c, "count of numbers", l, 1);
 }
 
 void test_buffers(void) {
-    book_memory = guarded();
-    answer_memory = guarded();
+    book_end = guarded_end();
+    answer_end = guarded_end();
     expect("sample book", sample_book(start_book), true);
     for (size_t i = 0; i < CALL_COUNT; i++) {
         short_answers(&sample_calls[i]);

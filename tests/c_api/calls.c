@@ -1,12 +1,9 @@
-/* Calls through the C boundary, with what each must answer. Build, at the root of the repository:
- * cc -std=c11 -I include -I examples/c tests/c_api/calls.c tests/c_api/buffers.c tests/c_api/sample.c examples/c/wire.c examples/c/sha256.c \
- *     target/lib/libsubmission_book.a */
+/* Calls through the C boundary, with what each must answer. The Makefile has the command. */
 #include <inttypes.h>
 #include <stdio.h>
 #include <string.h>
 #include "expect.h"
 #include "sample.h"
-#include "sha256.h"
 
 static unsigned held, failed;
 
@@ -24,10 +21,9 @@ void expect(const char *what, uint64_t got, uint64_t wanted) {
 
 enum { LEN = SUBMISSION_BOOK_BYTES, ROOM = SUBMISSION_BOOK_ARCHIVE_BYTES };
 static uint8_t book[LEN], before[LEN], answer[ROOM], answer_before[ROOM];
-static DrainResult drained;
-static size_t drained_bytes;
-static FinalizedSubmission finalized;
-static IdList ids;
+static submission_book_drain_result drained;
+static submission_book_finalized finalized;
+static submission_book_ids ids;
 
 /* The bytes before a call that is to be refused, and that they are the same behind it. */
 static void keep(void) {
@@ -44,58 +40,79 @@ static void refused(const char *what, uint8_t said, uint8_t number) {
 
 static void drain(size_t submissions, size_t failures) {
     expect("drain", submission_book_drain(book, LEN, answer, ROOM), 0);
-    drained_bytes = read_drain(answer, ROOM, &drained);
-    expect("form of the drain's answer", drained_bytes != 0, true);
+    expect("form of the drain's answer", submission_book_answer_drain(answer, ROOM, &drained), 0);
     expect("drained submissions", drained.submission_count, submissions);
     expect("failures", drained.failure_count, failures);
 }
 
-static void finalize(uint64_t token, uint8_t source, const SpendBundle *joined) {
+static void finalize(uint64_t token, uint8_t source, const submission_book_bundle *joined) {
     uint8_t bytes[SUBMISSION_BOOK_BUNDLE_BYTES];
-    size_t length = joined == NULL ? 0 : write_bundle(bytes, joined);
+    size_t length = joined == NULL ? 0 : bundle_bytes(bytes, joined);
     expect("finalize", submission_book_finalize_attempt(book, LEN, token, source, bytes, length, answer, ROOM), 0);
-    expect("form of the finalised submission", read_finalized(answer, ROOM, &finalized) != 0, true);
+    expect("form of the finalised submission", submission_book_answer_finalized(answer, ROOM, &finalized), 0);
 }
 
 static void expect_ids(const char *what, uint8_t said, size_t count, const uint64_t *wanted) {
     expect(what, said, 0);
-    expect_for(what, "form", read_ids(answer, ROOM, &ids) != 0, true);
+    expect_for(what, "form", submission_book_answer_ids(answer, ROOM, &ids), 0);
     expect_for(what, "count", ids.count, count);
     for (size_t i = 0; i < count && i < ids.count; i++) {
         expect_for(what, "id", ids.ids[i], wanted[i]);
     }
 }
 
-static void expect_bundle(const SpendBundle *got, const SpendBundle *wanted) {
+static void expect_bundle(const submission_book_bundle *got, const submission_book_bundle *wanted) {
     uint8_t a[SUBMISSION_BOOK_BUNDLE_BYTES], b[SUBMISSION_BOOK_BUNDLE_BYTES];
-    size_t n = write_bundle(a, got), m = write_bundle(b, wanted);
+    size_t n = bundle_bytes(a, got), m = bundle_bytes(b, wanted);
     expect("bundle", n == m && memcmp(a, b, n) == 0, true);
 }
 
-static bool is_fingerprint_of(const uint8_t fingerprint[32], const SpendBundle *bundle) {
-    uint8_t bytes[SUBMISSION_BOOK_BUNDLE_BYTES], digest[32];
-    sha256(bytes, write_bundle(bytes, bundle), digest);
-    return memcmp(digest, fingerprint, 32) == 0;
+static bool is_fingerprint_of(const submission_book_hash *fingerprint, const submission_book_bundle *bundle) {
+    uint8_t bytes[SUBMISSION_BOOK_BUNDLE_BYTES];
+    submission_book_hash digest = hash_of(bytes, bundle_bytes(bytes, bundle));
+    return same_hash(&digest, fingerprint);
+}
+
+/* An answer of one byte that says applied or stale. */
+static void expect_status(const char *what, uint8_t said, uint8_t wanted) {
+    uint8_t status = 0;
+    expect(what, said, 0);
+    expect_for(what, "form", submission_book_answer_status(answer, ROOM, &status), 0);
+    expect_for(what, "status", status, wanted);
+}
+
+static submission_book_live_attempt live_attempt(uint64_t token) {
+    submission_book_live_attempt attempt = {0};
+    expect("attempt", submission_book_attempt(book, LEN, token, answer, ROOM), 0);
+    expect("form of an attempt", submission_book_answer_attempt(answer, ROOM, &attempt), 0);
+    return attempt;
+}
+
+static submission_book_optional replay_height(void) {
+    submission_book_optional height = {false, 0};
+    expect("height", submission_book_replay_rollback_height(book, LEN, answer, ROOM), 0);
+    expect("form of a height", submission_book_answer_height(answer, ROOM, &height), 0);
+    return height;
+}
+
+static bool replay_begun(uint64_t height) {
+    bool begun = false;
+    expect("begin", submission_book_begin_replay(book, LEN, height, answer, ROOM), 0);
+    expect("form of a flag", submission_book_answer_flag(answer, ROOM, &begun), 0);
+    return begun;
 }
 
 /* ---- the helpers themselves */
 static void test_helpers(void) {
-    static const uint8_t abc[32] = {0xba, 0x78, 0x16, 0xbf, 0x8f, 0x01, 0xcf, 0xea, 0x41, 0x41, 0x40, 0xde, 0x5d, 0xae, 0x22, 0x23,
-                                    0xb0, 0x03, 0x61, 0xa3, 0x96, 0x17, 0x7a, 0x9c, 0xb4, 0x10, 0xff, 0x61, 0xf2, 0x00, 0x15, 0xad};
-    static const uint64_t amounts[] = {0, 127, 128, UINT64_MAX};
-    static const size_t lengths[] = {64, 65, 66, 73};
-    uint8_t digest[32], zeros[32] = {0};
-    sha256((const uint8_t *)"abc", 3, digest);
-    expect("SHA-256 of abc", memcmp(digest, abc, 32) == 0, true);
-    for (size_t i = 0; i < 4; i++) {
-        expect("length of a coin string", coin_from_parts(zeros, zeros, amounts[i]).length, lengths[i]);
-    }
-    expect("atom of 128", coin_from_parts(zeros, zeros, 128).bytes[65], 0x80);
+    static const submission_book_hash abc = {{0xba, 0x78, 0x16, 0xbf, 0x8f, 0x01, 0xcf, 0xea, 0x41, 0x41, 0x40, 0xde, 0x5d, 0xae, 0x22, 0x23,
+                                              0xb0, 0x03, 0x61, 0xa3, 0x96, 0x17, 0x7a, 0x9c, 0xb4, 0x10, 0xff, 0x61, 0xf2, 0x00, 0x15, 0xad}};
+    submission_book_hash digest = hash_of((const uint8_t *)"abc", 3);
+    expect("SHA-256 of abc", same_hash(&digest, &abc), true);
 }
 
 /* ---- a payment from the queue to the acknowledgement */
 static void test_payment(void) {
-    Delivery d = sample_delivery(1, 2, 2);
+    submission_book_delivery d = sample_delivery(1, 2, 2);
     expect("open", submission_book_open(book, LEN, 5, 1), 0);
     expect("length of an empty book", number_at(book), 22);
     expect("queue", queue_delivery(book, LEN, &d), 0);
@@ -113,30 +130,32 @@ static void test_payment(void) {
     finalize(5, SUBMISSION_BOOK_SOURCE_NOT_REQUESTED, NULL);
     expect("present", finalized.present, true);
     expect_bundle(&finalized.bundle, &d.bundle);
-    expect("fingerprint", is_fingerprint_of(finalized.variant_fingerprint, &d.bundle), true);
+    expect("fingerprint", is_fingerprint_of(&finalized.variant_fingerprint, &d.bundle), true);
     expect("disposition", finalized.disposition, SUBMISSION_BOOK_DISPOSITION_NOT_REQUESTED);
     expect("broadcast", finalized.should_broadcast, true);
     keep();
     refused("finalise twice", submission_book_finalize_attempt(book, LEN, 5, 0, NULL, 0, answer, ROOM), 5);
-    expect("acknowledge", submission_book_acknowledge_attempt(book, LEN, 5, answer, ROOM), 0);
-    expect("applied", answer[0], SUBMISSION_BOOK_STATUS_APPLIED);
-    expect("again", submission_book_acknowledge_attempt(book, LEN, 5, answer, ROOM), 0);
-    expect("stale", answer[0], SUBMISSION_BOOK_STATUS_STALE);
+    expect_status("acknowledge", submission_book_acknowledge_attempt(book, LEN, 5, answer, ROOM), SUBMISSION_BOOK_STATUS_APPLIED);
+    expect_status("again", submission_book_acknowledge_attempt(book, LEN, 5, answer, ROOM), SUBMISSION_BOOK_STATUS_STALE);
     finalize(5, SUBMISSION_BOOK_SOURCE_NOT_REQUESTED, NULL);
     expect("inactive", finalized.present, false);
 }
 
 /* ---- a fee that comes later */
 static void test_fee_upgrade(void) {
-    Delivery d = sample_delivery_with_fee(1, 1, 1);
-    SpendBundle joined = sample_delivery(1, 3, 1).bundle;
+    submission_book_delivery d = sample_delivery_with_fee(1, 1, 1);
+    submission_book_bundle joined = sample_delivery(1, 3, 1).bundle;
+    submission_book_optional_fee fee = {0};
     expect("open", submission_book_open(book, LEN, 5, 1), 0);
     expect("queue", queue_delivery(book, LEN, &d), 0);
     drain(1, 0);
     expect("fee open", drained.submissions[0].fee_intent.amount, 9);
     expect("fee intent", submission_book_fee_intent_for_attempt(book, LEN, 5, answer, ROOM), 0);
-    expect("mark and kind", answer[0] * 256u + answer[1], 256 + SUBMISSION_BOOK_FEE_ATTACH);
-    expect("amount", number_at(answer + 34), 9);
+    expect("form of a fee intent", submission_book_answer_fee_intent(answer, ROOM, &fee), 0);
+    expect("live", fee.present, true);
+    expect("kind", fee.fee_intent.kind, SUBMISSION_BOOK_FEE_ATTACH);
+    expect("target", same_hash(&fee.fee_intent.target, &d.fee_intent.target), true);
+    expect("amount", fee.fee_intent.amount, 9);
     finalize(5, SUBMISSION_BOOK_SOURCE_JOIN_FAILED, NULL);
     expect("warning", finalized.warning, true);
     expect("unused", finalized.disposition, SUBMISSION_BOOK_DISPOSITION_UNUSED);
@@ -149,14 +168,14 @@ static void test_fee_upgrade(void) {
     expect_bundle(&finalized.bundle, &joined);
     expect("applied fee", finalized.applied_fee, 9);
     expect("attached", finalized.disposition, SUBMISSION_BOOK_DISPOSITION_ATTACHED);
-    expect("fingerprint", is_fingerprint_of(finalized.variant_fingerprint, &joined), true);
-    expect("attempt", submission_book_attempt(book, LEN, 6, answer, ROOM), 0);
-    expect("live", answer[0], 1);
-    expect("token", number_at(answer + 1), 6);
-    expect("goal", answer[9], SUBMISSION_BOOK_GOAL_FEE_UPGRADE);
-    expect("drained as", is_fingerprint_of(answer + 10, &d.bundle), true);
-    expect("finalised", answer[42], 1);
-    expect("finalised as", is_fingerprint_of(answer + 43, &joined), true);
+    expect("fingerprint", is_fingerprint_of(&finalized.variant_fingerprint, &joined), true);
+    submission_book_live_attempt attempt = live_attempt(6);
+    expect("live", attempt.present, true);
+    expect("token", attempt.token, 6);
+    expect("goal", attempt.goal, SUBMISSION_BOOK_GOAL_FEE_UPGRADE);
+    expect("drained as", is_fingerprint_of(&attempt.drained_fingerprint, &d.bundle), true);
+    expect("finalised", attempt.finalized, true);
+    expect("finalised as", is_fingerprint_of(&attempt.finalized_fingerprint, &joined), true);
 }
 
 /* ---- attempts that end in other ways */
@@ -167,22 +186,18 @@ static void test_attempts(void) {
     refused("never issued", submission_book_stop_attempt(book, LEN, 9, answer, ROOM), 4);
     refused("never issued, finalise", submission_book_finalize_attempt(book, LEN, 9, 0, NULL, 0, answer, ROOM), 4);
     refused("never issued, relinquish", submission_book_relinquish_completed_attempt(book, LEN, 9, answer, ROOM), 4);
-    expect("relinquish set aside", submission_book_relinquish_completed_attempt(book, LEN, 7, answer, ROOM), 0);
-    expect("applied", answer[0], SUBMISSION_BOOK_STATUS_APPLIED);
-    expect("relinquish live", submission_book_relinquish_completed_attempt(book, LEN, 5, answer, ROOM), 0);
-    expect("stale", answer[0], SUBMISSION_BOOK_STATUS_STALE);
+    expect_status("relinquish set aside", submission_book_relinquish_completed_attempt(book, LEN, 7, answer, ROOM), SUBMISSION_BOOK_STATUS_APPLIED);
+    expect_status("relinquish live", submission_book_relinquish_completed_attempt(book, LEN, 5, answer, ROOM), SUBMISSION_BOOK_STATUS_STALE);
     expect("relinquishing changes nothing", memcmp(before, book, LEN) == 0, true);
     expect_ids("retirements", submission_book_drain_retirements(book, LEN, answer, ROOM), 1, (const uint64_t[]){4});
-    expect("abandon", submission_book_abandon_attempt(book, LEN, 5, answer, ROOM), 0);
-    expect("applied", answer[0], SUBMISSION_BOOK_STATUS_APPLIED);
+    expect_status("abandon", submission_book_abandon_attempt(book, LEN, 5, answer, ROOM), SUBMISSION_BOOK_STATUS_APPLIED);
     expect_ids("abandoned", submission_book_drain_retirements(book, LEN, answer, ROOM), 1, one);
     expect_ids("remove", submission_book_retain_submitted(book, LEN, named, 2, answer, ROOM), 1, two);
     expect("emit", submission_book_emit_retirement(book, LEN, 1), 0);
     expect_ids("removed", submission_book_drain_retirements(book, LEN, answer, ROOM), 2, (const uint64_t[]){2, 1});
     expect("sample book", sample_book(book), true);
     expect("restore", submission_book_restore_runtime(book, LEN), 0);
-    expect("attempt", submission_book_attempt(book, LEN, 5, answer, ROOM), 0);
-    expect("no longer live", answer[0], 0);
+    expect("no longer live", live_attempt(5).present, false);
     expect("clear", submission_book_clear_local_artifacts(book, LEN), 0);
     expect_ids("nothing active", submission_book_active_ids(book, LEN, answer, ROOM), 0, both);
     expect_ids("all retired", submission_book_drain_retirements(book, LEN, answer, ROOM), 4, (const uint64_t[]){4, 1, 2, 3});
@@ -191,25 +206,28 @@ static void test_attempts(void) {
 
 /* ---- what the chain shows */
 static void test_chain(void) {
-    Delivery d = sample_delivery(1, 1, 1);
+    submission_book_delivery d = sample_delivery(1, 1, 1);
     uint8_t outputs[2 + 74], input[32], empty[2] = {0, 0};
-    CoinString coin = output_coin(&d.bundle.spends[0], 0);
-    size_t length = write_coin_list(outputs, &coin, 1);
+    static submission_book_coins coins;
+    submission_book_coin coin = output_coin(&d.bundle.spends[0], 0);
+    size_t length = coin_list_bytes(outputs, sizeof outputs, &coin, 1), input_length = 0;
     uint64_t count = 0;
     const uint64_t one[] = {1};
-    sha256(d.bundle.spends[0].coin.bytes, d.bundle.spends[0].coin.length, input);
+    submission_book_hash input_id = coin_id_of(&d.bundle.spends[0].coin);
+    expect("coin ids", submission_book_build_coin_ids(&input_id, 1, input, sizeof input, &input_length), 0);
+    expect("length of coin ids", input_length, sizeof input);
     expect("open", submission_book_open(book, LEN, 5, 1), 0);
     expect("queue", queue_delivery(book, LEN, &d), 0);
     drain(1, 0);
     expect("landed", submission_book_reconcile_chain_terminality(book, LEN, outputs, length, NULL, 0, 0, NULL, 0), 0);
     expect_ids("none active", submission_book_active_ids(book, LEN, answer, ROOM), 0, one);
-    expect("set aside", submission_book_relinquish_completed_attempt(book, LEN, 5, answer, ROOM), 0);
-    expect("applied", answer[0], SUBMISSION_BOOK_STATUS_APPLIED);
+    expect_status("set aside", submission_book_relinquish_completed_attempt(book, LEN, 5, answer, ROOM), SUBMISSION_BOOK_STATUS_APPLIED);
     expect("input coins", submission_book_reconciliation_input_coins(book, LEN, empty, 2, answer, ROOM, &count), 0);
     expect("none of what has landed", count, 2);
     expect("input coins of an output", submission_book_reconciliation_input_coins(book, LEN, outputs, length, answer, ROOM, &count), 0);
-    expect("one", count, 2 + 1 + d.bundle.spends[0].coin.length);
-    expect("the coin", memcmp(answer + 3, d.bundle.spends[0].coin.bytes, d.bundle.spends[0].coin.length) == 0, true);
+    expect("form of coins", submission_book_answer_coins(answer, (size_t)count, &coins), 0);
+    expect("one", coins.count, 1);
+    expect("the coin", memcmp(&coins.coins[0], &d.bundle.spends[0].coin, sizeof coin) == 0, true);
     expect_ids("input spent", submission_book_causally_rolled_back_ids(book, LEN, outputs, length, NULL, 0, answer, ROOM), 0, one);
     expect_ids("rolled back", submission_book_causally_rolled_back_ids(book, LEN, outputs, length, input, 32, answer, ROOM), 1, one);
     expect("absent", submission_book_absent_outputs_for_ids(book, LEN, one, 1, outputs, length, answer, ROOM, &count), 0);
@@ -224,13 +242,10 @@ static void test_chain(void) {
 static void test_replay(void) {
     const uint64_t two[] = {2};
     expect("sample book", sample_book(book), true);
-    expect("height", submission_book_replay_rollback_height(book, LEN, answer, ROOM), 0);
-    expect("mark", answer[0], 1);
-    expect("1000", number_at(answer + 1), 1000);
-    expect("begin again", submission_book_begin_replay(book, LEN, 1000, answer, ROOM), 0);
-    expect("no", answer[0], 0);
-    expect("begin anew", submission_book_begin_replay(book, LEN, 900, answer, ROOM), 0);
-    expect("yes", answer[0], 1);
+    expect("a replay", replay_height().present, true);
+    expect("at 1000", replay_height().value, 1000);
+    expect("begin again", replay_begun(1000), false);
+    expect("begin anew", replay_begun(900), true);
     expect("replay", submission_book_collect_rollback_replay_ids(book, LEN, two, 1), 0);
     drain(3, 0);
     expect("submission 3, queued before", drained.submissions[0].predecessor.value, 7);
@@ -238,11 +253,9 @@ static void test_replay(void) {
     expect("submission 2", drained.submissions[2].predecessor.value, 6);
     expect("exact", drained.submissions[2].relationship, SUBMISSION_BOOK_RELATIONSHIP_EXACT);
     expect("finish", submission_book_finish_replay_if_advanced(book, LEN, 900), 0);
-    expect("height", submission_book_replay_rollback_height(book, LEN, answer, ROOM), 0);
-    expect("stays", answer[0], 1);
+    expect("stays", replay_height().present, true);
     expect("finish", submission_book_finish_replay_if_advanced(book, LEN, 901), 0);
-    expect("height", submission_book_replay_rollback_height(book, LEN, answer, ROOM), 0);
-    expect("over", answer[0], 0);
+    expect("over", replay_height().present, false);
     expect("offer one", submission_book_queue_retained_delivery(book, LEN, 2, 1, 0), 0);
     expect("offer all", submission_book_queue_rebroadcast_epoch(book, LEN, (const uint64_t[]){3, 2, 8}, 3, 1), 0);
     drain(2, 0);
@@ -252,10 +265,10 @@ static void test_replay(void) {
 
 /* ---- candidates that fail */
 static void test_failures(void) {
-    Delivery misfit = sample_delivery(2, 1, 1), unreadable = sample_delivery(8, 1, 1), stranger = sample_delivery(9, 1, 1);
-    misfit.id = (OptionalNumber){true, 1};
+    submission_book_delivery misfit = sample_delivery(2, 1, 1), unreadable = sample_delivery(8, 1, 1), stranger = sample_delivery(9, 1, 1);
+    misfit.id = (submission_book_optional){true, 1};
     unreadable.bundle.spends[0].readable = false;
-    stranger.id = (OptionalNumber){true, 99};
+    stranger.id = (submission_book_optional){true, 99};
     expect("sample book", sample_book(book), true);
     drain(2, 0);
     expect("queue", queue_delivery(book, LEN, &stranger), 0);
@@ -333,12 +346,12 @@ static void test_full(void) {
     uint64_t all[16];
     expect("open", submission_book_open(book, LEN, 1, 1), 0);
     for (uint8_t i = 0; i < 16; i++) {
-        Delivery d = sample_delivery_with_fee(i, 4, 4);
-        d.expiry = (OptionalNumber){true, 77};
+        submission_book_delivery d = sample_delivery_with_fee(i, 4, 4);
+        d.expiry = (submission_book_optional){true, 77};
         all[i] = 1 + (uint64_t)i;
         expect("queue", queue_delivery(book, LEN, &d), 0);
     }
-    Delivery further = sample_delivery(99, 1, 1);
+    submission_book_delivery further = sample_delivery(99, 1, 1);
     keep();
     refused("17th in the queue", queue_delivery(book, LEN, &further), 10);
     drain(16, 0);
@@ -346,8 +359,10 @@ static void test_full(void) {
     expect("offer all again", submission_book_queue_rebroadcast_epoch(book, LEN, all, 16, SUBMISSION_BOOK_TRIGGER_ROLLBACK), 0);
     drain(16, 0);
     expect("the last of them", drained.submissions[15].predecessor.value, 16);
-    expect("the longest answer of 16 submissions", drained_bytes, 2 + 16 * (8 + 8 + 9 + 1 + SUBMISSION_BOOK_BUNDLE_BYTES + 9 + SUBMISSION_BOOK_FEE_INTENT_BYTES));
-    expect("it fits", drained_bytes <= SUBMISSION_BOOK_DRAIN_BYTES, true);
+    size_t longest = 2 + 16 * (8 + 8 + 9 + 1 + SUBMISSION_BOOK_BUNDLE_BYTES + 9 + SUBMISSION_BOOK_FEE_INTENT_BYTES);
+    expect("the longest answer of 16 submissions", submission_book_answer_drain(answer, longest, &drained), 0);
+    expect("no byte less", submission_book_answer_drain(answer, longest - 1, &drained), 3);
+    expect("it fits", longest <= SUBMISSION_BOOK_DRAIN_BYTES, true);
     expect("queue", queue_delivery(book, LEN, &further), 0);
     keep();
     refused("17th retained", submission_book_drain(book, LEN, answer, ROOM), 10);
@@ -362,7 +377,7 @@ static void test_full(void) {
 }
 
 static void test_last_token(void) {
-    Delivery first = sample_delivery(1, 1, 1), second = sample_delivery(2, 1, 1);
+    submission_book_delivery first = sample_delivery(1, 1, 1), second = sample_delivery(2, 1, 1);
     expect("open", submission_book_open(book, LEN, UINT64_MAX - 1, 1), 0);
     expect("queue", queue_delivery(book, LEN, &first), 0);
     expect("queue", queue_delivery(book, LEN, &second), 0);
@@ -373,8 +388,7 @@ static void test_last_token(void) {
     expect("next token", number_at(book + 9), UINT64_MAX);
     expect("next id", number_at(book + 17), 3);
     expect("two are retained", book[25], 2);
-    expect("attempt", submission_book_attempt(book, LEN, UINT64_MAX - 1, answer, ROOM), 0);
-    expect("the first is live", answer[0], 1);
+    expect("the first is live", live_attempt(UINT64_MAX - 1).present, true);
     drain(0, 0);
     memcpy(before, book, sizeof book);
     expect("the second again", queue_delivery(book, LEN, &second), 0);
@@ -416,7 +430,7 @@ static void test_archives(void) {
     expect("place of the count", place, 17);
 }
 
-int main(void) {
+static void test_calls(void) {
     test_helpers();
     test_payment();
     test_fee_upgrade();
@@ -431,6 +445,16 @@ int main(void) {
     test_archives();
     test_sizes();
     test_buffers();
+}
+
+/* With an argument no function of the book is called: readers and builders alone. */
+int main(int argc, char **argv) {
+    (void)argv;
+    test_forms();
+    if (argc == 1) {
+        test_answers();
+        test_calls();
+    }
     printf("%u of %u as expected\n", held - failed, held);
     return failed == 0 ? 0 : 1;
 }

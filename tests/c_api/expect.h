@@ -7,6 +7,13 @@
 void expect(const char *what, uint64_t got, uint64_t wanted);
 void expect_for(const char *call, const char *what, uint64_t got, uint64_t wanted);
 
+enum { ROOM_BYTES = 1 << 16 };
+/* The end of ROOM_BYTES of memory: the byte behind them must not be touched, and ends the program. */
+uint8_t *guarded_end(void);
+
+/* answers.c: readers and builders by themselves, and with the library */
+void test_forms(void);
+void test_answers(void);
 /* buffers.c: every function in lent bytes of every length */
 void test_buffers(void);
 /* sizes.c: every size and limit of the header */

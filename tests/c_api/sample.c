@@ -1,54 +1,81 @@
 #include "sample.h"
-#include "sha256.h"
+#include <stdio.h>
+#include <stdlib.h>
 #include <string.h>
 
+/* ---- forms */
+static size_t built(uint8_t said, size_t length) {
+    if (said != SUBMISSION_BOOK_DONE) {
+        fprintf(stderr, "a sample's form is refused: %s\n", submission_book_refusal_text(said));
+        exit(1);
+    }
+    return length;
+}
+
+size_t delivery_bytes(uint8_t *to, const submission_book_delivery *delivery) {
+    size_t length = 0;
+    uint8_t said = submission_book_build_delivery(delivery, to, SUBMISSION_BOOK_DELIVERY_BYTES, &length);
+    return built(said, length);
+}
+
+size_t bundle_bytes(uint8_t *to, const submission_book_bundle *bundle) {
+    size_t length = 0;
+    uint8_t said = submission_book_build_bundle(bundle, to, SUBMISSION_BOOK_BUNDLE_BYTES, &length);
+    return built(said, length);
+}
+
+size_t coin_list_bytes(uint8_t *to, size_t room, const submission_book_coin *coins, size_t count) {
+    size_t length = 0;
+    uint8_t said = submission_book_build_coin_list(coins, count, to, room, &length);
+    return built(said, length);
+}
+
 /* ---- deliveries */
-Delivery sample_delivery(uint8_t seed, size_t spends, size_t outputs) {
-    Delivery d = {.bundle = {.spend_count = spends}, .fee_intent = {.kind = SUBMISSION_BOOK_FEE_NONE_CONFIGURED}};
+submission_book_delivery sample_delivery(uint8_t seed, size_t spends, size_t outputs) {
+    submission_book_delivery d = {.bundle = {.spend_count = spends}, .fee_intent = {.kind = SUBMISSION_BOOK_FEE_NONE_CONFIGURED}};
     for (size_t i = 0; i < spends; i++) {
-        CoinSpend *spend = &d.bundle.spends[i];
-        uint8_t parent[32], puzzle_hash[32];
-        memset(parent, seed, sizeof parent);
-        memset(puzzle_hash, 0x40 + (int)i, sizeof puzzle_hash);
-        spend->coin = coin_from_parts(parent, puzzle_hash, UINT64_MAX - i);
-        memset(spend->digest, 0x20 + (int)i, sizeof spend->digest);
+        submission_book_spend *spend = &d.bundle.spends[i];
+        submission_book_hash parent, puzzle_hash;
+        memset(&parent, seed, sizeof parent);
+        memset(&puzzle_hash, 0x40 + (int)i, sizeof puzzle_hash);
+        spend->coin = submission_book_coin_from_parts(parent, puzzle_hash, UINT64_MAX - i);
+        memset(&spend->digest, 0x20 + (int)i, sizeof spend->digest);
         spend->readable = true;
         spend->output_count = outputs;
         for (size_t k = 0; k < outputs; k++) {
-            memset(spend->outputs[k].puzzle_hash, 0x60 + (int)k, 32);
+            memset(&spend->outputs[k].puzzle_hash, 0x60 + (int)k, 32);
             spend->outputs[k].amount = UINT64_MAX - k;
         }
     }
     return d;
 }
 
-Delivery sample_delivery_with_fee(uint8_t seed, size_t spends, size_t outputs) {
-    Delivery d = sample_delivery(seed, spends, outputs);
+submission_book_delivery sample_delivery_with_fee(uint8_t seed, size_t spends, size_t outputs) {
+    submission_book_delivery d = sample_delivery(seed, spends, outputs);
     d.fee_intent.kind = SUBMISSION_BOOK_FEE_ATTACH;
-    sha256(d.bundle.spends[0].coin.bytes, d.bundle.spends[0].coin.length, d.fee_intent.target);
+    d.fee_intent.target = coin_id_of(&d.bundle.spends[0].coin);
     d.fee_intent.amount = 9;
     return d;
 }
 
-uint8_t queue_delivery(uint8_t *book, size_t book_len, const Delivery *delivery) {
+uint8_t queue_delivery(uint8_t *book, size_t book_len, const submission_book_delivery *delivery) {
     uint8_t bytes[SUBMISSION_BOOK_DELIVERY_BYTES];
-    size_t length = write_delivery(bytes, delivery);
-    return submission_book_queue(book, book_len, bytes, length);
+    return submission_book_queue(book, book_len, bytes, delivery_bytes(bytes, delivery));
 }
 
 /* ---- the sample book */
 static size_t observed_of(uint8_t *to, uint8_t seed) {
-    Delivery d = sample_delivery(seed, 1, 1);
-    CoinString coin = output_coin(&d.bundle.spends[0], 0);
-    return write_coin_list(to, &coin, 1);
+    submission_book_delivery d = sample_delivery(seed, 1, 1);
+    submission_book_coin coin = output_coin(&d.bundle.spends[0], 0);
+    return coin_list_bytes(to, 2 + 74, &coin, 1);
 }
 
 bool sample_book(uint8_t *book) {
     static uint8_t answer[SUBMISSION_BOOK_DRAIN_BYTES];
     const size_t n = SUBMISSION_BOOK_BYTES, room = sizeof answer;
     uint8_t observed[2 + 74], said = 0;
-    Delivery first = sample_delivery_with_fee(1, 2, 2), second = sample_delivery(2, 1, 1), third = sample_delivery(3, 1, 1);
-    Delivery fourth = sample_delivery(4, 1, 1), fifth = sample_delivery(5, 1, 1);
+    submission_book_delivery first = sample_delivery_with_fee(1, 2, 2), second = sample_delivery(2, 1, 1), third = sample_delivery(3, 1, 1);
+    submission_book_delivery fourth = sample_delivery(4, 1, 1), fifth = sample_delivery(5, 1, 1);
     const uint64_t third_id[] = {3};
     said |= submission_book_open(book, n, 5, 1);
     said |= queue_delivery(book, n, &first);
@@ -89,17 +116,19 @@ static size_t put_attempt(uint8_t *to, uint64_t token) {
 }
 
 static size_t put_submission(uint8_t *to, uint8_t i) {
-    Delivery d = sample_delivery_with_fee(i, 4, 4);
+    submission_book_delivery d = sample_delivery_with_fee(i, 4, 4);
     size_t at = put_number(to, i);
     at += put_attempt(to + at, 2 * (uint64_t)i);
     at += put_attempt(to + at, 2 * (uint64_t)i + 1);
     at += put_run(to + at, 0x12, 32);
-    at += write_bundle(to + at, &d.bundle);
+    at += bundle_bytes(to + at, &d.bundle);
     to[at++] = 1;
-    at += write_bundle(to + at, &d.bundle);
+    at += bundle_bytes(to + at, &d.bundle);
     at += put_number(to + at, 9);
     to[at++] = 2;
-    at += write_fee_intent(to + at, &d.fee_intent);
+    to[at++] = SUBMISSION_BOOK_FEE_ATTACH;
+    at += put_run(to + at, 0x14, 32);
+    at += put_number(to + at, 9);
     to[at++] = 1;
     at += put_run(to + at, 0x13, 32);
     to[at++] = SUBMISSION_BOOK_CHAIN_ACTIVE;
@@ -118,10 +147,10 @@ size_t longest_archive(uint8_t *archive) {
     }
     archive[at++] = 16;
     for (uint8_t i = 0; i < 16; i++) {
-        Delivery d = sample_delivery_with_fee(i, 4, 4);
-        d.id = (OptionalNumber){true, i};
-        d.expiry = (OptionalNumber){true, 77};
-        at += write_delivery(archive + at, &d);
+        submission_book_delivery d = sample_delivery_with_fee(i, 4, 4);
+        d.id = (submission_book_optional){true, i};
+        d.expiry = (submission_book_optional){true, 77};
+        at += delivery_bytes(archive + at, &d);
     }
     archive[at++] = 64;
     for (uint64_t i = 0; i < 64; i++) {
@@ -154,7 +183,7 @@ static uint8_t call_write(Lent *l) {
 }
 
 static uint8_t call_queue(Lent *l) {
-    Delivery d = sample_delivery_with_fee(6, 4, 4);
+    submission_book_delivery d = sample_delivery_with_fee(6, 4, 4);
     return queue_delivery(l->book, l->book_len, &d);
 }
 
@@ -180,8 +209,8 @@ static uint8_t call_fee_intent_for_attempt(Lent *l) {
 
 static uint8_t call_finalize_attempt(Lent *l) {
     uint8_t joined[SUBMISSION_BOOK_BUNDLE_BYTES];
-    Delivery d = sample_delivery(1, 4, 4);
-    size_t length = write_bundle(joined, &d.bundle);
+    submission_book_delivery d = sample_delivery(1, 4, 4);
+    size_t length = bundle_bytes(joined, &d.bundle);
     return submission_book_finalize_attempt(l->book, l->book_len, 5, SUBMISSION_BOOK_SOURCE_JOINED, joined, length, l->answer, l->answer_len);
 }
 
@@ -231,21 +260,19 @@ static uint8_t call_restore_runtime(Lent *l) {
 
 /* Submission 2 has landed, an input of submission 1 is spent, and 4 is rolled back. */
 static uint8_t call_reconcile_chain_terminality(Lent *l) {
-    uint8_t observed[2 + 74], spent[32];
+    uint8_t observed[2 + 74];
     const uint64_t rolled_back[] = {4};
-    Delivery d = sample_delivery(1, 1, 1);
+    submission_book_hash spent = coin_id_of(&sample_delivery(1, 1, 1).bundle.spends[0].coin);
     size_t length = observed_of(observed, 2);
-    sha256(d.bundle.spends[0].coin.bytes, d.bundle.spends[0].coin.length, spent);
-    return submission_book_reconcile_chain_terminality(l->book, l->book_len, observed, length, spent, 32, 1, rolled_back, 1);
+    return submission_book_reconcile_chain_terminality(l->book, l->book_len, observed, length, spent.bytes, 32, 1, rolled_back, 1);
 }
 
 /* The output of submission 4 is absent, and its input live. */
 static uint8_t call_causally_rolled_back_ids(Lent *l) {
-    uint8_t absent[2 + 74], inputs[32];
-    Delivery d = sample_delivery(4, 1, 1);
+    uint8_t absent[2 + 74];
+    submission_book_hash input = coin_id_of(&sample_delivery(4, 1, 1).bundle.spends[0].coin);
     size_t length = observed_of(absent, 4);
-    sha256(d.bundle.spends[0].coin.bytes, d.bundle.spends[0].coin.length, inputs);
-    return submission_book_causally_rolled_back_ids(l->book, l->book_len, absent, length, inputs, 32, l->answer, l->answer_len);
+    return submission_book_causally_rolled_back_ids(l->book, l->book_len, absent, length, input.bytes, 32, l->answer, l->answer_len);
 }
 
 static uint8_t call_reconciliation_input_coins(Lent *l) {

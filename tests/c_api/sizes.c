@@ -14,29 +14,31 @@ enum {
 static uint8_t book[LEN], answer[ROOM];
 static const uint8_t no_coins[] = {0, 0};
 
-static Delivery largest(uint8_t seed) {
-    Delivery d = sample_delivery_with_fee(seed, SUBMISSION_BOOK_SPENDS_LIMIT, SUBMISSION_BOOK_OUTPUTS_LIMIT);
-    d.expiry = (OptionalNumber){true, 9000};
+static submission_book_delivery largest(uint8_t seed) {
+    submission_book_delivery d = sample_delivery_with_fee(seed, SUBMISSION_BOOK_SPENDS_LIMIT, SUBMISSION_BOOK_OUTPUTS_LIMIT);
+    d.expiry = (submission_book_optional){true, 9000};
     return d;
 }
 
-static void test_forms(void) {
+static void test_argument_sizes(void) {
     uint8_t bytes[SUBMISSION_BOOK_DELIVERY_BYTES];
-    Delivery d = largest(1);
-    d.id = (OptionalNumber){true, 1};
-    expect("a delivery", write_delivery(bytes, &d), SUBMISSION_BOOK_DELIVERY_BYTES);
-    expect("a bundle", write_bundle(bytes, &d.bundle), SUBMISSION_BOOK_BUNDLE_BYTES);
-    expect("a fee intent", write_fee_intent(bytes, &d.fee_intent), SUBMISSION_BOOK_FEE_INTENT_BYTES);
+    submission_book_delivery d = largest(1);
+    d.id = (submission_book_optional){true, 1};
+    size_t with_fee = delivery_bytes(bytes, &d);
+    expect("a delivery", with_fee, SUBMISSION_BOOK_DELIVERY_BYTES);
+    expect("a bundle", bundle_bytes(bytes, &d.bundle), SUBMISSION_BOOK_BUNDLE_BYTES);
+    d.fee_intent.kind = SUBMISSION_BOOK_FEE_ALREADY_PAID;
+    expect("a fee intent", 1 + with_fee - delivery_bytes(bytes, &d), SUBMISSION_BOOK_FEE_INTENT_BYTES);
     expect("a coin", d.bundle.spends[0].coin.length, SUBMISSION_BOOK_COIN_BYTES);
 }
 
 /* As many of the largest payments as a book holds, with the ids from 1 on and the tokens from 5 on; one more is refused. */
 static void test_payments(void) {
     static uint8_t kept[LEN];
-    Delivery d = largest(100);
+    submission_book_delivery d = largest(100);
     expect("open", submission_book_open(book, LEN, 5, 1), 0);
     for (uint8_t i = 0; i < SUBMISSION_BOOK_QUEUE_LIMIT; i++) {
-        Delivery next = largest(i);
+        submission_book_delivery next = largest(i);
         expect("queue", queue_delivery(book, LEN, &next), 0);
     }
     expect("one more in the queue", queue_delivery(book, LEN, &d), 10);
@@ -50,8 +52,8 @@ static void test_payments(void) {
 
 static void test_attempt_answers(void) {
     uint8_t joined[SUBMISSION_BOOK_BUNDLE_BYTES];
-    Delivery d = largest(101);
-    size_t length = write_bundle(joined, &d.bundle), n = SUBMISSION_BOOK_FEE_INTENT_ANSWER_BYTES;
+    submission_book_delivery d = largest(101);
+    size_t length = bundle_bytes(joined, &d.bundle), n = SUBMISSION_BOOK_FEE_INTENT_ANSWER_BYTES;
     expect("fee intent, short", submission_book_fee_intent_for_attempt(book, LEN, 5, answer, n - 1), 12);
     expect("fee intent", submission_book_fee_intent_for_attempt(book, LEN, 5, answer, n), 0);
     n = SUBMISSION_BOOK_FINALIZED_BYTES;
@@ -67,15 +69,15 @@ static void test_attempt_answers(void) {
 
 /* The outputs of all submissions, as a coin list. */
 static size_t all_outputs(uint8_t *to) {
-    static CoinString coins[RETAINED * SUBMISSION_BOOK_SPENDS_LIMIT * SUBMISSION_BOOK_OUTPUTS_LIMIT];
+    static submission_book_coin coins[RETAINED * SUBMISSION_BOOK_SPENDS_LIMIT * SUBMISSION_BOOK_OUTPUTS_LIMIT];
     size_t count = 0;
     for (uint8_t i = 0; i < RETAINED; i++) {
-        Delivery d = largest(i);
+        submission_book_delivery d = largest(i);
         for (size_t k = 0; k < SUBMISSION_BOOK_SPENDS_LIMIT * SUBMISSION_BOOK_OUTPUTS_LIMIT; k++) {
             coins[count++] = output_coin(&d.bundle.spends[k / SUBMISSION_BOOK_OUTPUTS_LIMIT], k % SUBMISSION_BOOK_OUTPUTS_LIMIT);
         }
     }
-    return write_coin_list(to, coins, count);
+    return coin_list_bytes(to, SUBMISSION_BOOK_ABSENT_OUTPUTS_BYTES, coins, count);
 }
 
 static void test_coin_answers(void) {
@@ -95,14 +97,14 @@ static void test_coin_answers(void) {
 }
 
 static void test_lists(void) {
-    static CoinString coins[COINS + 1];
+    static submission_book_coin coins[COINS];
     static uint8_t list[SUBMISSION_BOOK_COIN_LIST_BYTES + 1 + SUBMISSION_BOOK_COIN_BYTES];
     static const uint8_t spent[(COINS + 1) * SUBMISSION_BOOK_COIN_ID_BYTES];
     static const uint64_t ids[IDS + 1];
-    for (size_t i = 0; i <= COINS; i++) {
+    for (size_t i = 0; i < COINS; i++) {
         coins[i].length = SUBMISSION_BOOK_COIN_BYTES;
     }
-    expect("a coin list", write_coin_list(list, coins, COINS), SUBMISSION_BOOK_COIN_LIST_BYTES);
+    expect("a coin list", coin_list_bytes(list, sizeof list, coins, COINS), SUBMISSION_BOOK_COIN_LIST_BYTES);
     expect("coins, coin ids and ids",
            submission_book_reconcile_chain_terminality(book, LEN, list, SUBMISSION_BOOK_COIN_LIST_BYTES, spent, sizeof spent - SUBMISSION_BOOK_COIN_ID_BYTES,
                                                        0, ids, IDS),
@@ -110,8 +112,9 @@ static void test_lists(void) {
     expect("one coin id", submission_book_reconcile_chain_terminality(book, LEN, no_coins, 2, spent, SUBMISSION_BOOK_COIN_ID_BYTES, 0, NULL, 0), 0);
     expect("one more coin id", submission_book_reconcile_chain_terminality(book, LEN, no_coins, 2, spent, sizeof spent, 0, ids, IDS), 2);
     expect("one more id", submission_book_reconcile_chain_terminality(book, LEN, no_coins, 2, NULL, 0, 0, ids, IDS + 1), 2);
-    expect("one more coin",
-           submission_book_reconcile_chain_terminality(book, LEN, list, write_coin_list(list, coins, COINS + 1), NULL, 0, 0, ids, IDS), 2);
+    list[1]++;
+    list[SUBMISSION_BOOK_COIN_LIST_BYTES] = SUBMISSION_BOOK_COIN_BYTES;
+    expect("one more coin", submission_book_reconcile_chain_terminality(book, LEN, list, sizeof list, NULL, 0, 0, ids, IDS), 2);
 }
 
 static void test_replay(void) {
@@ -143,7 +146,7 @@ static void test_retirements(void) {
 }
 
 void test_sizes(void) {
-    test_forms();
+    test_argument_sizes();
     test_payments();
     test_attempt_answers();
     test_coin_answers();

@@ -58,7 +58,7 @@ static void make_book(int kind) {
     } else {
         made = submission_book_open(book, sizeof book, 1, 1) == 0;
         for (uint8_t i = 0; i < 16; i++) {
-            Delivery d = sample_delivery_with_fee(i, 4, 4);
+            submission_book_delivery d = sample_delivery_with_fee(i, 4, 4);
             made = made && queue_delivery(book, sizeof book, &d) == 0;
         }
     }

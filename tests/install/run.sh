@@ -10,6 +10,7 @@ make --no-print-directory install PREFIX="$prefix" DESTDIR= >/dev/null
 if command -v pkg-config >/dev/null; then
     export PKG_CONFIG_PATH=$prefix/lib/pkgconfig
     flags=$(pkg-config --cflags --libs submission_book)
+    grep -q "VERSION_STRING \"$(pkg-config --modversion submission_book)\"" include/submission_book.h
 else
     echo "install: pkg-config is not here, its file is not tried"
     flags="-I $prefix/include -L $prefix/lib -lsubmission_book"

@@ -4,9 +4,10 @@ use std::fmt;
 
 use crate::coin::{CoinID, CoinString};
 use crate::ffi;
+use crate::reader::{Read, Reader};
 use crate::refusal::Refusal;
 use crate::submission::*;
-use crate::wire::{self, Answer};
+use crate::wire;
 
 /// A submission book: the queue of deliveries, the retained submissions with their attempts, the
 /// retirements and the replay epoch.
@@ -39,6 +40,33 @@ pub struct SubmissionBook {
     bytes: Box<[u8]>,
 }
 
+/// A part of this crate's version as a number.
+const fn part(text: &str) -> u32 {
+    let digits = text.as_bytes();
+    let (mut number, mut at) = (0, 0);
+    while at < digits.len() {
+        number = 10 * number + (digits[at] - b'0') as u32;
+        at += 1;
+    }
+    number
+}
+
+/// SUBMISSION_BOOK_VERSION of the library that this crate is for.
+const VERSION: u32 = part(env!("CARGO_PKG_VERSION_MAJOR")) << 16
+    | part(env!("CARGO_PKG_VERSION_MINOR")) << 8
+    | part(env!("CARGO_PKG_VERSION_PATCH"));
+
+/// Another version may have other sizes, numbers and forms.
+fn expect_version(library: u32) {
+    let (major, minor, patch) = (library >> 16, library >> 8 & 0xff, library & 0xff);
+    assert!(
+        library == VERSION,
+        "the linked library has version {major}.{minor}.{patch}, and this crate is for version {}: \
+         build it anew with `make lib`",
+        env!("CARGO_PKG_VERSION")
+    );
+}
+
 /// The library does not do as its header says, so it is another one than this crate is for.
 #[cold]
 fn wrong_library() -> ! {
@@ -63,11 +91,11 @@ fn never_refused<T>(result: Result<T, Refusal>) -> T {
 fn answered<T>(
     size: usize,
     call: impl FnOnce(&mut [u8]) -> u8,
-    read: impl FnOnce(&mut Answer) -> Option<T>,
+    read: impl FnOnce(&mut Reader) -> Read<T>,
 ) -> Result<T, Refusal> {
     let mut answer = vec![0; size];
     accepted(call(&mut answer))?;
-    Ok(read(&mut Answer(&answer)).unwrap_or_else(|| wrong_library()))
+    Ok(read(&mut Reader::new(&answer)).unwrap_or_else(|_| wrong_library()))
 }
 
 /// The same for the two calls that answer a coin list and its length.
@@ -79,12 +107,14 @@ fn answered_coins(
     let mut length = 0;
     accepted(call(&mut answer, &mut length))?;
     let list = usize::try_from(length).ok().and_then(|length| answer.get(..length));
-    Ok(list.and_then(|list| Answer(list).coins()).unwrap_or_else(|| wrong_library()))
+    Ok(list.and_then(|list| Reader::new(list).coins().ok()).unwrap_or_else(|| wrong_library()))
 }
 
 /// The whole book.
 impl SubmissionBook {
+    /// Every book begins here, so no other function of another version's library is called.
     fn blank() -> SubmissionBook {
+        expect_version(ffi::version());
         SubmissionBook { bytes: vec![0; ffi::BOOK_BYTES].into_boxed_slice() }
     }
 
@@ -107,14 +137,14 @@ impl SubmissionBook {
     ///
     /// # Errors
     ///
-    /// [`NotAnArchive`](Refusal::NotAnArchive) with the place of the first broken item.
+    /// [`NoArchive`](Refusal::NoArchive) with the place of the first broken item.
     ///
     /// ```
     /// use submission_book::{Refusal, SubmissionBook, SubmissionId, Token};
     ///
     /// let archive = SubmissionBook::open(Token(5), SubmissionId(1)).to_archive();
     /// let cut = SubmissionBook::from_archive(&archive[..12]);
-    /// assert_eq!(cut, Err(Refusal::NotAnArchive { place: 9 }));
+    /// assert_eq!(cut, Err(Refusal::NoArchive { place: 9 }));
     /// ```
     pub fn from_archive(archive: &[u8]) -> Result<SubmissionBook, Refusal> {
         let mut book = SubmissionBook::blank();
@@ -157,7 +187,7 @@ impl SubmissionBook {
     ///
     /// # Errors
     ///
-    /// [`ValueOutOfRange`](Refusal::ValueOutOfRange) for a bundle that is too large,
+    /// [`BadValue`](Refusal::BadValue) for a bundle that is too large,
     /// [`Full`](Refusal::Full) for a 17th delivery.
     ///
     /// ```
@@ -175,7 +205,7 @@ impl SubmissionBook {
     ///
     /// let five = SpendBundle { spends: vec![spend; 5] };
     /// let refused = book.queue(&PendingDelivery::protocol(five, None, fee));
-    /// assert_eq!(refused, Err(Refusal::ValueOutOfRange));
+    /// assert_eq!(refused, Err(Refusal::BadValue));
     /// # Ok::<(), Refusal>(())
     /// ```
     pub fn queue(&mut self, delivery: &PendingDelivery) -> Result<(), Refusal> {
@@ -188,7 +218,7 @@ impl SubmissionBook {
     ///
     /// # Errors
     ///
-    /// [`ListOutOfRange`](Refusal::ListOutOfRange) for over 64 ids, [`Full`](Refusal::Full).
+    /// [`BadList`](Refusal::BadList) for over 64 ids, [`Full`](Refusal::Full).
     pub fn queue_rebroadcast_epoch(
         &mut self,
         ids: &[SubmissionId],
@@ -233,7 +263,7 @@ impl SubmissionBook {
     /// [`Full`](Refusal::Full) where a 17th submission or a 65th retirement would come up; the
     /// book, its queue too, stays as it was.
     ///
-    /// [`TokensExhausted`](Refusal::TokensExhausted) where a token is needed and the next one is
+    /// [`NoToken`](Refusal::NoToken) where a token is needed and the next one is
     /// 2^64 − 1. **The book then keeps what the drain had done**, and its queue is empty.
     ///
     /// ```
@@ -278,10 +308,10 @@ impl SubmissionBook {
     ///
     /// # Errors
     ///
-    /// [`ValueOutOfRange`](Refusal::ValueOutOfRange) for a joined bundle that is too large,
+    /// [`BadValue`](Refusal::BadValue) for a joined bundle that is too large,
     /// [`UnknownToken`](Refusal::UnknownToken), [`AlreadyFinalized`](Refusal::AlreadyFinalized),
     /// [`InvalidSubmission`](Refusal::InvalidSubmission), [`StaleVariant`](Refusal::StaleVariant),
-    /// [`FeeSourceNotRequested`](Refusal::FeeSourceNotRequested).
+    /// [`UnrequestedFee`](Refusal::UnrequestedFee).
     ///
     /// ```
     /// use submission_book::*;
@@ -395,7 +425,7 @@ impl SubmissionBook {
         never_refused(answered(
             ffi::ATTEMPT_BYTES,
             |answer| ffi::submission_book_attempt(&mut copy, token.0, answer),
-            |answer| answer.attempt(),
+            |answer| answer.optional_attempt(),
         ))
     }
 }
@@ -407,7 +437,7 @@ impl SubmissionBook {
     ///
     /// # Errors
     ///
-    /// [`ListOutOfRange`](Refusal::ListOutOfRange) for over 64 ids, [`Full`](Refusal::Full) where
+    /// [`BadList`](Refusal::BadList) for over 64 ids, [`Full`](Refusal::Full) where
     /// there would be over 64 retirements.
     pub fn retain_submitted(
         &mut self,
@@ -485,7 +515,7 @@ impl SubmissionBook {
     ///
     /// # Errors
     ///
-    /// [`ListOutOfRange`](Refusal::ListOutOfRange) for over 64 ids, [`Full`](Refusal::Full).
+    /// [`BadList`](Refusal::BadList) for over 64 ids, [`Full`](Refusal::Full).
     pub fn collect_rollback_replay_ids(&mut self, ids: &[SubmissionId]) -> Result<(), Refusal> {
         let ids = wire::ids(ids);
         accepted(ffi::submission_book_collect_rollback_replay_ids(&mut self.bytes, &ids))
@@ -502,7 +532,7 @@ impl SubmissionBook {
     ///
     /// # Errors
     ///
-    /// [`ListOutOfRange`](Refusal::ListOutOfRange), [`Full`](Refusal::Full) for a 65th retirement.
+    /// [`BadList`](Refusal::BadList), [`Full`](Refusal::Full) for a 65th retirement.
     pub fn reconcile_chain_terminality(
         &mut self,
         observed_created: &[CoinString],
@@ -527,7 +557,7 @@ impl SubmissionBook {
     ///
     /// # Errors
     ///
-    /// [`ListOutOfRange`](Refusal::ListOutOfRange).
+    /// [`BadList`](Refusal::BadList).
     pub fn causally_rolled_back_ids(
         &self,
         explicitly_absent: &[CoinString],
@@ -550,7 +580,7 @@ impl SubmissionBook {
     ///
     /// # Errors
     ///
-    /// [`ListOutOfRange`](Refusal::ListOutOfRange).
+    /// [`BadList`](Refusal::BadList).
     pub fn reconciliation_input_coins(
         &self,
         landed_outputs: &[CoinString],
@@ -566,7 +596,7 @@ impl SubmissionBook {
     ///
     /// # Errors
     ///
-    /// [`ListOutOfRange`](Refusal::ListOutOfRange).
+    /// [`BadList`](Refusal::BadList).
     pub fn absent_outputs_for_ids(
         &self,
         ids: &[SubmissionId],
@@ -609,4 +639,20 @@ impl fmt::Debug for SubmissionBook {
 
 fn number_of(bytes: &[u8]) -> u64 {
     bytes.iter().fold(0, |number, byte| number << 8 | u64::from(*byte))
+}
+
+#[cfg(test)]
+mod tests {
+    use super::*;
+
+    #[test]
+    fn the_linked_library_is_of_this_version() {
+        assert_eq!(ffi::version(), VERSION);
+    }
+
+    #[test]
+    #[should_panic(expected = "has version 1.2.3, and this crate is for version ")]
+    fn a_library_of_another_version_is_refused() {
+        expect_version(0x010203);
+    }
 }

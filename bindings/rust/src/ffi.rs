@@ -1,4 +1,4 @@
-//! The 29 functions of the library behind safe signatures. This is the only module with `unsafe`.
+//! The functions of the library behind safe signatures. This is the only module with `unsafe`.
 //!
 //! The library asks the same of every caller (`submission_book.h`): a pointer and the count behind
 //! it are a slice that can be read, and where the pointer is `*mut` written, for the time of the
@@ -31,6 +31,15 @@ pub const FLAG_BYTES: usize = 1;
 pub const INPUT_COINS_BYTES: usize = 4_738;
 /// The longest list of absent outputs.
 pub const ABSENT_OUTPUTS_BYTES: usize = 18_946;
+
+/// SUBMISSION_BOOK_VERSION of the library that is linked.
+pub fn version() -> u32 {
+    extern "C" {
+        fn submission_book_version() -> u32;
+    }
+    // SAFETY: it takes nothing and returns a number.
+    unsafe { submission_book_version() }
+}
 
 /// For each function as the library's source writes it: the C declaration, in which a slice is a
 /// pointer and a count and a reference a pointer, and a safe function of the same name.

@@ -47,7 +47,7 @@
 //! # Refusals
 //!
 //! A call that the rules turn away answers a [`Refusal`] and leaves the book as it was. The one
-//! exception is [`Refusal::TokensExhausted`]: that drain keeps the book that it reached.
+//! exception is [`Refusal::NoToken`]: that drain keeps the book that it reached.
 //!
 //! Values that are too large for the book (five spends, a coin of over 73 bytes, 65 ids) are
 //! refused by the library as its rules say; none is cut short.
@@ -59,26 +59,32 @@
 //!
 //! # Stack
 //!
-//! The library keeps whole books on the stack: a call takes up to about 1 MiB, and
-//! SUBMISSION_BOOK_STACK_BYTES in `submission_book.h` has the number. The main thread and the threads
-//! of Rust, with 2 MiB, have enough. A thread with less is to be given more
+//! The library keeps whole books on the stack: a call takes at most 1,000,000 bytes of it
+//! (SUBMISSION_BOOK_STACK_BYTES in `submission_book.h`). The main thread and the threads of Rust,
+//! with 2 MiB, have enough. A thread with less is to be given more
 //! ([`stack_size`](std::thread::Builder::stack_size)); else the program ends with a stack overflow.
 //!
 //! # Panics
 //!
-//! No value makes a method panic. They panic only if the linked library answers otherwise than its
-//! header says, as one of another revision might.
+//! No value makes a method panic. [`SubmissionBook::open`] and [`SubmissionBook::from_archive`] panic
+//! if the linked library is of another version than this crate, and any method if the library
+//! answers otherwise than its header says.
 
 #![deny(unsafe_code, unsafe_op_in_unsafe_fn, missing_docs)]
 
+mod archive;
 mod book;
 mod coin;
 #[allow(unsafe_code)]
 mod ffi;
+mod reader;
 mod refusal;
 mod submission;
 mod wire;
 
+pub use archive::{
+    Archive, FeeResolution, SubmissionBroadcastVariant, SubmissionChainTerminality, SubmittedTx,
+};
 pub use book::SubmissionBook;
 pub use coin::{CoinID, CoinString, Hash32, PuzzleHash};
 pub use refusal::Refusal;

@@ -15,6 +15,18 @@ macro_rules! number_type {
                 self.0.fmt(f)
             }
         }
+
+        impl From<u64> for $name {
+            fn from(number: u64) -> $name {
+                $name(number)
+            }
+        }
+
+        impl From<$name> for u64 {
+            fn from(number: $name) -> u64 {
+                number.0
+            }
+        }
     };
 }
 

@@ -5,6 +5,7 @@ use std::fs;
 use std::path::PathBuf;
 
 const FFI: &str = include_str!("../src/ffi.rs");
+const REFUSAL: &str = include_str!("../src/refusal.rs");
 
 /// The header of the repository, else that beside the library that is linked.
 fn header() -> String {
@@ -53,6 +54,7 @@ fn in_c(argument: &str) -> String {
 fn wrapped() -> Vec<String> {
     let lines = FFI.lines().filter_map(|line| line.trim().strip_prefix("fn submission_book_"));
     let mut all: Vec<String> = lines
+        .filter(|line| line.ends_with(");"))
         .map(|line| {
             let (name, rest) = line.split_once('(').unwrap();
             let arguments: Vec<String> =
@@ -100,4 +102,37 @@ fn the_sizes_are_those_of_the_header() {
         let size = number_behind(FFI, &format!("pub const {here}: usize ="));
         assert_eq!(size, number_behind(&header, &format!("#define {there} ")), "{here}");
     }
+}
+
+#[test]
+fn the_version_is_that_of_the_header() {
+    let version = format!("VERSION_STRING \"{}\"", env!("CARGO_PKG_VERSION"));
+    assert!(header().contains(&version), "{version}");
+}
+
+/// `NO_BOOK` as `NoBook`.
+fn in_rust(name: &str) -> String {
+    let word = |word: &str| word[..1].to_string() + &word[1..].to_lowercase();
+    name.split('_').map(word).collect()
+}
+
+#[test]
+fn the_refusals_have_the_names_and_numbers_of_the_header() {
+    let code = code(&header());
+    let listed = code.split_once("enum submission_book_refusal {").unwrap().1;
+    let listed = listed.split_once('}').unwrap().0.split(',');
+    let header: Vec<String> = listed
+        .map(|item| {
+            item.trim().strip_prefix("SUBMISSION_BOOK_").unwrap().split_once(" = ").unwrap()
+        })
+        .map(|(name, number)| format!("{} => {number}", in_rust(name)))
+        .filter(|item| item != "Done => 0")
+        .collect();
+    let lines = REFUSAL.lines().filter_map(|line| line.trim().strip_prefix("Refusal::"));
+    let here: Vec<String> = lines
+        .map(|line| line.trim_end_matches(',').replace(" { .. }", ""))
+        .filter(|line| line.ends_with(|last: char| last.is_ascii_digit()))
+        .collect();
+    assert_eq!(here.len(), 13);
+    assert_eq!(here, header);
 }

@@ -253,12 +253,15 @@ impl Trial {
         let result = self.call();
         let after = self.book.to_archive();
         match result {
-            Err(Refusal::TokensExhausted) => self.next_token = u64::MAX,
+            Err(Refusal::NoToken) => self.next_token = u64::MAX,
             Err(_) => assert_eq!(before, after, "{result:?} changed the book"),
             Ok(()) => {}
         }
         assert_eq!(next_token(&after), self.next_token);
         assert_eq!(SubmissionBook::from_archive(&after).as_ref(), Ok(&self.book));
+        if self.generator.one_in(5) {
+            assert_eq!(archive_of(&self.book).next_delivery_attempt_token, Token(self.next_token));
+        }
         let number = result.err().map_or(0, |refusal| refusal.number());
         self.refusals[usize::from(number)] += 1;
     }

@@ -9,7 +9,7 @@ mod common;
 use std::fs;
 use std::path::PathBuf;
 
-use common::sha256;
+use common::{archive_of, sha256};
 use submission_book::*;
 
 /// An answer in bytes, or a refusal in bytes: its number, and the place of a 13.
@@ -17,7 +17,7 @@ type Answered<T> = Result<T, Vec<u8>>;
 
 fn refusal(refusal: Refusal) -> Vec<u8> {
     let mut bytes = vec![refusal.number()];
-    if let Refusal::NotAnArchive { place } = refusal {
+    if let Refusal::NoArchive { place } = refusal {
         bytes.extend(place.to_be_bytes());
     }
     bytes
@@ -422,7 +422,10 @@ impl Player {
     }
 
     fn read_call(&mut self, script: &mut Script) -> Played {
-        let read = SubmissionBook::from_archive(script.bytes()?);
+        let bytes = script.bytes()?;
+        let read = SubmissionBook::from_archive(bytes);
+        let refused = read.as_ref().err().copied();
+        assert_eq!(Archive::read(bytes).err(), refused);
         Some(read.map(|book| self.book = book).map(nothing).map_err(refusal))
     }
 
@@ -485,7 +488,7 @@ impl Player {
                 self.out.extend(bytes);
             }
         }
-        self.out.extend(sha256(&self.book.to_archive()));
+        self.out.extend(sha256(&archive_of(&self.book).to_bytes()));
         Some(())
     }
 }

@@ -46,19 +46,19 @@ fn over(limit: usize) -> Vec<usize> {
 #[test]
 fn every_refusal_has_its_number_and_text() {
     let all = [
-        Refusal::NotSound,
-        Refusal::ListOutOfRange,
-        Refusal::ValueOutOfRange,
+        Refusal::NoBook,
+        Refusal::BadList,
+        Refusal::BadValue,
         Refusal::UnknownToken,
         Refusal::AlreadyFinalized,
         Refusal::NotFinalized,
         Refusal::InvalidSubmission,
         Refusal::StaleVariant,
-        Refusal::FeeSourceNotRequested,
+        Refusal::UnrequestedFee,
         Refusal::Full,
-        Refusal::TokensExhausted,
-        Refusal::BufferTooShort,
-        Refusal::NotAnArchive { place: 27 },
+        Refusal::NoToken,
+        Refusal::ShortBuffer,
+        Refusal::NoArchive { place: 27 },
     ];
     for (number, refusal) in (1..).zip(all) {
         assert_eq!(refusal.number(), number);
@@ -66,10 +66,10 @@ fn every_refusal_has_its_number_and_text() {
         let text = error.to_string();
         assert!(text.starts_with(&format!("refused {number}: ")), "{text}");
     }
-    let text = Refusal::NotAnArchive { place: 27 }.to_string();
+    let text = Refusal::NoArchive { place: 27 }.to_string();
     let whole = "refused 13: the bytes are no archive, the first broken item starts at byte 27";
     assert_eq!(text, whole);
-    assert!(Refusal::TokensExhausted.to_string().contains("what it did before stays"));
+    assert!(Refusal::NoToken.to_string().contains("what it did before stays"));
 }
 
 #[test]
@@ -77,7 +77,7 @@ fn refused_2_too_many_ids() {
     for count in [65, 256, 320, 65_537] {
         let mut book = drained_book(NO_FEE);
         let many = vec![SubmissionId(1); count];
-        let refusal = Refusal::ListOutOfRange;
+        let refusal = Refusal::BadList;
         refused(&mut book, refusal, |book| {
             book.queue_rebroadcast_epoch(&many, DeliveryTrigger::FreshChain)
         });
@@ -93,7 +93,7 @@ fn refused_2_too_many_ids() {
 #[track_caller]
 fn refused_coins(coins: &[CoinString]) {
     let mut book = drained_book(NO_FEE);
-    let refusal = Refusal::ListOutOfRange;
+    let refusal = Refusal::BadList;
     refused(&mut book, refusal, |book| book.reconcile_chain_terminality(coins, &[], false, &[]));
     refused(&mut book, refusal, |book| book.causally_rolled_back_ids(coins, &[]));
     refused(&mut book, refusal, |book| book.reconciliation_input_coins(coins));
@@ -115,7 +115,7 @@ fn refused_2_too_many_coin_ids() {
     for count in [801, 65_536] {
         let many = vec![coin_id(&coin(10)); count];
         let mut book = drained_book(NO_FEE);
-        let refusal = Refusal::ListOutOfRange;
+        let refusal = Refusal::BadList;
         refused(&mut book, refusal, |book| {
             book.reconcile_chain_terminality(&[], &many, false, &[])
         });
@@ -130,11 +130,11 @@ fn refused_3_bundles() {
     for bundle in bundles.chain(coins) {
         let mut book = drained_book(attach(7));
         let delivery = PendingDelivery::protocol(bundle.clone(), None, NO_FEE);
-        refused(&mut book, Refusal::ValueOutOfRange, |book| book.queue(&delivery));
+        refused(&mut book, Refusal::BadValue, |book| book.queue(&delivery));
         // before the token is looked at
         for token in [5, 6] {
             let joined = SubmissionFeeSource::Joined(bundle.clone());
-            refused(&mut book, Refusal::ValueOutOfRange, |book| {
+            refused(&mut book, Refusal::BadValue, |book| {
                 book.finalize_attempt(Token(token), &joined)
             });
         }
@@ -166,9 +166,9 @@ fn other_spends_within() -> SpendBundle {
 fn refused_3_and_not_read_as_other_spends() {
     let mut book = drained_book(attach(7));
     let joined = SubmissionFeeSource::Joined(other_spends_within());
-    refused(&mut book, Refusal::ValueOutOfRange, |book| book.finalize_attempt(Token(5), &joined));
+    refused(&mut book, Refusal::BadValue, |book| book.finalize_attempt(Token(5), &joined));
     let delivery = PendingDelivery::protocol(other_spends_within(), None, NO_FEE);
-    refused(&mut book, Refusal::ValueOutOfRange, |book| book.queue(&delivery));
+    refused(&mut book, Refusal::BadValue, |book| book.queue(&delivery));
 }
 
 #[test]
@@ -244,7 +244,7 @@ fn refused_9_a_fee_that_nobody_asked_for() {
     let mut book = drained_book(NO_FEE);
     let joined = SubmissionFeeSource::Joined(deposit(30));
     for source in [joined, SubmissionFeeSource::JoinFailed, SubmissionFeeSource::Failed] {
-        refused(&mut book, Refusal::FeeSourceNotRequested, |book| {
+        refused(&mut book, Refusal::UnrequestedFee, |book| {
             book.finalize_attempt(Token(5), &source)
         });
     }
@@ -309,7 +309,7 @@ fn refused_11_keeps_what_the_drain_did() {
     queue(&mut book, 10, NO_FEE);
     queue(&mut book, 20, NO_FEE);
     queue(&mut book, 30, NO_FEE);
-    assert_eq!(book.drain(), Err(Refusal::TokensExhausted));
+    assert_eq!(book.drain(), Err(Refusal::NoToken));
     // the first candidate has its token, the second is retained without one, the third is gone
     let attempt = book.attempt(Token(u64::MAX - 1)).unwrap();
     assert_eq!(attempt.goal, SubmissionDeliveryGoal::EnsureBroadcast);
@@ -326,7 +326,7 @@ fn refused_11_keeps_what_the_drain_did() {
 #[test]
 fn refused_13_with_the_place() {
     let place = |archive: &[u8]| match SubmissionBook::from_archive(archive) {
-        Err(Refusal::NotAnArchive { place }) => place,
+        Err(Refusal::NoArchive { place }) => place,
         other => panic!("{other:?}"),
     };
     let whole = worked_example();
@@ -350,7 +350,7 @@ fn refused_13_for_every_cut() {
     let archive = book.to_archive();
     for length in 0..archive.len() {
         let refusal = SubmissionBook::from_archive(&archive[..length]).unwrap_err();
-        let Refusal::NotAnArchive { place } = refusal else {
+        let Refusal::NoArchive { place } = refusal else {
             panic!("{refusal}");
         };
         assert!(place <= length as u64 && length as u64 <= place + 80, "{place} for {length}");

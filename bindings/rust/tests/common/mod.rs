@@ -68,6 +68,29 @@ pub fn next_token(archive: &[u8]) -> u64 {
     u64::from_be_bytes(archive[1..9].try_into().unwrap())
 }
 
+/// The archive of a book as plain values, which must say what the book's own calls say.
+pub fn archive_of(book: &SubmissionBook) -> Archive {
+    let bytes = book.to_archive();
+    let archive = Archive::read(&bytes).expect("an archive");
+    assert!(archive.to_bytes() == bytes, "written again, it is another string");
+    let active = |tx: &&SubmittedTx| tx.chain_terminality == SubmissionChainTerminality::Active;
+    let active: Vec<_> = archive.submitted.iter().filter(active).map(|tx| tx.id).collect();
+    assert_eq!(book.active_ids(), active);
+    assert_eq!(book.replay_rollback_height(), archive.rollback_height);
+    let mut copy = book.clone();
+    assert_eq!(copy.drain_retirements(), archive.retired_submission_ids);
+    for tx in &archive.submitted {
+        for attempt in tx.active_attempt.iter() {
+            assert_eq!(book.attempt(attempt.token), Some(*attempt));
+        }
+        for attempt in tx.completed_attempt.iter() {
+            let status = copy.relinquish_completed_attempt(attempt.token);
+            assert_eq!(status, Ok(SubmissionAttemptStatus::Applied));
+        }
+    }
+    archive
+}
+
 /// The worked example of docs/ARCHIVE.md.
 pub fn worked_example() -> Vec<u8> {
     let bundle = [vec![1, 2, 0xaa, 0xbb], vec![1; 32], vec![1, 1], vec![2; 32]].concat();
