@@ -29,10 +29,10 @@ same-length-2 : tie.Need-same-length-2
 same-length-2 c = search needs
 
 returns-2 : tie.Need-returns-2
-returns-2 c = gives-book-three noForm (c .before .before .before .before .before .before .before .before .args .book .now) (c .before .before .before .before .held .result .book) (c .before .before .before .before .held .ensures .present (not-false _ (c .before .before .before .if1 .left))) (given (byteAs parseTrigger (c .before .before .before .before .before .before .before .before .args .trigger)) (λ (t : DeliveryTrigger). queueRebroadcastEpoch (c .before .before .before .before .before .before .before .before .args .ids .now) t)) (given-none (λ (t : DeliveryTrigger). queueRebroadcastEpoch (c .before .before .before .before .before .before .before .before .args .ids .now) t) (byte-bad parseTrigger (c .before .before .before .before .before .before .before .before .args .trigger) (c .before .read-trigger .ensures) (c .if2 .taken)))
+returns-2 c = gives-book-three noForm (c .before .before .before .before .before .before .before .before .before .args .book .now) (c .before .before .before .before .before .held .result .book) (c .before .before .before .before .before .held .ensures .present (not-false _ (c .before .before .before .before .if1 .left))) (given (byteAs parseTrigger (c .before .before .before .before .before .before .before .before .before .args .trigger)) (λ (t : DeliveryTrigger). queueRebroadcastEpoch (c .before .before .before .before .before .before .before .before .before .args .ids .now) t)) (given-none (λ (t : DeliveryTrigger). queueRebroadcastEpoch (c .before .before .before .before .before .before .before .before .before .args .ids .now) t) (byte-bad parseTrigger (c .before .before .before .before .before .before .before .before .before .args .trigger) (c .before .read-trigger .ensures) (c .if2 .taken)))
 
 queue-rebroadcast-epoch-sound-requires : tie.Need-queue-rebroadcast-epoch-sound-requires
-queue-rebroadcast-epoch-sound-requires c κs = (c .before .before .before .before .held .ensures .present (not-false _ (c .before .before .before .if1 .left))) .sound
+queue-rebroadcast-epoch-sound-requires c κs = (c .before .before .before .before .before .held .ensures .present (not-false _ (c .before .before .before .before .if1 .left))) .sound
 
 settle-done-requires : tie.Need-settle-done-requires
 settle-done-requires c κs = search needs
@@ -41,7 +41,7 @@ same-length-3 : tie.Need-same-length-3
 same-length-3 c = search needs
 
 returns-3 : tie.Need-returns-3
-returns-3 c = done-given (c .before .before .before .before .before .before .before .before .before .before .before .before .before .args .book .now) (c .before .before .before .before .before .before .before .before .before .held .result .book) (c .before .before .before .before .before .before .before .before .before .held .ensures .present (not-false _ (c .before .before .before .before .before .before .before .before .if1 .left))) (given (byteAs parseTrigger (c .before .before .before .before .before .before .before .before .before .before .before .before .before .args .trigger)) (λ (t : DeliveryTrigger). queueRebroadcastEpoch (c .before .before .before .before .before .before .before .before .before .before .before .before .before .args .ids .now) t)) (c .before .before .before .before .queue-rebroadcast-epoch-sound .result) (done-as (c .before .before .before .before .before .before .before .before .before .held .result .book) (sym (given-some (λ (t : DeliveryTrigger). queueRebroadcastEpoch (c .before .before .before .before .before .before .before .before .before .before .before .before .before .args .ids .now) t) (byte-got parseTrigger (c .before .before .before .before .before .before .before .before .before .before .before .before .before .args .trigger) (c .before .before .before .before .before .before .read-trigger .ensures) (c .before .before .before .before .before .if2 .left)))) (c .before .before .before .before .queue-rebroadcast-epoch-sound .ensures)) (c .before .before .settle-done .ensures)
+returns-3 c = done-given (c .before .before .before .before .before .before .before .before .before .before .before .before .before .before .args .book .now) (c .before .before .before .before .before .before .before .before .before .before .held .result .book) (c .before .before .before .before .before .before .before .before .before .before .held .ensures .present (not-false _ (c .before .before .before .before .before .before .before .before .before .if1 .left))) (given (byteAs parseTrigger (c .before .before .before .before .before .before .before .before .before .before .before .before .before .before .args .trigger)) (λ (t : DeliveryTrigger). queueRebroadcastEpoch (c .before .before .before .before .before .before .before .before .before .before .before .before .before .before .args .ids .now) t)) (c .before .before .before .before .queue-rebroadcast-epoch-sound .result) (done-as (c .before .before .before .before .before .before .before .before .before .before .held .result .book) (sym (given-some (λ (t : DeliveryTrigger). queueRebroadcastEpoch (c .before .before .before .before .before .before .before .before .before .before .before .before .before .before .args .ids .now) t) (byte-got parseTrigger (c .before .before .before .before .before .before .before .before .before .before .before .before .before .before .args .trigger) (c .before .before .before .before .before .before .read-trigger .ensures) (c .before .before .before .before .before .if2 .left)))) (c .before .before .before .before .queue-rebroadcast-epoch-sound .ensures)) (c .before .before .settle-done .ensures)
 
 pub submission-book-queue-rebroadcast-epoch-spec : {M : Type 1} → statement M
 submission-book-queue-rebroadcast-epoch-spec =
