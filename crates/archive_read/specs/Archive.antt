@@ -1,25 +1,27 @@
--- What the reader of an archive answers, and the archive in the parts in which the code reads it.
-use Prim.Native.Nat.{ℕ, zero, _≤_, _<_}
-use mathlib.Core.Path.{_≡_, sym, ap, _∙_}
+-- What the reader of an archive answers.
+use Prim.Native.Nat.{ℕ, zero, _-_, _≤_, _<_}
+use mathlib.Core.Path.{_≡_, refl, sym, ap, _∙_, subst}
 use mathlib.Core.Bool.{Bool, true, false}
 use mathlib.Core.List.{List, [], map}
-use borrow.Author.Tests.{lt-leb}
+use borrow.Author.Tests.{lt-leb, le-leb, lt-ltb, le-ltb}
+use native.Mathlib.Omega.{arith}
 use lib.ListN.{length, take}
-use Rattle.wire.specs.Items.{end-reads}
-use Rattle.lists.specs.Lists.{cells}
-use Rattle.wire.specs.Wire.{Ans, got, bad, pick, andThen, Parser, _>>=_, done, listFrom, listOf, end}
-use Rattle.book_data.specs.Zero.{zeroSubmitted, zeroDelivery}
+use lib.Dec.{ltb, leb}
+use Rattle.wire.specs.Wire.{Ans, got, bad, pick, andThen, listFrom, end}
+use Rattle.cursor.specs.Cursor.{far, Reads, reads-then, ends}
+use Rattle.cursor.specs.Cells.{ReadsCells}
+use Rattle.book_data.specs.Zero.{zeroDelivery}
 use Rattle.book_data.specs.Sound.{idOf}
 use Rattle.book_data.specs.Model.{Book, back}
 use Rattle.book_data.specs.declared.OptionalHeight.the-variants.{NoHeight}
+use Rattle.book_data.specs.declared.OptionalHeight.{OptionalHeight}
 use Rattle.book_data.specs.declared.SubmittedTx.{SubmittedTx}
 use Rattle.book_data.specs.declared.PendingDelivery.{PendingDelivery}
+use Rattle.book_data.specs.declared.Ids16.{Ids16}
 use Rattle.book_data.specs.declared.Ids64.{Ids64}
-use Rattle.book_data.specs.declared.ReplayEpoch.{ReplayEpoch}
 use Rattle.book_data.specs.declared.BookData.{BookData}
-use Rattle.archive_form.specs.Parse.{Numbers, parseNumbers, parseSubmitted, parseDelivery, parseModel, parseWhole, readArchive, archiveRead, ArchiveRead, book, broken}
-use Rattle.entry_read.specs.Entries.{then-assoc}
-use Rattle.archive_read.specs.Sections.{ReadsCells, ReadsTail, Tail, parseTail, tailOf}
+use Rattle.archive_form.specs.Parse.{parseNumbers, parseDelivery, parseRetired, parseHeight, parseReplayed, parseModel, parseWhole, readArchive, archiveRead, ArchiveRead, book, broken}
+use Rattle.archive_read.specs.Sections.{ReadsRetained}
 use Rattle.archive_read.specs.declared.ReadArchive.{ReadArchive}
 
 -- the empty book whose two numbers are 0
@@ -39,70 +41,70 @@ abbrev pub archiveAnswer : ArchiveRead → ReadArchive
 archiveAnswer (book b) = record { ok = true; place = 0; book = b }
 archiveAnswer (broken e) = record { ok = false; place = e; book = zeroBook }
 
--- ---- the archive in parts
-abbrev bookOf : Numbers → List SubmittedTx → List PendingDelivery → Tail → Book
-bookOf n t q e = record {
-  nextToken = record { 0 = n .token };
-  nextId = record { 0 = n .id };
-  submitted = t;
-  pending = q;
-  retired = e .retired;
-  rollback = e .rollback;
-  replayed = e .replayed;
-}
+-- b is a model that was read, in its cells
+pub record ReadsBook (s : List ℕ) (c : ℕ) (b : BookData) (e : ℕ) : Type 0 where
+  pub model : Book
+  pub read : Reads parseModel s c model e
+  pub cells : back model ≡ b
 
-unfoldable pub wholeInParts : Parser Book
-wholeInParts = do
-  n ← parseNumbers
-  t ← listFrom 16 (parseSubmitted (n .token))
-  q ← listOf 16 parseDelivery
-  e ← parseTail (map idOf t)
-  end (bookOf n t q e)
-
-pub whole-is : (s : List ℕ) (at : ℕ) → parseWhole s at ≡ wholeInParts s at
-unfolding parseWhole parseModel wholeInParts parseTail
-whole-is s at = simp then-assoc
-
-pub end-over : {A : Type 0} (a : A) (s : List ℕ) (e : ℕ) → e < length s → end a s e ≡ bad e
-unfolding end
-end-over a s e h = ap (λ (b : Bool). pick b (got a e) (bad e)) (lt-leb (length s) e h)
-
-pub whole-got : (s : List ℕ) {n : Numbers} {t : List SubmittedTx} {q : List PendingDelivery} {x : Tail} {d e f g : ℕ} → parseNumbers s 0 ≡ got n d → listFrom 16 (parseSubmitted (n .token)) s d ≡ got t e
-    → listOf 16 parseDelivery s e ≡ got q f → parseTail (map idOf t) s f ≡ got x g → length s ≤ g → parseWhole s 0 ≡ got (bookOf n t q x) g
-unfolding wholeInParts
-whole-got s {n} {t} {q} {x} {d} {e} {f} {g} h i j k l = whole-is s 0 ∙ rw (h, i, j, k) (end-reads (bookOf n t q x) s g l)
-
--- ---- the answer
-pub answer-bad : (s : List ℕ) {e : ℕ} → parseWhole s 0 ≡ bad e → record { ok = false; place = e; book = zeroBook } ≡ archiveAnswer (readArchive s)
-unfolding readArchive
-answer-bad s h = sym (ap (λ (x : Ans Book). archiveAnswer (archiveRead x)) h)
-
-pub answer-got : (s : List ℕ) {m : Book} {e : ℕ} {b : BookData} → parseWhole s 0 ≡ got m e → back m ≡ b → record { ok = true; place = 0; book = b } ≡ archiveAnswer (readArchive s)
-unfolding readArchive
-answer-got s {m} {e} {b} h q = sym (ap (λ (x : Ans Book). archiveAnswer (archiveRead x)) h ∙ ap (λ (x : BookData). archiveAnswer (book x)) q)
-
--- the cells that were read are those of the book
-pub book-back : (token id : ℕ) {p : Ans (List SubmittedTx)} {u : Bool} {n : ℕ} {ts : List SubmittedTx} {d : ℕ} {q : Ans (List PendingDelivery)} {v : Bool} {m : ℕ} {qs : List PendingDelivery} {e : ℕ}
-    {r : Ans Tail} {w : Bool} {a : Ids64} {b : ReplayEpoch} {f : ℕ} → ReadsCells 16 zeroSubmitted p u n ts d → ReadsCells 16 zeroDelivery q v m qs e → ReadsTail r w a b f
-    → back (bookOf (record { token = token; id = id }) (take n ts) (take m qs) (tailOf a b))
-    ≡ record {
+-- the sections one behind the other
+pub book-reads : {s : List ℕ} {c d e f g h j token id k m : ℕ} {ts : List SubmittedTx} {ids : List ℕ} {qs : List PendingDelivery} {r : Ids64} {height : OptionalHeight} {p : Ids16}
+    → Reads parseNumbers s c (record { token = token; id = id }) d → ReadsRetained token s d k ts ids e → ReadsCells 16 zeroDelivery (λ before. parseDelivery) s e m qs f
+    → ReadsCells 64 0 parseRetired s f (r .count) (r .items) g → Reads parseHeight s g height h → ReadsCells 16 0 (parseReplayed (take k ids)) s h (p .count) (p .items) j
+    → ReadsBook s c (record {
       «next_delivery_attempt_token» = record { 0 = token };
       «next_submission_id» = record { 0 = id };
-      «submitted_count» = n;
+      «submitted_count» = k;
       submitted = ts;
       «pending_count» = m;
       «pending_deliveries» = qs;
-      «retired_submission_ids» = a;
-      «replay_epoch» = b;
+      «retired_submission_ids» = r;
+      «replay_epoch» = record { «rollback_height» = height; «replayed_submission_ids» = p };
+    }) j
+unfolding parseModel back
+book-reads {s} {c} {d} {e} {f} {g} {h} {j} {token} {id} {k} {m} {ts} {ids} {qs} {r} {height} {p} n t q a b u =
+    let w : Reads (listFrom 16 (parseReplayed (map idOf (take k ts)))) s h (take (p .count) (p .items)) j = subst (λ (l : List ℕ). Reads (listFrom 16 (parseReplayed l)) s h (take (p .count) (p .items)) j) (t .ids-are) (u .read) in
+    record {
+      model = record {
+        nextToken = record { 0 = token };
+        nextId = record { 0 = id };
+        submitted = take k ts;
+        pending = take m qs;
+        retired = take (r .count) (r .items);
+        rollback = height;
+        replayed = take (p .count) (p .items);
+      };
+      read = reads-then _ n (reads-then _ (t .cells .read) (reads-then _ (q .read) (reads-then _ (a .read) (reads-then _ b (reads-then _ w ends)))));
+      cells = λ i. record {
+        «next_delivery_attempt_token» = record { 0 = token };
+        «next_submission_id» = record { 0 = id };
+        «submitted_count» = t .cells .long i;
+        submitted = t .cells .same i;
+        «pending_count» = q .long i;
+        «pending_deliveries» = q .same i;
+        «retired_submission_ids» = record { count = a .long i; items = a .same i };
+        «replay_epoch» = record { «rollback_height» = height; «replayed_submission_ids» = record { count = u .long i; items = u .same i } };
+      };
     }
-unfolding back
-book-back token id {p} {u} {n} {ts} {d} {q} {v} {m} {qs} {e} {r} {w} {a} {b} {f} x y z = λ i. record {
-  «next_delivery_attempt_token» = record { 0 = token };
-  «next_submission_id» = record { 0 = id };
-  «submitted_count» = x .long i;
-  submitted = x .rest i;
-  «pending_count» = y .long i;
-  «pending_deliveries» = y .rest i;
-  «retired_submission_ids» = z .far i;
-  «replay_epoch» = record { «rollback_height» = b .«rollback_height»; «replayed_submission_ids» = z .near i };
-}
+
+module _ (s : List ℕ) {b : BookData} {e : ℕ} (r : ReadsBook s 0 b e) where
+  abbrev ended : Ans Book → Ans Book
+  ended x = andThen x (λ m d. end m s d)
+
+  whole : {x : Ans Book} → parseModel s 0 ≡ x → archiveAnswer (readArchive s) ≡ archiveAnswer (archiveRead (ended x))
+  unfolding readArchive parseWhole
+  whole h = ap (λ (x : Ans Book). archiveAnswer (archiveRead (ended x))) h
+
+  good : e < far → parseModel s 0 ≡ got (r .model) e
+  good h = sym (r .read .is) ∙ rw (lt-ltb e far h)
+
+  pub answer-over : e < length s → length s < far → record { ok = false; place = e; book = zeroBook } ≡ archiveAnswer (readArchive s)
+  unfolding end
+  answer-over h l = sym (whole (good (omega arith)) ∙ rw (lt-leb (length s) e h))
+
+  pub answer-got : length s ≤ e → e < far → record { ok = true; place = 0; book = b } ≡ archiveAnswer (readArchive s)
+  unfolding end
+  answer-got h l = sym (whole (good l) ∙ rw (le-leb (length s) e h) (ap (λ (x : BookData). archiveAnswer (book x)) (r .cells)))
+
+  pub answer-bad : far ≤ e → record { ok = false; place = e - far; book = zeroBook } ≡ archiveAnswer (readArchive s)
+  answer-bad h = sym (whole {x = bad (e - far)} (sym (r .read .is) ∙ rw (le-ltb e far h)))

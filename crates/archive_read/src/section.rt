@@ -1,386 +1,161 @@
 // The sections of an archive, each after its count.
-use crate::ReadIds16;
-use crate::ReadIds64;
-use crate::ReadNumbers;
-use crate::ReadQueue;
-use crate::ReadRetained;
-use crate::ReadTail;
 use book_data::Ids16;
 use book_data::Ids64;
-use book_data::OptionalHeight;
 use book_data::PendingDelivery;
-use book_data::ReplayEpoch;
+use book_data::SubmissionId;
 use book_data::SubmittedTx;
-use entry_read::delivery;
-use entry_read::submission;
+use book_data::Token;
+use cursor::pass;
+use cursor::read_count;
+use cursor::read_number;
+use entry_read::delivery::read_delivery;
+use entry_read::submission::read_new_id;
+use entry_read::submission::read_submitted;
 use lists::contains;
-use spend_read::part;
-use wire_bytes::ReadNumber;
-use wire_bytes::read;
-use wire_bytes::read::no_number;
 ghost use mathlib.Core.Path.{_≡_};
-ghost use mathlib.Core.Bool.{true, false};
 ghost use mathlib.Core.List.{map};
-ghost use Prim.Native.Nat.{_≤_};
-ghost use lib.ListN.{take, replicate};
-ghost use Rattle.lists.specs.Lists.{elemb};
-ghost use Rattle.wire.specs.Wire.{listFrom, listOf};
-ghost use Rattle.wire_bytes.specs.Reading.{Reads};
-ghost use Rattle.book_data.specs.Zero.{zeroSubmitted, zeroDelivery};
-ghost use Rattle.book_data.specs.Sound.{idOf};
-ghost use Rattle.archive_form.specs.Parse.{above, parseNumbers, parseSubmitted, parseDelivery, parseRetired, parseReplayed};
-ghost use Rattle.archive_read.specs.Sections.{ReadsCells, ReadsTail, numbersOf, parseTail};
+ghost use mathlib.Core.Bool.{cond};
+ghost use Prim.Native.Nat.{_+_, _≤_, _<_};
+ghost use lib.ListN.{take};
+ghost use Rattle.cursor.specs.Cursor.{Reads};
+ghost use Rattle.cursor.specs.Cells.{ReadsCells};
+ghost use Rattle.book_data.specs.Zero.{zeroDelivery};
+ghost use Rattle.archive_form.specs.Parse.{above, parseNumbers, parseDelivery, parseRetired, parseReplayed};
+ghost use Rattle.archive_read.specs.Sections.{ReadsRetained};
 
-fn no_numbers(at: usize) -> ReadNumbers
-    ensures { λ r. ⌜ r ≡ record { ok = false; token = 0; id = 0; at = at } ⌝ }
-{
-    ReadNumbers {
-        ok: false,
-        token: 0,
-        id: 0,
-        at,
-    }
+pub struct Numbers {
+    pub token: Token,
+    pub id: SubmissionId,
+}
+
+pub struct Retained {
+    pub count: usize,
+    pub items: [SubmittedTx; 16],
+    pub ids: [u64; 16],
+}
+
+pub struct Queue {
+    pub count: usize,
+    pub items: [PendingDelivery; 16],
 }
 
 // Numbers, with the count 2: next token, next submission id.
-pub fn read_numbers(s: &[u8], at: usize) -> ReadNumbers
-    ensures { λ r. ⌜ Reads (numbersOf 0 0) (parseNumbers (now (s .entry)) at) (r .ok) (numbersOf (r .token) (r .id)) (r .at) ⌝ }
+pub fn read_numbers(s: &[u8], at: &mut usize) -> Numbers
+    ensures { λ r. ⌜ Reads parseNumbers (now (s .entry)) (now (at .entry)) (record { token = r .token .0; id = r .id .0 }) (now (at .exit)) ⌝ }
 {
-    let c = read::read_count(s, at, 2);
-    let count_ok = c.ok;
-    if !count_ok {
-        return no_numbers(c.at);
-    }
-    if c.value != 2 {
-        return no_numbers(at);
-    }
-    let t = read::read_number(s, c.at);
-    let token_ok = t.ok;
-    if !token_ok {
-        return no_numbers(t.at);
-    }
-    let i = read::read_number(s, t.at);
-    let id_ok = i.ok;
-    if !id_ok {
-        return no_numbers(i.at);
-    }
-    ReadNumbers {
-        ok: true,
-        token: t.value,
-        id: i.value,
-        at: i.at,
+    let start = *at;
+    let k = read_count(s, &mut *at, 2);
+    *at = pass(k == 2, start, *at);
+    let token = read_number(s, &mut *at);
+    let id = read_number(s, at);
+    Numbers {
+        token: Token(token),
+        id: SubmissionId(id),
     }
 }
 
-fn no_retained(at: usize) -> ReadRetained
-    ensures { λ r. ⌜ r ≡ record { ok = false; count = 0; items = replicate 16 zeroSubmitted; at = at } ⌝ }
+// One more than n where a mark is set.
+fn marked(n: usize, mark: bool) -> usize
+    requires { ⌜ n < 32 ⌝ }
+    ensures { λ r. ⌜ r ≡ n + cond mark 1 0 ⌝ }
 {
-    let z = SubmittedTx::zero();
-    ReadRetained {
-        ok: false,
-        count: 0,
-        items: [z; 16],
-        at,
+    if mark {
+        return n + 1;
     }
+    n
 }
 
-pub fn read_retained(s: &[u8], at: usize, next: u64) -> ReadRetained
-    ensures { λ r. ⌜ ReadsCells 16 zeroSubmitted (listFrom 16 (parseSubmitted next) (now (s .entry)) at) (r .ok) (r .count) (r .items) (r .at) ⌝ }
+pub fn read_retained(s: &[u8], at: &mut usize, next: Token) -> Retained
+    ensures { λ r. ⌜ ReadsRetained (next .0) (now (s .entry)) (now (at .entry)) (r .count) (r .items) (r .ids) (now (at .exit)) ⌝ }
 {
-    let c = read::read_count(s, at, 16);
-    let ok = c.ok;
-    if !ok {
-        return no_retained(c.at);
-    }
-    let n = c.value as usize;
+    let n = read_count(s, &mut *at, 16) as usize;
     let z = SubmittedTx::zero();
     let mut items = [z; 16];
-    let mut e = c.at;
+    let mut ids = [0u64; 16];
+    let mut tokens = [0u64; 32];
+    let mut m: usize = 0;
     let mut i: usize = 0;
     while i < n {
-        let r = submission::read_submitted(s, e, next, items, i);
-        let good = r.ok;
-        if !good {
-            return no_retained(r.at);
-        }
-        let x = r.value;
+        let x = read_submitted(s, &mut *at, next, &ids[0..i], &tokens[0..m]);
         items[i] = x;
-        e = r.at;
+        ids[i] = x.entry.id.0;
+        tokens[m] = x.slots.active_attempt.attempt.token.0;
+        m = marked(m, x.slots.active_attempt.present);
+        tokens[m] = x.slots.completed_attempt.attempt.token.0;
+        m = marked(m, x.slots.completed_attempt.present);
         i += 1;
     }
-    ReadRetained {
-        ok: true,
+    Retained {
         count: n,
         items,
-        at: e,
+        ids,
     }
 }
 
-fn no_queue(at: usize) -> ReadQueue
-    ensures { λ r. ⌜ r ≡ record { ok = false; count = 0; items = replicate 16 zeroDelivery; at = at } ⌝ }
+pub fn read_queue(s: &[u8], at: &mut usize) -> Queue
+    ensures { λ r. ⌜ ReadsCells 16 zeroDelivery (λ before. parseDelivery) (now (s .entry)) (now (at .entry)) (r .count) (r .items) (now (at .exit)) ⌝ }
 {
-    let z = PendingDelivery::zero();
-    ReadQueue {
-        ok: false,
-        count: 0,
-        items: [z; 16],
-        at,
-    }
-}
-
-pub fn read_queue(s: &[u8], at: usize) -> ReadQueue
-    ensures { λ r. ⌜ ReadsCells 16 zeroDelivery (listOf 16 parseDelivery (now (s .entry)) at) (r .ok) (r .count) (r .items) (r .at) ⌝ }
-{
-    let c = read::read_count(s, at, 16);
-    let ok = c.ok;
-    if !ok {
-        return no_queue(c.at);
-    }
-    let n = c.value as usize;
+    let n = read_count(s, &mut *at, 16) as usize;
     let z = PendingDelivery::zero();
     let mut items = [z; 16];
-    let mut e = c.at;
     let mut i: usize = 0;
     while i < n {
-        let r = delivery::read_delivery(s, e);
-        let good = r.ok;
-        if !good {
-            return no_queue(r.at);
-        }
-        let x = r.value;
+        let x = read_delivery(s, &mut *at);
         items[i] = x;
-        e = r.at;
         i += 1;
     }
-    ReadQueue {
-        ok: true,
-        count: n,
-        items,
-        at: e,
-    }
+    Queue { count: n, items }
 }
 
-// Whether x is among the first n.
-fn listed(earlier: [u64; 64], n: usize, x: u64) -> bool
-    requires { ⌜ n ≤ 64 ⌝ }
-    ensures { λ r. ⌜ r ≡ elemb x (take n earlier) ⌝ }
+pub fn read_retirements(s: &[u8], at: &mut usize) -> Ids64
+    ensures { λ r. ⌜ ReadsCells 64 0 parseRetired (now (s .entry)) (now (at .entry)) (r .count) (r .items) (now (at .exit)) ⌝ }
 {
-    contains(&earlier[0..n], x)
-}
-
-fn read_retirement(s: &[u8], at: usize, earlier: [u64; 64], n: usize) -> ReadNumber
-    requires { ⌜ n ≤ 64 ⌝ }
-    ensures { λ r. ⌜ Reads 0 (parseRetired (take n earlier) (now (s .entry)) at) (r .ok) (r .value) (r .at) ⌝ }
-{
-    let x = read::read_number(s, at);
-    let ok = x.ok;
-    if !ok {
-        return no_number(x.at);
-    }
-    if listed(earlier, n, x.value) {
-        return no_number(at);
-    }
-    ReadNumber {
-        ok: true,
-        value: x.value,
-        at: x.at,
-    }
-}
-
-fn no_ids64(at: usize) -> ReadIds64
-    ensures { λ r. ⌜ r ≡ record { ok = false; count = 0; items = replicate 64 0; at = at } ⌝ }
-{
-    ReadIds64 {
-        ok: false,
-        count: 0,
-        items: [0; 64],
-        at,
-    }
-}
-
-fn read_retirements(s: &[u8], at: usize) -> ReadIds64
-    ensures { λ r. ⌜ ReadsCells 64 0 (listFrom 64 parseRetired (now (s .entry)) at) (r .ok) (r .count) (r .items) (r .at) ⌝ }
-{
-    let c = read::read_count(s, at, 64);
-    let ok = c.ok;
-    if !ok {
-        return no_ids64(c.at);
-    }
-    let n = c.value as usize;
+    let n = read_count(s, &mut *at, 64) as usize;
     let mut items = [0u64; 64];
-    let mut e = c.at;
     let mut i: usize = 0;
     while i < n {
-        let r = read_retirement(s, e, items, i);
-        let good = r.ok;
-        if !good {
-            return no_ids64(r.at);
-        }
-        items[i] = r.value;
-        e = r.at;
+        let x = read_new_id(s, &mut *at, &items[0..i]);
+        items[i] = x.0;
         i += 1;
     }
-    ReadIds64 {
-        ok: true,
-        count: n,
-        items,
-        at: e,
-    }
+    Ids64 { count: n, items }
 }
 
-// Whether x is above the last of the first n.
-fn rises(earlier: [u64; 16], n: usize, x: u64) -> bool
-    requires { ⌜ n ≤ 16 ⌝ }
-    ensures { λ r. ⌜ r ≡ above (take n earlier) x ⌝ }
+// Whether x is above the last.
+fn rises(earlier: &[u64], x: SubmissionId) -> bool
+    ensures { λ r. ⌜ r ≡ above (now (earlier .entry)) (x .0) ⌝ }
 {
+    let n = earlier.len();
     if n == 0 {
         return true;
     }
-    earlier[n - 1] < x
+    earlier[n - 1] < x.0
 }
 
 // A replayed id is above the one before it, and retained.
-fn read_replay(
-    s: &[u8],
-    at: usize,
-    retained: [SubmittedTx; 16],
-    count: usize,
-    earlier: [u64; 16],
-    n: usize,
-) -> ReadNumber
-    requires { ⌜ count ≤ 16 ⌝ }
-    requires { ⌜ n ≤ 16 ⌝ }
-    ensures { λ r. ⌜ Reads 0 (parseReplayed (map idOf (take count retained)) (take n earlier) (now (s .entry)) at) (r .ok) (r .value) (r .at) ⌝ }
+fn read_replay(s: &[u8], at: &mut usize, retained: &[u64], earlier: &[u64]) -> SubmissionId
+    ensures { λ r. ⌜ Reads (parseReplayed (now (retained .entry)) (now (earlier .entry))) (now (s .entry)) (now (at .entry)) (r .0) (now (at .exit)) ⌝ }
 {
-    let x = read::read_number(s, at);
-    let ok = x.ok;
-    if !ok {
-        return no_number(x.at);
-    }
-    let up = rises(earlier, n, x.value);
-    let held = submission::holds_id(retained, count, x.value);
-    let good = up & held;
-    if !good {
-        return no_number(at);
-    }
-    ReadNumber {
-        ok: true,
-        value: x.value,
-        at: x.at,
-    }
+    let start = *at;
+    let n = read_number(s, &mut *at);
+    let id = SubmissionId(n);
+    let up = rises(earlier, id);
+    let held = contains(retained, n);
+    *at = pass(up & held, start, *at);
+    id
 }
 
-fn no_ids16(at: usize) -> ReadIds16
-    ensures { λ r. ⌜ r ≡ record { ok = false; count = 0; items = replicate 16 0; at = at } ⌝ }
-{
-    ReadIds16 {
-        ok: false,
-        count: 0,
-        items: [0; 16],
-        at,
-    }
-}
-
-fn read_replays(s: &[u8], at: usize, retained: [SubmittedTx; 16], count: usize) -> ReadIds16
+pub fn read_replays(s: &[u8], at: &mut usize, retained: [u64; 16], count: usize) -> Ids16
     requires { ⌜ count ≤ 16 ⌝ }
-    ensures { λ r. ⌜ ReadsCells 16 0 (listFrom 16 (parseReplayed (map idOf (take count retained))) (now (s .entry)) at) (r .ok) (r .count) (r .items) (r .at) ⌝ }
+    ensures { λ r. ⌜ ReadsCells 16 0 (parseReplayed (take count retained)) (now (s .entry)) (now (at .entry)) (r .count) (r .items) (now (at .exit)) ⌝ }
 {
-    let c = read::read_count(s, at, 16);
-    let ok = c.ok;
-    if !ok {
-        return no_ids16(c.at);
-    }
-    let n = c.value as usize;
+    let n = read_count(s, &mut *at, 16) as usize;
     let mut items = [0u64; 16];
-    let mut e = c.at;
     let mut i: usize = 0;
     while i < n {
-        let r = read_replay(s, e, retained, count, items, i);
-        let good = r.ok;
-        if !good {
-            return no_ids16(r.at);
-        }
-        items[i] = r.value;
-        e = r.at;
+        let x = read_replay(s, &mut *at, &retained[0..count], &items[0..i]);
+        items[i] = x.0;
         i += 1;
     }
-    ReadIds16 {
-        ok: true,
-        count: n,
-        items,
-        at: e,
-    }
-}
-
-fn no_tail(at: usize) -> ReadTail
-    ensures { λ r. ⌜ r ≡ record { ok = false; retired = record { count = 0; items = replicate 64 0 }; epoch = record { «rollback_height» = OptionalHeight.NoHeight; «replayed_submission_ids» = record { count = 0; items = replicate 16 0 } }; at = at } ⌝ }
-{
-    let retired = Ids64 {
-        count: 0,
-        items: [0; 64],
-    };
-    let replayed_submission_ids = Ids16 {
-        count: 0,
-        items: [0; 16],
-    };
-    let epoch = ReplayEpoch {
-        rollback_height: OptionalHeight::NoHeight,
-        replayed_submission_ids,
-    };
-    ReadTail {
-        ok: false,
-        retired,
-        epoch,
-        at,
-    }
-}
-
-// The two id lists and the height, which were read up to where b ends.
-fn tail_of(a: ReadIds64, height: OptionalHeight, b: ReadIds16) -> ReadTail
-    ensures { λ r. ⌜ r ≡ record { ok = true; retired = record { count = a .count; items = a .items }; epoch = record { «rollback_height» = height; «replayed_submission_ids» = record { count = b .count; items = b .items } }; at = b .at } ⌝ }
-{
-    let far = a.items;
-    let near = b.items;
-    let retired = Ids64 {
-        count: a.count,
-        items: far,
-    };
-    let replayed_submission_ids = Ids16 {
-        count: b.count,
-        items: near,
-    };
-    let epoch = ReplayEpoch {
-        rollback_height: height,
-        replayed_submission_ids,
-    };
-    ReadTail {
-        ok: true,
-        retired,
-        epoch,
-        at: b.at,
-    }
-}
-
-// What follows the queue: retirements, rollback height, replayed ids.
-pub fn read_tail(s: &[u8], at: usize, retained: [SubmittedTx; 16], count: usize) -> ReadTail
-    requires { ⌜ count ≤ 16 ⌝ }
-    ensures { λ r. ⌜ ReadsTail (parseTail (map idOf (take count retained)) (now (s .entry)) at) (r .ok) (r .retired) (r .epoch) (r .at) ⌝ }
-{
-    let a = read_retirements(s, at);
-    let retired_ok = a.ok;
-    if !retired_ok {
-        return no_tail(a.at);
-    }
-    let h = part::read_height(s, a.at);
-    let height_ok = h.ok;
-    if !height_ok {
-        return no_tail(h.at);
-    }
-    let b = read_replays(s, h.at, retained, count);
-    let replayed_ok = b.ok;
-    if !replayed_ok {
-        return no_tail(b.at);
-    }
-    let height = h.value;
-    tail_of(a, height, b)
+    Ids16 { count: n, items }
 }

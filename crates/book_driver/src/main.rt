@@ -13,9 +13,9 @@ use driver_lists::id_ops;
 use driver_values::drain_ops;
 use driver_values::status_ops;
 use driver_values::value_ops;
+use script::kind::read_byte;
+use script::kind::read_number;
 use submission::SubmissionBook;
-use wire_bytes::read::read_count;
-use wire_bytes::read::read_number;
 ghost use Prim.Native.Nat.{_<_};
 
 // Whether the script goes on, the bytes in hand, and the book.
@@ -28,7 +28,7 @@ struct Played {
 
 // The call at a position of the script: each module has the calls of one kind of answer.
 fn play_call(s: &[u8], at: usize, b: SubmissionBook) -> Step {
-    let op = read_count(s, at, 255);
+    let op = read_byte(s, at);
     let ok = op.ok;
     if !ok {
         return broken(b);

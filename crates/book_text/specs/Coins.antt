@@ -2,18 +2,19 @@
 use mathlib.Core.Path.{_≡_, refl, sym, ap, _∙_}
 use mathlib.Core.Bool.{Bool, true, false, _&&_}
 use mathlib.Core.List.{List, [], _∷_, _++_}
-use Prim.Native.Nat.{ℕ, suc, _*_, _+_, _%_, _^_, _≤_, _<_}
+use Prim.Native.Nat.{ℕ, suc, _*_, _+_, _-_, _%_, _^_, _≤_, _<_}
 use native.Mathlib.Numerals.{add-one}
-use borrow.Author.Tests.{le-leb, leb-true, lt-leb}
+use borrow.Author.Tests.{le-leb, leb-true, lt-leb, lt-ltb}
 use lib.ListN.{length, take, drop, getD, drop-of-length-le}
 use lib.Seq.{drop-cons}
-use lib.Dec.{leb}
+use lib.Dec.{leb, ltb}
 use Rattle.lists.specs.Bytes.{eqs}
 use Rattle.lists.specs.Laws.{and-split}
 use Rattle.coin_string.specs.declared.CoinString.{CoinString}
 use Rattle.coin_string.specs.Coin.{coinOfParts, coinIdOf, FromParts, from-parts-bytes}
-use Rattle.wire.specs.Wire.{got, run}
-use Rattle.wire_bytes.specs.Reading.{answer, Reads, run-got}
+use Rattle.wire.specs.Wire.{got, bad, pick, run}
+use Rattle.wire_bytes.specs.Reading.{run-got}
+use Rattle.cursor.specs.Cursor.{far, Reads}
 use native.Mathlib.Omega.{arith}
 use Rattle.text.specs.Ascii.{ascii}
 use Rattle.text.specs.Numbers.{numberLine, hexLine}
@@ -87,10 +88,10 @@ unfolding isCoin
 coin-room c h = leb-true 64 (length c) (and-split (leb 64 (length c)) (eqs c (coinOfParts (parentOf c) (puzzleOf c) (amountOf c))) h .0)
 
 -- ---- the coin made of what was read is compared with the coin
-pub read-is : {z : List ℕ} (s : List ℕ) (at : ℕ) {ok : Bool} {v : List ℕ} {e : ℕ} → Reads z (run 32 s at) ok v e → at + 32 ≤ length s → v ≡ take 32 (drop at s)
-read-is s at {ok} {v} {e} r h = go ok (r .is ∙ run-got 32 s at h)
+pub read-is : (s : List ℕ) (at : ℕ) {v : List ℕ} {e : ℕ} → Reads (run 32) s at v e → at < far → at + 32 ≤ length s → v ≡ take 32 (drop at s)
+read-is s at {v} {e} r k h = go (ltb e far) (r .is ∙ rw (lt-ltb at far k) (run-got 32 s at h))
   where
-    go : (b : Bool) → answer b v e ≡ got (take 32 (drop at s)) (at + 32) → v ≡ take 32 (drop at s)
+    go : (b : Bool) → pick b (got v e) (bad (e - far)) ≡ got (take 32 (drop at s)) (at + 32) → v ≡ take 32 (drop at s)
     go true q = cc
     go false q = absurd (let z : _≡_ {A = ℕ} 0 1 = cc in omega arith)
 

@@ -5,9 +5,9 @@ ghost use lib.ListN.{length};
 ghost use Rattle.answers.specs.Fits.{Fits};
 ghost use Rattle.book_text.specs.Coins.{amountOf, isCoin, partsText, coinOrBytes, coinText};
 use coin_string::from_parts;
+use cursor::read_hash;
 use text::append_hex_line;
 use text::append_number_line;
-use wire_bytes::read::read_hash;
 use wire_bytes::read::wide;
 
 // The amount of a coin string that is_coin accepts.
@@ -31,11 +31,11 @@ pub fn is_coin(c: &[u8]) -> bool
     if c.len() < 64 {
         return false;
     }
-    let parent = read_hash(c, 0);
-    let puzzle = read_hash(c, 32);
+    let mut parent_at: usize = 0;
+    let mut puzzle_at: usize = 32;
+    let parent_hash = read_hash(c, &mut parent_at);
+    let puzzle_hash = read_hash(c, &mut puzzle_at);
     let v = amount(c);
-    let parent_hash = parent.value;
-    let puzzle_hash = puzzle.value;
     let made = from_parts(parent_hash, puzzle_hash, v);
     let bytes = made.bytes;
     let n = made.len as usize;

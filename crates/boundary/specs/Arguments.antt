@@ -1,14 +1,15 @@
 -- Arguments in bytes. One that stands for no value of its type is refused 3, behind the book (1) and the call's lists (2): "Checks run downward."
 use Prim.Native.Nat.{ℕ, zero, suc, _≤_, _<_}
 use mathlib.Core.Path.{_≡_, refl, sym, ap, _∙_}
-use mathlib.Core.Bool.{Bool, true, false, not, cond}
+use mathlib.Core.Bool.{Bool, true, false, cond}
 use mathlib.Core.List.{List, [], _∷_}
 use mathlib.Core.Option.{Option, none, some}
 use lib.ListN.{length}
 use lib.Dec.{leb}
 use borrow.Author.Tests.{le-leb, lt-leb}
 use Rattle.wire.specs.Wire.{Ans, got, bad, Parser}
-use Rattle.wire_bytes.specs.Reading.{Reads, reads-got, reads-bad}
+use native.Mathlib.Omega.{arith}
+use Rattle.cursor.specs.Cursor.{far, Reads, reads-got, reads-bad}
 use Rattle.book_data.specs.declared.BookData.{BookData}
 use Rattle.rules.specs.Call.{Value}
 use Rattle.rules.specs.Rule.{Rule, undo, run}
@@ -46,20 +47,20 @@ flagIn zero = some false
 flagIn (suc zero) = some true
 flagIn (suc (suc k)) = none
 
-module _ {A : Type 0} {z : A} {ok : Bool} {v : A} {e : ℕ} where
-  pub byte-bad : (p : Parser A) (n : ℕ) → Reads z (p (n ∷ []) 0) ok v e → not ok ≡ true → byteAs p n ≡ none
-  byte-bad p n r q = ap taken (reads-bad r q)
+module _ {A : Type 0} {v : A} {e : ℕ} where
+  pub byte-bad : (p : Parser A) (n : ℕ) → Reads p (n ∷ []) 0 v e → far ≤ e → byteAs p n ≡ none
+  byte-bad p n r q = ap taken (reads-bad r (omega arith) q)
 
-  pub byte-got : (p : Parser A) (n : ℕ) → Reads z (p (n ∷ []) 0) ok v e → not ok ≡ false → byteAs p n ≡ some v
+  pub byte-got : (p : Parser A) (n : ℕ) → Reads p (n ∷ []) 0 v e → e < far → byteAs p n ≡ some v
   byte-got p n r q = ap taken (reads-got r q)
 
-  pub bytes-bad : (p : Parser A) (s : List ℕ) → Reads z (p s 0) ok v e → not ok ≡ true → bytesAs p s ≡ none
-  bytes-bad p s r q = ap (takenWhole (length s)) (reads-bad r q)
+  pub bytes-bad : (p : Parser A) (s : List ℕ) → Reads p s 0 v e → far ≤ e → bytesAs p s ≡ none
+  bytes-bad p s r q = ap (takenWhole (length s)) (reads-bad r (omega arith) q)
 
-  pub bytes-over : (p : Parser A) (s : List ℕ) → Reads z (p s 0) ok v e → not ok ≡ false → e < length s → bytesAs p s ≡ none
+  pub bytes-over : (p : Parser A) (s : List ℕ) → Reads p s 0 v e → e < far → e < length s → bytesAs p s ≡ none
   bytes-over p s r q h = ap (takenWhole (length s)) (reads-got r q) ∙ ap (λ (t : Bool). cond t (some v) none) (lt-leb (length s) e h)
 
-  pub bytes-got : (p : Parser A) (s : List ℕ) → Reads z (p s 0) ok v e → not ok ≡ false → length s ≤ e → bytesAs p s ≡ some v
+  pub bytes-got : (p : Parser A) (s : List ℕ) → Reads p s 0 v e → e < far → length s ≤ e → bytesAs p s ≡ some v
   bytes-got p s r q h = ap (takenWhole (length s)) (reads-got r q) ∙ ap (λ (t : Bool). cond t (some v) none) (le-leb (length s) e h)
 
 -- ---- refused at the boundary: n is 2 or 3

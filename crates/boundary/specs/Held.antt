@@ -13,7 +13,8 @@ use lib.Dec.{leb}
 use Rattle.wire.specs.Wire.{Ans, got, bad, Parser, _>>=_, be, number, run, overlay}
 use Rattle.wire.specs.Lawful.{IsBytes, Spans, span-join, span-left, span-right}
 use Rattle.wire.specs.Items.{run-lawful, number-lawful}
-use Rattle.wire_bytes.specs.Reading.{Reads, reads-got, reads-bad, then-bad, then-got, run-short, run-got}
+use Rattle.wire_bytes.specs.Reading.{then-bad, then-got, run-short, run-got}
+use Rattle.cursor.specs.Cursor.{far, Reads, reads-got, reads-bad}
 use Rattle.book_data.specs.Sound.{soundb}
 use Rattle.book_data.specs.Model.{Book, view}
 use Rattle.book_data.specs.Typed.{Every, U8, Typed}
@@ -110,14 +111,14 @@ nothing-held e = ap (λ (x : ReadArchive). x .ok) e
 
 -- ---- the three ways of reading
 module _ (d : List ℕ) where
-  pub held-short : (r : ReadArchive) {v a : ℕ} {ok : Bool} → Reads 0 (number 8 d 0) ok v a → not ok ≡ true → r .ok ≡ false → HeldAnswer d r
+  pub held-short : (r : ReadArchive) {v a : ℕ} → Reads (number 8) d 0 v a → far ≤ a → r .ok ≡ false → HeldAnswer d r
   unfolding heldIn archiveIn
   held-short r h q f = record {
-    absent = λ _. ap heldBy (then-bad (number 8) run d 0 (reads-bad h q));
+    absent = λ _. ap heldBy (then-bad (number 8) run d 0 (reads-bad h (omega arith) q));
     present = λ p. absurd (let z : _≡_ {A = ℕ} 0 1 = cc in omega arith);
   }
 
-  pub held-cut : (r : ReadArchive) {v a : ℕ} {ok room : Bool} → Reads 0 (number 8 d 0) ok v a → not ok ≡ false → room ≡ leb (a + v) (length d) → not room ≡ true → r .ok ≡ false → HeldAnswer d r
+  pub held-cut : (r : ReadArchive) {v a : ℕ} {room : Bool} → Reads (number 8) d 0 v a → a < far → room ≡ leb (a + v) (length d) → not room ≡ true → r .ok ≡ false → HeldAnswer d r
   unfolding heldIn archiveIn
   held-cut r {v} {a} h q m n f = record {
     absent = λ _. ap heldBy (then-got (number 8) run d 0 (reads-got h q) ∙ run-short v d a m n);
@@ -149,7 +150,7 @@ module _ (d : List ℕ) where
     present = λ f. absurd (let z : _≡_ {A = ℕ} 0 1 = cc in omega arith);
   }
 
-  pub held-read : {v a : ℕ} {ok : Bool} (r : ReadArchive) → Every U8 d → Reads 0 (number 8 d 0) ok v a → not ok ≡ false → a + v ≤ length d
+  pub held-read : {v a : ℕ} (r : ReadArchive) → Every U8 d → Reads (number 8) d 0 v a → a < far → a + v ≤ length d
       → r ≡ archiveAnswer (readArchive (take (a + v - a) (drop a d))) → HeldAnswer d r
   unfolding archiveIn
   held-read {v} {a} r t h q m e =

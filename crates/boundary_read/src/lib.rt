@@ -1,8 +1,9 @@
 // The book that lent bytes hold.
 use archive_read::ReadArchive;
 use archive_read::read_archive;
+use cursor::FAR;
+use cursor::read_number;
 use wire_bytes::read::has;
-use wire_bytes::read::read_number;
 ghost use mathlib.Core.Path.{_≡_};
 ghost use mathlib.Core.Bool.{false};
 ghost use Prim.Native.Nat.{_<_};
@@ -37,13 +38,11 @@ fn absent(d: &[u8]) -> ReadArchive
 pub fn held(d: &[u8]) -> ReadArchive
     ensures { λ r. ⌜ HeldAnswer (now (d .entry)) r ⌝ }
 {
-    let n = read_number(d, 0);
-    let whole = n.ok;
-    if !whole {
+    let mut at: usize = 0;
+    let length = read_number(d, &mut at) as usize;
+    if FAR <= at {
         return absent(d);
     }
-    let at = n.at;
-    let length = n.value as usize;
     let room = has(d, at, length);
     if !room {
         return absent(d);

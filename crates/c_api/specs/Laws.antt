@@ -1,14 +1,15 @@
 -- Arguments of the exported functions that are no plain numbers, and the replies of calls by them.
-use Prim.Native.Nat.{ℕ, zero, suc, _≤_, _<_}
+use Prim.Native.Nat.{ℕ, zero, suc, _-_, _≤_, _<_}
 use mathlib.Core.Path.{_≡_, refl, sym, ap, _∙_}
 use mathlib.Core.Bool.{Bool, true, false, not, cond, _&&_}
 use mathlib.Core.List.{List, []}
 use mathlib.Core.Option.{Option, none, some}
 use native.Mathlib.Omega.{arith}
 use lib.ListN.{length}
-use lib.Dec.{eqb, leb}
+use lib.Dec.{eqb, ltb, leb}
 use borrow.Author.Tests.{le-leb, lt-leb, ne-eqb}
-use Rattle.wire_bytes.specs.Reading.{Reads, answer}
+use Rattle.wire.specs.Wire.{pick, got, bad}
+use Rattle.cursor.specs.Cursor.{far, Reads}
 use Rattle.book_data.specs.Model.{Book, view}
 use Rattle.book_data.specs.Zero.{zeroBundle}
 use Rattle.book_data.specs.declared.BookData.{BookData}
@@ -72,12 +73,14 @@ joined-as : (n : ℕ) (s : List ℕ) (x : Bool) (v : SpendBundle) → joinedIn n
 joined-as n s true v e = record { absent = λ q. absurd (let z : _≡_ {A = ℕ} 0 1 = cc in omega arith); present = λ _. e }
 joined-as n s false v e = record { absent = λ _. e; present = λ q. absurd (let z : _≡_ {A = ℕ} 0 1 = cc in omega arith) }
 
-pub joined-read : (n : ℕ) (s : List ℕ) {ok : Bool} {v : SpendBundle} {e : ℕ} → n ≡ 1 → Reads zeroBundle (parseBundle false s 0) ok v e → JoinedAnswer n s (record { ok = ok && leb (length s) e; bundle = v })
+pub joined-read : (n : ℕ) (s : List ℕ) {v : SpendBundle} {e : ℕ} → n ≡ 1 → Reads (parseBundle false) s 0 v e → JoinedAnswer n s (record { ok = ltb e far && leb (length s) e; bundle = v })
 unfolding joinedIn
-joined-read n s {ok} {v} {e} q r =
-    joined-as n s (ok && leb (length s) e) v (ap (λ (k : ℕ). cond (eqb k 1) (bytesAs (parseBundle false) s) (cond (leb (length s) 0) (some zeroBundle) none)) q ∙ ap (takenWhole (length s)) (sym (r .is)) ∙ go ok)
+joined-read n s {v} {e} q r =
+    joined-as n s (ltb e far && leb (length s) e) v
+    (ap (λ (k : ℕ). cond (eqb k 1) (bytesAs (parseBundle false) s) (cond (leb (length s) 0) (some zeroBundle) none)) q
+    ∙ ap (takenWhole (length s)) (sym (r .is)) ∙ go (ltb e far))
   where
-    go : (x : Bool) → takenWhole (length s) (answer x v e) ≡ cond (x && leb (length s) e) (some v) none
+    go : (x : Bool) → takenWhole (length s) (pick x (got v e) (bad (e - far))) ≡ cond (x && leb (length s) e) (some v) none
     go true = refl
     go false = refl
 

@@ -10,6 +10,7 @@ use boundary_attempts::settle_fee_intent;
 use boundary_attempts::settle_final;
 use boundary_read::held;
 use boundary_replies::settle_status;
+use cursor::FAR;
 use fee_intent_call::fee_intent_for_attempt_sound;
 use finalize_call::finalize_attempt_sound;
 use relinquish_call::relinquish_completed_attempt_sound;
@@ -135,10 +136,10 @@ fn joined_in(source: u8, joined: &[u8]) -> JoinedBundle
     ensures { λ r. ⌜ JoinedAnswer source (now (joined .entry)) r ⌝ }
 {
     if source == 1 {
-        let j = read_bundle(joined, 0, false);
-        let bundle = j.value;
+        let mut end: usize = 0;
+        let bundle = read_bundle(joined, &mut end, false);
         return JoinedBundle {
-            ok: j.ok & (joined.len() <= j.at),
+            ok: (end < FAR) & (joined.len() <= end),
             bundle,
         };
     }

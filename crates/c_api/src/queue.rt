@@ -2,6 +2,7 @@
 use book_data::SubmissionId;
 use boundary_read::held;
 use boundary_write::settle_done;
+use cursor::FAR;
 use entry_read::delivery::read_delivery;
 use fee_readiness_call::queue_fee_readiness_sound;
 use queue_calls::queue_retained_delivery_sound;
@@ -48,15 +49,15 @@ pub extern "C" fn submission_book_queue(book: &mut [u8], delivery: &[u8]) -> u8
     if !ok {
         return 1;
     }
-    let d = read_delivery(delivery, 0);
-    let whole = d.ok;
-    if !whole {
+    let mut end: usize = 0;
+    let d = read_delivery(delivery, &mut end);
+    if FAR <= end {
         return 3;
     }
-    if d.at < delivery.len() {
+    if end < delivery.len() {
         return 3;
     }
-    let r = queue_sound(h.book, d.value);
+    let r = queue_sound(h.book, d);
     settle_done(r, book)
 }
 
@@ -77,13 +78,12 @@ pub extern "C" fn submission_book_queue_rebroadcast_epoch(
         return 2;
     }
     let byte = [trigger];
-    let t = read_trigger(&byte, 0);
-    let whole = t.ok;
-    if !whole {
+    let mut end: usize = 0;
+    let t = read_trigger(&byte, &mut end);
+    if FAR <= end {
         return 3;
     }
-    let value = t.value;
-    let r = queue_rebroadcast_epoch_sound(h.book, ids, value);
+    let r = queue_rebroadcast_epoch_sound(h.book, ids, t);
     settle_done(r, book)
 }
 
@@ -102,19 +102,17 @@ pub extern "C" fn submission_book_queue_retained_delivery(
         return 1;
     }
     let byte = [trigger];
-    let t = read_trigger(&byte, 0);
-    let whole = t.ok;
-    if !whole {
+    let mut end: usize = 0;
+    let t = read_trigger(&byte, &mut end);
+    if FAR <= end {
         return 3;
     }
     let next = [goal];
-    let g = read_goal(&next, 0);
-    let known = g.ok;
-    if !known {
+    let mut goal_end: usize = 0;
+    let g = read_goal(&next, &mut goal_end);
+    if FAR <= goal_end {
         return 3;
     }
-    let trigger_value = t.value;
-    let goal_value = g.value;
-    let r = queue_retained_delivery_sound(h.book, SubmissionId(id), trigger_value, goal_value);
+    let r = queue_retained_delivery_sound(h.book, SubmissionId(id), t, g);
     settle_done(r, book)
 }

@@ -8,12 +8,12 @@ use driver_frame::finish_with;
 use script::delivery::read_delivery;
 use script::kind::read_flag;
 use script::kind::read_goal;
+use script::kind::read_number;
 use script::kind::read_trigger;
 use script::list::read_bytes;
 use script::list::read_ids;
 use submission::DoneAnswer;
 use submission::SubmissionBook;
-use wire_bytes::read::read_number;
 
 // 01
 fn queue(s: &[u8], at: usize, b: SubmissionBook) -> Step {

@@ -9,9 +9,9 @@ use driver_frame::finish;
 use driver_frame::finish_with;
 use driver_frame::say;
 use replies::SubmissionAttemptStatus;
+use script::kind::read_number;
 use submission::StatusAnswer;
 use submission::SubmissionBook;
-use wire_bytes::read::read_number;
 
 fn say_status(status: SubmissionAttemptStatus) {
     let mut out = [0u8; 2];

@@ -18,6 +18,7 @@ use driver_frame::finish_with;
 use driver_frame::say;
 use replies::FinalizedSubmission;
 use script::cells::read_bundle;
+use script::kind::read_number;
 use script::kind::read_source;
 use submission::AttemptAnswer;
 use submission::FeeIntentAnswer;
@@ -25,7 +26,6 @@ use submission::FinalizeAnswer;
 use submission::FlagAnswer;
 use submission::HeightAnswer;
 use submission::SubmissionBook;
-use wire_bytes::read::read_number;
 
 fn say_flag(flag: bool) {
     let mut out = [0u8; 2];

@@ -1,2 +1,1 @@
-pub mod Attempts
 pub mod Entries

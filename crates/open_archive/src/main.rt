@@ -2,7 +2,7 @@
 use archive::Wrote;
 use book_data::SubmissionId;
 use book_data::Token;
-use wire_bytes::read::read_number;
+use cursor::read_number;
 
 fn refuse(text: &[u8]) {
     io::write_all(2, text);
@@ -15,9 +15,10 @@ fn main() {
         refuse(b"open_archive: two numbers of 8 bytes are wanted\n");
         return;
     }
-    let token = read_number(&numbers, 0);
-    let id = read_number(&numbers, 8);
-    let book = open_book::open(Token(token.value), SubmissionId(id.value));
+    let mut at: usize = 0;
+    let token = read_number(&numbers, &mut at);
+    let id = read_number(&numbers, &mut at);
+    let book = open_book::open(Token(token), SubmissionId(id));
     let mut out = [0u8; 22];
     let Wrote::Bytes(_n) = archive::write_archive(book, &mut out) else {
         refuse(b"open_archive: the archive does not fit\n");

@@ -6,20 +6,23 @@ use Prim.Native.Nat.{ℕ, _+_, _*_, _≤_, _<_}
 use native.Mathlib.Omega.{arith}
 use native.Mathlib.Decide.{decLe}
 use lib.ListN.{length, getD, take, drop}
-use lib.Dec.{leb}
-use borrow.Author.Tests.{le-leb, lt-leb, leb-true, not-false}
-use Rattle.wire.specs.Wire.{Ans, got, bad, Parser, run, number, upTo}
-use Rattle.wire_bytes.specs.Reading.{Reads, answer, run-short, run-got, number-short, number-got, upTo-short, upTo-over, upTo-got}
+use lib.Dec.{ltb, leb}
+use borrow.Author.Tests.{lt-leb, leb-true, ltb-true, ltb-false, not-false}
+use Rattle.wire.specs.Wire.{Ans, got, bad, Parser, pick, run, number, upTo}
+use Rattle.wire_bytes.specs.Reading.{run-short, run-got, number-short, number-got, upTo-short, upTo-over, upTo-got}
+use Rattle.cursor.specs.Cursor.{far, refusedAt, Reads, reads-got}
+use Rattle.cursor.specs.Items.{Counts}
 
 pub record Onward (s : List ℕ) (at : ℕ) (ok : Bool) (e : ℕ) : Type 0 where
   pub ahead : ok ≡ true → at < e
   pub within : ok ≡ true → e ≤ length s
 
 -- an argument of one byte: whether it is there, and what the parser p makes of it
-pub record Argument {A : Type 0} (z : A) (p : Parser A) (s : List ℕ) (at : ℕ) (ok fit : Bool) (value : A) (e : ℕ) : Type 0 where
+pub record Argument {A : Type 0} (p : Parser A) (s : List ℕ) (at : ℕ) (ok fit : Bool) (value : A) (e : ℕ) : Type 0 where
   pub on : Onward s at ok e
   pub place : ℕ
-  pub is : Reads z (p s at) fit value place
+  pub is : Reads p s at value place
+  pub fits : fit ≡ ltb place far
 
 -- ids: the count is within the cells
 pub record IdsRead (s : List ℕ) (at : ℕ) (ok : Bool) (count : ℕ) (items : List ℕ) (e : ℕ) : Type 0 where
@@ -36,24 +39,29 @@ pub record BytesRead (s : List ℕ) (at : ℕ) (ok : Bool) (from e : ℕ) : Type
   pub ordered : from ≤ e
   pub inside : e ≤ length s
 
--- ---- the items of wire_bytes
--- an answer that ended behind its n bytes
-ended : {A : Type 0} {z : A} {p : Ans A} {ok : Bool} {v : A} {e : ℕ} (s : List ℕ) (at n : ℕ) → 0 < n → Reads z p ok v e → (at + n ≤ length s → (w : A) (d : ℕ) → p ≡ got w d → d ≡ at + n) → (length s < at + n → p ≡ bad at) → Onward s at ok e
-ended {A} {z} {p} {ok} {v} {e} s at n h r f g = record { ahead = λ t. omega (arith, place t); within = λ t. go t (decLe (at + n) (length s)) }
+-- ---- the items that a cursor passes
+-- behind the cursor c the cursor e is a place further on and within the script, or a refusal
+pub record On (s : List ℕ) (c e : ℕ) : Type 0 where
+  pub ahead : e < far → c < e
+  pub within : e < far → e ≤ length s
+
+-- an item of n bytes: behind the room for them it ends at their end, without it it is refused
+ended : {A : Type 0} {p : Parser A} {s : List ℕ} {c e : ℕ} {v : A} (n : ℕ) → 0 < n → Reads p s c v e
+    → (c + n ≤ length s → (w : A) (d : ℕ) → p s c ≡ got w d → d ≡ c + n) → (length s < c + n → p s c ≡ bad c) → On s c e
+ended {A} {p} {s} {c} {e} {v} n h r f g = record { ahead = λ t. (let k = place t in omega arith); within = λ t. (let k = place t in let m = room t in omega arith) }
   where
-    here : ok ≡ true → p ≡ got v e
-    here t = sym (r .is) ∙ ap (λ (b : Bool). answer b v e) t
+    cut : e < far → length s < c + n → ⊥
+    cut t y = let q = g y in let m = reads-got r t in let x : _≡_ {A = ℕ} 0 1 = cc in omega arith
 
-    place : ok ≡ true → e ≡ at + n
-    place t = pick (decLe (at + n) (length s))
+    room : e < far → c + n ≤ length s
+    room t = go (decLe (c + n) (length s))
       where
-        pick : Dec (at + n ≤ length s) → e ≡ at + n
-        pick (yes y) = f y v e (here t)
-        pick (no y) = absurd (let q = g (omega arith) in let m = here t in let x : _≡_ {A = ℕ} 0 1 = cc in omega arith)
+        go : Dec (c + n ≤ length s) → c + n ≤ length s
+        go (yes y) = y
+        go (no y) = absurd (cut t (omega arith))
 
-    go : ok ≡ true → Dec (at + n ≤ length s) → e ≤ length s
-    go t (yes y) = omega (arith, place t)
-    go t (no y) = absurd (let q = g (omega arith) in let m = here t in let x : _≡_ {A = ℕ} 0 1 = cc in omega arith)
+    place : e < far → e ≡ c + n
+    place t = f (room t) v e (reads-got r t)
 
 same-end : {A : Type 0} {p : Ans A} {v w : A} {d e : ℕ} → p ≡ got v e → p ≡ got w d → d ≡ e
 same-end x y = cc
@@ -61,18 +69,40 @@ same-end x y = cc
 short : (n : ℕ) (s : List ℕ) (at : ℕ) → length s < at + n → run n s at ≡ bad at
 short n s at h = run-short n s at {r = false} (sym (lt-leb (at + n) (length s) h)) refl
 
-pub number-on : {ok : Bool} {v e : ℕ} (s : List ℕ) (at : ℕ) → Reads 0 (number 8 s at) ok v e → Onward s at ok e
-number-on s at r = ended s at 8 (omega arith) r (λ h w d q. same-end (number-got 8 s at h) q) (λ h. number-short 8 s at (short 8 s at h))
+pub number-on : {s : List ℕ} {c v e : ℕ} → Reads (number 8) s c v e → On s c e
+number-on {s} {c} r = ended 8 (omega arith) r (λ h w d q. same-end (number-got 8 s c h) q) (λ h. number-short 8 s c (short 8 s c h))
 
-pub hash-on : {ok : Bool} {z v : List ℕ} {e : ℕ} (s : List ℕ) (at : ℕ) → Reads z (run 32 s at) ok v e → Onward s at ok e
-hash-on s at r = ended s at 32 (omega arith) r (λ h w d q. same-end (run-got 32 s at h) q) (λ h. short 32 s at h)
+pub hash-on : {s : List ℕ} {c : ℕ} {v : List ℕ} {e : ℕ} → Reads (run 32) s c v e → On s c e
+hash-on {s} {c} r = ended 32 (omega arith) r (λ h w d q. same-end (run-got 32 s c h) q) (λ h. short 32 s c h)
 
-pub byte-on : {ok : Bool} {v e : ℕ} (s : List ℕ) (at : ℕ) (m : ℕ) → Reads 0 (upTo m s at) ok v e → Onward s at ok e
-byte-on {ok} {v} {e} s at m r = ended s at 1 (omega arith) r (λ h w d q. go h w d q (decLe (getD s at 0) m)) (λ h. upTo-short m s at (short 1 s at h))
+pub byte-on : {m : ℕ} {s : List ℕ} {c v e : ℕ} → Counts m s c v e → On s c e
+byte-on {m} {s} {c} r = ended 1 (omega arith) (r .reads) (λ h w d q. go h w d q (decLe (getD s c 0) m)) (λ h. upTo-short m s c (short 1 s c h))
   where
-    go : at + 1 ≤ length s → (w d : ℕ) → upTo m s at ≡ got w d → Dec (getD s at 0 ≤ m) → d ≡ at + 1
-    go h w d q (yes y) = same-end (upTo-got m s at h y) q
-    go h w d q (no y) = absurd (let b = upTo-over m s at h (omega arith) in let x : _≡_ {A = ℕ} 0 1 = cc in omega arith)
+    go : c + 1 ≤ length s → (w d : ℕ) → upTo m s c ≡ got w d → Dec (getD s c 0 ≤ m) → d ≡ c + 1
+    go h w d q (yes y) = same-end (upTo-got m s c h y) q
+    go h w d q (no y) = absurd (let b = upTo-over m s c h (omega arith) in let x : _≡_ {A = ℕ} 0 1 = cc in omega arith)
+
+-- one item behind another
+pub on-then : {s : List ℕ} {c d e : ℕ} → On s c d → On s d e → On s c e
+on-then {s} {c} {d} {e} x y = record {
+  ahead = λ t. (let k = y .ahead t in let m = x .ahead (omega arith) in omega arith);
+  within = y .within;
+}
+
+-- a part that is refused, and one of n bytes that is there
+pub on-refused : (s : List ℕ) (c : ℕ) → On s c (refusedAt c)
+on-refused s c = record { ahead = λ t. absurd (far-off (ltb c far) refl t); within = λ t. absurd (far-off (ltb c far) refl t) }
+  where
+    far-off : (b : Bool) → ltb c far ≡ b → pick b (c + far) c < far → ⊥
+    far-off true q t = omega arith
+    far-off false q t = omega (arith, ltb-false c far q)
+
+pub on-passed : (s : List ℕ) (c n : ℕ) → 0 < n → c + n ≤ length s → On s c (c + n)
+on-passed s c n h k = record { ahead = λ t. omega arith; within = λ t. k }
+
+-- what an argument's mark tells
+pub on-told : {s : List ℕ} {c e : ℕ} → On s c e → Onward s c (ltb e far) e
+on-told {s} {c} {e} x = record { ahead = λ t. x .ahead (ltb-true e far t); within = λ t. x .within (ltb-true e far t) }
 
 -- ---- parts
 and-first : (a b : Bool) → a && b ≡ true → a ≡ true

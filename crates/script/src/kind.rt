@@ -1,46 +1,70 @@
-// Arguments of one byte, and optional numbers.
+// Arguments of one byte, numbers, and optional numbers.
+use crate::ByteArgument;
 use crate::ExpiryArgument;
 use crate::FlagArgument;
 use crate::GoalArgument;
 use crate::IdArgument;
+use crate::NumberArgument;
 use crate::SourceArgument;
 use crate::TriggerArgument;
 use book_data::Height;
 use book_data::OptionalHeight;
 use book_data::OptionalId;
 use book_data::SubmissionId;
+use cursor::FAR;
+use cursor::read_count;
 use replies::SubmissionFeeSource;
-use wire_bytes::read::read_count;
-use wire_bytes::read::read_number;
 ghost use mathlib.Core.Path.{_≡_};
 ghost use Rattle.archive_form.specs.Parse.{parseGoal, parseTrigger};
-ghost use Rattle.book_data.specs.declared.DeliveryTrigger.the-variants.{Protocol};
-ghost use Rattle.book_data.specs.declared.SubmissionDeliveryGoal.the-variants.{EnsureBroadcast};
 ghost use Rattle.script.specs.Onward.{Onward, Argument};
 
-pub fn read_trigger(s: &[u8], at: usize) -> TriggerArgument
-    ensures { λ r. ⌜ Argument Protocol parseTrigger (now (s .entry)) at (r .ok) (r .fit) (r .value) (r .at) ⌝ }
+pub fn read_byte(s: &[u8], at: usize) -> ByteArgument
+    ensures { λ r. ⌜ Onward (now (s .entry)) at (r .ok) (r .at) ⌝ }
 {
-    let b = read_count(s, at, 255);
-    let t = spend_read::kind::read_trigger(s, at);
-    let value = t.value;
+    let mut end = at;
+    let value = read_count(s, &mut end, 255);
+    ByteArgument {
+        ok: end < FAR,
+        value,
+        at: end,
+    }
+}
+
+pub fn read_number(s: &[u8], at: usize) -> NumberArgument
+    ensures { λ r. ⌜ Onward (now (s .entry)) at (r .ok) (r .at) ⌝ }
+{
+    let mut end = at;
+    let value = cursor::read_number(s, &mut end);
+    NumberArgument {
+        ok: end < FAR,
+        value,
+        at: end,
+    }
+}
+
+pub fn read_trigger(s: &[u8], at: usize) -> TriggerArgument
+    ensures { λ r. ⌜ Argument parseTrigger (now (s .entry)) at (r .ok) (r .fit) (r .value) (r .at) ⌝ }
+{
+    let b = read_byte(s, at);
+    let mut trigger_end = at;
+    let value = spend_read::kind::read_trigger(s, &mut trigger_end);
     TriggerArgument {
         ok: b.ok,
-        fit: t.ok,
+        fit: trigger_end < FAR,
         value,
         at: b.at,
     }
 }
 
 pub fn read_goal(s: &[u8], at: usize) -> GoalArgument
-    ensures { λ r. ⌜ Argument EnsureBroadcast parseGoal (now (s .entry)) at (r .ok) (r .fit) (r .value) (r .at) ⌝ }
+    ensures { λ r. ⌜ Argument parseGoal (now (s .entry)) at (r .ok) (r .fit) (r .value) (r .at) ⌝ }
 {
-    let b = read_count(s, at, 255);
-    let g = spend_read::kind::read_goal(s, at);
-    let value = g.value;
+    let b = read_byte(s, at);
+    let mut goal_end = at;
+    let value = spend_read::kind::read_goal(s, &mut goal_end);
     GoalArgument {
         ok: b.ok,
-        fit: g.ok,
+        fit: goal_end < FAR,
         value,
         at: b.at,
     }
@@ -58,7 +82,7 @@ fn source_of(n: u8) -> SubmissionFeeSource {
 pub fn read_source(s: &[u8], at: usize) -> SourceArgument
     ensures { λ r. ⌜ Onward (now (s .entry)) at (r .ok) (r .at) ⌝ }
 {
-    let b = read_count(s, at, 255);
+    let b = read_byte(s, at);
     let n = b.value;
     let value = source_of(n);
     SourceArgument {
@@ -72,7 +96,7 @@ pub fn read_source(s: &[u8], at: usize) -> SourceArgument
 pub fn read_flag(s: &[u8], at: usize) -> FlagArgument
     ensures { λ r. ⌜ Onward (now (s .entry)) at (r .ok) (r .at) ⌝ }
 {
-    let b = read_count(s, at, 255);
+    let b = read_byte(s, at);
     let n = b.value;
     FlagArgument {
         ok: b.ok,
@@ -97,7 +121,7 @@ fn id_of(mark: u8, n: u64) -> OptionalId {
 pub fn read_id(s: &[u8], at: usize) -> IdArgument
     ensures { λ r. ⌜ Onward (now (s .entry)) at (r .ok) (r .at) ⌝ }
 {
-    let m = read_count(s, at, 255);
+    let m = read_byte(s, at);
     let n = read_number(s, m.at);
     let fit = optional_fits(m.value, n.value);
     let value = id_of(m.value, n.value);
@@ -119,7 +143,7 @@ fn height_of(mark: u8, n: u64) -> OptionalHeight {
 pub fn read_expiry(s: &[u8], at: usize) -> ExpiryArgument
     ensures { λ r. ⌜ Onward (now (s .entry)) at (r .ok) (r .at) ⌝ }
 {
-    let m = read_count(s, at, 255);
+    let m = read_byte(s, at);
     let n = read_number(s, m.at);
     let fit = optional_fits(m.value, n.value);
     let value = height_of(m.value, n.value);

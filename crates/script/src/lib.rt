@@ -10,12 +10,24 @@ use book_data::CoinSpend;
 use book_data::DeliveryTrigger;
 use book_data::OptionalHeight;
 use book_data::OptionalId;
-use book_data::Output;
 use book_data::PendingDelivery;
 use book_data::SpendBundle;
 use book_data::SubmissionDeliveryGoal;
 use book_data::SubmissionFeeIntent;
 use replies::SubmissionFeeSource;
+
+// Any byte, any number.
+pub struct ByteArgument {
+    pub ok: bool,
+    pub value: u8,
+    pub at: usize,
+}
+
+pub struct NumberArgument {
+    pub ok: bool,
+    pub value: u64,
+    pub at: usize,
+}
 
 pub struct TriggerArgument {
     pub ok: bool,
@@ -66,36 +78,14 @@ pub struct FeeIntentArgument {
     pub at: usize,
 }
 
-pub struct OutputCell {
-    pub ok: bool,
-    pub value: Output,
-    pub at: usize,
-}
-
-pub struct OutputCells {
-    pub ok: bool,
-    pub value: [Output; 4],
-    pub at: usize,
-}
-
-pub struct CoinCell {
-    pub ok: bool,
-    pub value: [u8; 73],
-    pub at: usize,
-}
-
 pub struct SpendCell {
-    pub ok: bool,
     pub fit: bool,
     pub value: CoinSpend,
-    pub at: usize,
 }
 
 pub struct SpendCells {
-    pub ok: bool,
     pub fit: bool,
     pub value: [CoinSpend; 4],
-    pub at: usize,
 }
 
 pub struct BundleArgument {

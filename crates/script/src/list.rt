@@ -2,10 +2,10 @@
 use crate::BytesArgument;
 use crate::IdsArgument;
 use crate::LengthArgument;
+use crate::kind::read_byte;
+use cursor::read_number;
 use lists::at_most;
 use wire_bytes::read::has;
-use wire_bytes::read::read_count;
-use wire_bytes::read::read_number;
 ghost use mathlib.Core.Path.{_≡_};
 ghost use Prim.Native.Nat.{_<_};
 ghost use lib.ListN.{length};
@@ -26,9 +26,8 @@ fn read_items(s: &[u8], at: usize, n: usize) -> [u64; 65]
     let mut e = at;
     let mut i: usize = 0;
     while i < k {
-        let x = read_number(s, e);
-        items[i] = x.value;
-        e = x.at;
+        let x = read_number(s, &mut e);
+        items[i] = x;
         i += 1;
     }
     items
@@ -37,8 +36,8 @@ fn read_items(s: &[u8], at: usize, n: usize) -> [u64; 65]
 pub fn read_ids(s: &[u8], at: usize) -> IdsArgument
     ensures { λ r. ⌜ IdsRead (now (s .entry)) at (r .ok) (r .count) (r .items) (r .at) ⌝ }
 {
-    let high = read_count(s, at, 255);
-    let low = read_count(s, high.at, 255);
+    let high = read_byte(s, at);
+    let low = read_byte(s, high.at);
     let from = low.at;
     let n = wide(high.value) * 256 + wide(low.value);
     let count = at_most(n, 65);
@@ -63,10 +62,10 @@ pub fn read_ids(s: &[u8], at: usize) -> IdsArgument
 pub fn read_length(s: &[u8], at: usize) -> LengthArgument
     ensures { λ r. ⌜ LengthRead (now (s .entry)) at (r .ok) (r .value) (r .at) ⌝ }
 {
-    let a = read_count(s, at, 255);
-    let b = read_count(s, a.at, 255);
-    let c = read_count(s, b.at, 255);
-    let d = read_count(s, c.at, 255);
+    let a = read_byte(s, at);
+    let b = read_byte(s, a.at);
+    let c = read_byte(s, b.at);
+    let d = read_byte(s, c.at);
     let n = ((wide(a.value) * 256 + wide(b.value)) * 256 + wide(c.value)) * 256 + wide(d.value);
     let value = at_most(n, 65536);
     LengthArgument {

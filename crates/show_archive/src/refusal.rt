@@ -5,6 +5,7 @@ use archive_items::Position;
 use archive_items::order::item_at;
 use archive_items::order::size;
 use book_report::say;
+use cursor::read_number;
 use item_words::Form;
 use item_words::append_form;
 use item_words::append_rule;
@@ -12,7 +13,6 @@ use item_words::append_where;
 use item_words::form_of;
 use text::append_decimal;
 use text::append_number_line;
-use wire_bytes::read::read_number;
 
 // An item of which only some bytes are there.
 fn append_short(out: &mut [u8], at: usize, left: usize, n: usize) -> usize {
@@ -49,8 +49,9 @@ fn append_value(out: &mut [u8], at: usize, item: Item, s: &[u8], place: usize) -
     }
     let f = form_of(item);
     if let Form::Number = f {
-        let n = read_number(s, place);
-        return append_number_line(out, at, b"", n.value);
+        let mut start = place;
+        let n = read_number(s, &mut start);
+        return append_number_line(out, at, b"", n);
     }
     append_number_line(out, at, b"", wide(s[place]))
 }

@@ -1,275 +1,111 @@
 // A bundle: count, then per spend length byte, coin, digest, run.
-use crate::ReadBundle;
-use crate::ReadOutput;
-use crate::ReadOutputs;
-use crate::ReadRun;
-use crate::ReadSpend;
-use crate::ReadSpends;
-use crate::RunCells;
 use book_data::CoinSpend;
 use book_data::Output;
 use book_data::SpendBundle;
-use wire_bytes::read;
-ghost use mathlib.Core.Path.{_≡_};
-ghost use mathlib.Core.Bool.{false};
-ghost use Prim.Native.Nat.{_≤_};
-ghost use lib.ListN.{replicate};
-ghost use Rattle.wire_bytes.specs.Reading.{Reads};
-ghost use Rattle.book_data.specs.Zero.{zeroOutput, zeroSpend, zeroBundle};
+use cursor::pass;
+use cursor::read_cell;
+use cursor::read_count;
+use cursor::read_hash;
+use cursor::read_number;
+ghost use Rattle.cursor.specs.Cursor.{Reads};
+ghost use Rattle.cursor.specs.Cells.{ReadsCells};
+ghost use Rattle.book_data.specs.Zero.{zeroOutput};
 ghost use Rattle.archive_form.specs.Parse.{parseOutput, parseSpend, parseBundle};
-ghost use Rattle.spend_read.specs.Answers.{zeroRun, outputsIn, spendsIn, listedRun, parseRunCells};
+ghost use Rattle.spend_read.specs.Runs.{ReadsRun};
 
-fn no_output(at: usize) -> ReadOutput
-    ensures { λ r. ⌜ r ≡ record { ok = false; value = zeroOutput; at = at } ⌝ }
-{
-    let value = Output::zero();
-    ReadOutput {
-        ok: false,
-        value,
-        at,
-    }
+pub struct Outputs {
+    pub count: u8,
+    pub items: [Output; 4],
 }
 
-fn read_output(s: &[u8], at: usize) -> ReadOutput
-    ensures { λ r. ⌜ Reads zeroOutput (parseOutput (now (s .entry)) at) (r .ok) (r .value) (r .at) ⌝ }
+// The run of a spend, its outputs in their cells.
+pub struct RunCells {
+    pub readable: bool,
+    pub count: u8,
+    pub outputs: [Output; 4],
+}
+
+fn read_output(s: &[u8], at: &mut usize) -> Output
+    ensures { λ r. ⌜ Reads parseOutput (now (s .entry)) (now (at .entry)) r (now (at .exit)) ⌝ }
 {
-    let h = read::read_hash(s, at);
-    let ok = h.ok;
-    if !ok {
-        return no_output(h.at);
-    }
-    let n = read::read_number(s, h.at);
-    let good = n.ok;
-    if !good {
-        return no_output(n.at);
-    }
-    let puzzle_hash = h.value;
-    let value = Output {
+    let puzzle_hash = read_hash(s, &mut *at);
+    let amount = read_number(s, at);
+    Output {
         puzzle_hash,
-        amount: n.value,
-    };
-    ReadOutput {
-        ok: true,
-        value,
-        at: n.at,
+        amount,
     }
 }
 
-fn no_outputs(at: usize) -> ReadOutputs
-    ensures { λ r. ⌜ r ≡ record { ok = false; value = replicate 4 zeroOutput; at = at } ⌝ }
+fn read_outputs(s: &[u8], at: &mut usize) -> Outputs
+    ensures { λ r. ⌜ ReadsCells 4 zeroOutput (λ before. parseOutput) (now (s .entry)) (now (at .entry)) (r .count) (r .items) (now (at .exit)) ⌝ }
 {
+    let count = read_count(s, &mut *at, 4);
+    let n = count as usize;
     let z = Output::zero();
-    ReadOutputs {
-        ok: false,
-        value: [z; 4],
-        at,
-    }
-}
-
-// n outputs, in four cells.
-fn read_outputs(s: &[u8], at: usize, n: usize) -> ReadOutputs
-    requires { ⌜ n ≤ 4 ⌝ }
-    ensures { λ r. ⌜ Reads (replicate 4 zeroOutput) (outputsIn n (now (s .entry)) at) (r .ok) (r .value) (r .at) ⌝ }
-{
-    let z = Output::zero();
-    let mut value = [z; 4];
-    let mut e = at;
+    let mut items = [z; 4];
     let mut i: usize = 0;
     while i < n {
-        let r = read_output(s, e);
-        let ok = r.ok;
-        if !ok {
-            return no_outputs(r.at);
-        }
-        let o = r.value;
-        value[i] = o;
-        e = r.at;
+        let x = read_output(s, &mut *at);
+        items[i] = x;
         i += 1;
     }
-    ReadOutputs {
-        ok: true,
-        value,
-        at: e,
-    }
-}
-
-fn unread(ok: bool, at: usize) -> ReadRun
-    ensures { λ r. ⌜ r ≡ record { ok = ok; value = zeroRun; at = at } ⌝ }
-{
-    let z = Output::zero();
-    let outputs = [z; 4];
-    let value = RunCells {
-        readable: false,
-        output_count: 0,
-        outputs,
-    };
-    ReadRun { ok, value, at }
-}
-
-// What follows the mark of a readable run: count and outputs.
-fn read_listed(s: &[u8], at: usize) -> ReadRun
-    ensures { λ r. ⌜ Reads zeroRun (listedRun (now (s .entry)) at) (r .ok) (r .value) (r .at) ⌝ }
-{
-    let c = read::read_count(s, at, 4);
-    let ok = c.ok;
-    if !ok {
-        return unread(false, c.at);
-    }
-    let r = read_outputs(s, c.at, c.value as usize);
-    let good = r.ok;
-    if !good {
-        return unread(false, r.at);
-    }
-    let outputs = r.value;
-    let value = RunCells {
-        readable: true,
-        output_count: c.value,
-        outputs,
-    };
-    ReadRun {
-        ok: true,
-        value,
-        at: r.at,
-    }
+    Outputs { count, items }
 }
 
 // A run; in a base bundle an unreadable one is refused at its first byte.
-fn read_run(s: &[u8], at: usize, base: bool) -> ReadRun
-    ensures { λ r. ⌜ Reads zeroRun (parseRunCells base (now (s .entry)) at) (r .ok) (r .value) (r .at) ⌝ }
+fn read_run(s: &[u8], at: &mut usize, base: bool) -> RunCells
+    ensures { λ r. ⌜ ReadsRun base (now (s .entry)) (now (at .entry)) r (now (at .exit)) ⌝ }
 {
-    let m = read::read_count(s, at, 1);
-    let ok = m.ok;
-    if !ok {
-        return unread(false, m.at);
+    let start = *at;
+    let mark = read_count(s, &mut *at, 1);
+    if mark == 0 {
+        *at = pass(!base, start, *at);
+        let z = Output::zero();
+        return RunCells {
+            readable: false,
+            count: 0,
+            outputs: [z; 4],
+        };
     }
-    if m.value != 0 {
-        return read_listed(s, m.at);
-    }
-    if base {
-        return unread(false, at);
-    }
-    unread(true, m.at)
-}
-
-fn no_spend(at: usize) -> ReadSpend
-    ensures { λ r. ⌜ r ≡ record { ok = false; value = zeroSpend; at = at } ⌝ }
-{
-    let value = CoinSpend::zero();
-    ReadSpend {
-        ok: false,
-        value,
-        at,
+    let o = read_outputs(s, at);
+    let outputs = o.items;
+    RunCells {
+        readable: true,
+        count: o.count,
+        outputs,
     }
 }
 
-fn read_spend(s: &[u8], at: usize, base: bool) -> ReadSpend
-    ensures { λ r. ⌜ Reads zeroSpend (parseSpend base (now (s .entry)) at) (r .ok) (r .value) (r .at) ⌝ }
+fn read_spend(s: &[u8], at: &mut usize, base: bool) -> CoinSpend
+    ensures { λ r. ⌜ Reads (parseSpend base) (now (s .entry)) (now (at .entry)) r (now (at .exit)) ⌝ }
 {
-    let c = read::read_cell(s, at);
-    let coin_ok = c.ok;
-    if !coin_ok {
-        return no_spend(c.at);
-    }
-    let d = read::read_hash(s, c.at);
-    let digest_ok = d.ok;
-    if !digest_ok {
-        return no_spend(d.at);
-    }
-    let r = read_run(s, d.at, base);
-    let run_ok = r.ok;
-    if !run_ok {
-        return no_spend(r.at);
-    }
-    let cell = c.value;
-    let run = r.value;
+    let cell = read_cell(s, &mut *at);
+    let digest = read_hash(s, &mut *at);
+    let run = read_run(s, at, base);
     let coin = cell.bytes;
-    let digest = d.value;
     let outputs = run.outputs;
-    let value = CoinSpend {
+    CoinSpend {
         coin_len: cell.len,
         coin,
         digest,
         readable: run.readable,
-        output_count: run.output_count,
+        output_count: run.count,
         outputs,
-    };
-    ReadSpend {
-        ok: true,
-        value,
-        at: r.at,
     }
 }
 
-fn no_spends(at: usize) -> ReadSpends
-    ensures { λ r. ⌜ r ≡ record { ok = false; value = replicate 4 zeroSpend; at = at } ⌝ }
+pub fn read_bundle(s: &[u8], at: &mut usize, base: bool) -> SpendBundle
+    ensures { λ r. ⌜ Reads (parseBundle base) (now (s .entry)) (now (at .entry)) r (now (at .exit)) ⌝ }
 {
+    let count = read_count(s, &mut *at, 4);
+    let n = count as usize;
     let z = CoinSpend::zero();
-    ReadSpends {
-        ok: false,
-        value: [z; 4],
-        at,
-    }
-}
-
-// n spends, in four cells.
-fn read_spends(s: &[u8], at: usize, n: usize, base: bool) -> ReadSpends
-    requires { ⌜ n ≤ 4 ⌝ }
-    ensures { λ r. ⌜ Reads (replicate 4 zeroSpend) (spendsIn base n (now (s .entry)) at) (r .ok) (r .value) (r .at) ⌝ }
-{
-    let z = CoinSpend::zero();
-    let mut value = [z; 4];
-    let mut e = at;
+    let mut spends = [z; 4];
     let mut i: usize = 0;
     while i < n {
-        let r = read_spend(s, e, base);
-        let ok = r.ok;
-        if !ok {
-            return no_spends(r.at);
-        }
-        let x = r.value;
-        value[i] = x;
-        e = r.at;
+        let x = read_spend(s, &mut *at, base);
+        spends[i] = x;
         i += 1;
     }
-    ReadSpends {
-        ok: true,
-        value,
-        at: e,
-    }
-}
-
-fn no_bundle(at: usize) -> ReadBundle
-    ensures { λ r. ⌜ r ≡ record { ok = false; value = zeroBundle; at = at } ⌝ }
-{
-    let value = SpendBundle::zero();
-    ReadBundle {
-        ok: false,
-        value,
-        at,
-    }
-}
-
-pub fn read_bundle(s: &[u8], at: usize, base: bool) -> ReadBundle
-    ensures { λ r. ⌜ Reads zeroBundle (parseBundle base (now (s .entry)) at) (r .ok) (r .value) (r .at) ⌝ }
-{
-    let c = read::read_count(s, at, 4);
-    let ok = c.ok;
-    if !ok {
-        return no_bundle(c.at);
-    }
-    let r = read_spends(s, c.at, c.value as usize, base);
-    let good = r.ok;
-    if !good {
-        return no_bundle(r.at);
-    }
-    let spends = r.value;
-    let value = SpendBundle {
-        count: c.value,
-        spends,
-    };
-    ReadBundle {
-        ok: true,
-        value,
-        at: r.at,
-    }
+    SpendBundle { count, spends }
 }

@@ -1,15 +1,11 @@
 // Kinds by number.
-use crate::ReadChain;
-use crate::ReadGoal;
-use crate::ReadResolution;
-use crate::ReadTrigger;
 use book_data::DeliveryTrigger;
 use book_data::FeeResolution;
 use book_data::SubmissionChainTerminality;
 use book_data::SubmissionDeliveryGoal;
-use wire_bytes::read;
+use cursor::read_count;
 ghost use mathlib.Core.Path.{_≡_};
-ghost use Rattle.wire_bytes.specs.Reading.{Reads};
+ghost use Rattle.cursor.specs.Cursor.{Reads};
 ghost use Rattle.archive_form.specs.Parse.{goalOf, triggerOf, chainOf, resolutionOf, parseGoal, parseTrigger, parseChain, parseResolution};
 
 fn goal_of(n: u8) -> SubmissionDeliveryGoal
@@ -21,24 +17,11 @@ fn goal_of(n: u8) -> SubmissionDeliveryGoal
     SubmissionDeliveryGoal::FeeUpgrade
 }
 
-pub fn read_goal(s: &[u8], at: usize) -> ReadGoal
-    ensures { λ r. ⌜ Reads SubmissionDeliveryGoal.EnsureBroadcast (parseGoal (now (s .entry)) at) (r .ok) (r .value) (r .at) ⌝ }
+pub fn read_goal(s: &[u8], at: &mut usize) -> SubmissionDeliveryGoal
+    ensures { λ r. ⌜ Reads parseGoal (now (s .entry)) (now (at .entry)) r (now (at .exit)) ⌝ }
 {
-    let c = read::read_count(s, at, 1);
-    let ok = c.ok;
-    if !ok {
-        return ReadGoal {
-            ok: false,
-            value: SubmissionDeliveryGoal::EnsureBroadcast,
-            at: c.at,
-        };
-    }
-    let value = goal_of(c.value);
-    ReadGoal {
-        ok: true,
-        value,
-        at: c.at,
-    }
+    let n = read_count(s, at, 1);
+    goal_of(n)
 }
 
 fn trigger_of(n: u8) -> DeliveryTrigger
@@ -56,24 +39,11 @@ fn trigger_of(n: u8) -> DeliveryTrigger
     DeliveryTrigger::ProviderReadiness
 }
 
-pub fn read_trigger(s: &[u8], at: usize) -> ReadTrigger
-    ensures { λ r. ⌜ Reads DeliveryTrigger.Protocol (parseTrigger (now (s .entry)) at) (r .ok) (r .value) (r .at) ⌝ }
+pub fn read_trigger(s: &[u8], at: &mut usize) -> DeliveryTrigger
+    ensures { λ r. ⌜ Reads parseTrigger (now (s .entry)) (now (at .entry)) r (now (at .exit)) ⌝ }
 {
-    let c = read::read_count(s, at, 3);
-    let ok = c.ok;
-    if !ok {
-        return ReadTrigger {
-            ok: false,
-            value: DeliveryTrigger::Protocol,
-            at: c.at,
-        };
-    }
-    let value = trigger_of(c.value);
-    ReadTrigger {
-        ok: true,
-        value,
-        at: c.at,
-    }
+    let n = read_count(s, at, 3);
+    trigger_of(n)
 }
 
 fn chain_of(n: u8) -> SubmissionChainTerminality
@@ -88,24 +58,11 @@ fn chain_of(n: u8) -> SubmissionChainTerminality
     SubmissionChainTerminality::Landed
 }
 
-pub fn read_chain(s: &[u8], at: usize) -> ReadChain
-    ensures { λ r. ⌜ Reads SubmissionChainTerminality.Active (parseChain (now (s .entry)) at) (r .ok) (r .value) (r .at) ⌝ }
+pub fn read_chain(s: &[u8], at: &mut usize) -> SubmissionChainTerminality
+    ensures { λ r. ⌜ Reads parseChain (now (s .entry)) (now (at .entry)) r (now (at .exit)) ⌝ }
 {
-    let c = read::read_count(s, at, 2);
-    let ok = c.ok;
-    if !ok {
-        return ReadChain {
-            ok: false,
-            value: SubmissionChainTerminality::Active,
-            at: c.at,
-        };
-    }
-    let value = chain_of(c.value);
-    ReadChain {
-        ok: true,
-        value,
-        at: c.at,
-    }
+    let n = read_count(s, at, 2);
+    chain_of(n)
 }
 
 fn resolution_of(n: u8) -> FeeResolution
@@ -120,22 +77,9 @@ fn resolution_of(n: u8) -> FeeResolution
     FeeResolution::Attached
 }
 
-pub fn read_resolution(s: &[u8], at: usize) -> ReadResolution
-    ensures { λ r. ⌜ Reads FeeResolution.Unresolved (parseResolution (now (s .entry)) at) (r .ok) (r .value) (r .at) ⌝ }
+pub fn read_resolution(s: &[u8], at: &mut usize) -> FeeResolution
+    ensures { λ r. ⌜ Reads parseResolution (now (s .entry)) (now (at .entry)) r (now (at .exit)) ⌝ }
 {
-    let c = read::read_count(s, at, 2);
-    let ok = c.ok;
-    if !ok {
-        return ReadResolution {
-            ok: false,
-            value: FeeResolution::Unresolved,
-            at: c.at,
-        };
-    }
-    let value = resolution_of(c.value);
-    ReadResolution {
-        ok: true,
-        value,
-        at: c.at,
-    }
+    let n = read_count(s, at, 2);
+    resolution_of(n)
 }

@@ -7,7 +7,7 @@ read-bundle-requires : tie.Need-read-bundle-requires
 read-bundle-requires c κs = search needs
 
 returns : tie.Need-returns
-returns c = joined-read (c .before .before .before .before .before .before .args .source) (c .before .before .before .before .before .before .args .joined .now) (c .before .before .before .before .if1 .taken) (c .before .before .before .read-bundle .ensures)
+returns c = joined-read (c .before .before .before .before .args .source) (c .before .before .before .before .args .joined .now) (c .before .before .if1 .taken) (c .read-bundle .ensures)
 
 zero-requires : tie.Need-zero-requires
 zero-requires c κs = search needs

@@ -31,11 +31,11 @@ same-length-3 : tie.Need-same-length-3
 same-length-3 c = search needs
 
 returns-3 : tie.Need-returns-3
-returns-3 c = epoch-bad _ _ _ _ (c .before .before .before .before .before .held .ensures .present (not-false _ (c .before .before .before .before .if1 .left))) (c .before .before .before .if2 .left)
+returns-3 c = epoch-bad _ _ _ _ (c .before .before .before .before .before .before .held .ensures .present (not-false _ (c .before .before .before .before .before .if1 .left))) (c .before .before .before .before .if2 .left)
     (byte-bad parseTrigger _ (c .before .read-trigger .ensures) (c .if3 .taken))
 
 queue-rebroadcast-epoch-sound-requires : tie.Need-queue-rebroadcast-epoch-sound-requires
-queue-rebroadcast-epoch-sound-requires c κs = (c .before .before .before .before .before .held .ensures .present (not-false _ (c .before .before .before .before .if1 .left))) .sound
+queue-rebroadcast-epoch-sound-requires c κs = (c .before .before .before .before .before .before .held .ensures .present (not-false _ (c .before .before .before .before .before .if1 .left))) .sound
 
 settle-done-requires : tie.Need-settle-done-requires
 settle-done-requires c κs = search needs
@@ -44,7 +44,7 @@ same-length-4 : tie.Need-same-length-4
 same-length-4 c = search needs
 
 returns-4 : tie.Need-returns-4
-returns-4 c = epoch-done _ _ _ _ (c .before .before .before .before .before .before .before .before .before .before .held .ensures .present (not-false _ (c .before .before .before .before .before .before .before .before .before .if1 .left))) _ (c .before .before .before .before .before .before .before .before .if2 .left)
+returns-4 c = epoch-done _ _ _ _ (c .before .before .before .before .before .before .before .before .before .before .before .held .ensures .present (not-false _ (c .before .before .before .before .before .before .before .before .before .before .if1 .left))) _ (c .before .before .before .before .before .before .before .before .before .if2 .left)
     (byte-got parseTrigger _ (c .before .before .before .before .before .before .read-trigger .ensures) (c .before .before .before .before .before .if3 .left))
     (c .before .before .before .before .queue-rebroadcast-epoch-sound .ensures) (c .before .before .settle-done .ensures)
 

@@ -31,7 +31,7 @@ same-length-2 : tie.Need-same-length-2
 same-length-2 c = search needs
 
 returns-2 : tie.Need-returns-2
-returns-2 c = retained-delivery-did _ _ _ (gives-book-undo 3 noForm (c .before .before .before .before .before .before .before .args .book .now) (c .before .before .before .before .held .result .book) (c .before .before .before .before .held .ensures .present (not-false _ (c .before .before .before .if1 .left))) (given (byteAs parseTrigger (c .before .before .before .before .before .before .before .args .trigger)) (λ (t : DeliveryTrigger). given (byteAs parseGoal (c .before .before .before .before .before .before .before .args .goal)) (λ (g : SubmissionDeliveryGoal). queueRetainedDelivery (c .before .before .before .before .before .before .before .args .id) t g))) (given-none (λ (t : DeliveryTrigger). given (byteAs parseGoal (c .before .before .before .before .before .before .before .args .goal)) (λ (g : SubmissionDeliveryGoal). queueRetainedDelivery (c .before .before .before .before .before .before .before .args .id) t g)) (byte-bad parseTrigger (c .before .before .before .before .before .before .before .args .trigger) (c .before .read-trigger .ensures) (c .if2 .taken))))
+returns-2 c = retained-delivery-did _ _ _ (gives-book-undo 3 noForm (c .before .before .before .before .before .before .before .before .args .book .now) (c .before .before .before .before .before .held .result .book) (c .before .before .before .before .before .held .ensures .present (not-false _ (c .before .before .before .before .if1 .left))) (given (byteAs parseTrigger (c .before .before .before .before .before .before .before .before .args .trigger)) (λ (t : DeliveryTrigger). given (byteAs parseGoal (c .before .before .before .before .before .before .before .before .args .goal)) (λ (g : SubmissionDeliveryGoal). queueRetainedDelivery (c .before .before .before .before .before .before .before .before .args .id) t g))) (given-none (λ (t : DeliveryTrigger). given (byteAs parseGoal (c .before .before .before .before .before .before .before .before .args .goal)) (λ (g : SubmissionDeliveryGoal). queueRetainedDelivery (c .before .before .before .before .before .before .before .before .args .id) t g)) (byte-bad parseTrigger (c .before .before .before .before .before .before .before .before .args .trigger) (c .before .read-trigger .ensures) (c .if2 .taken))))
 
 slice-aggregate-read-goal : tie.Need-slice-aggregate-read-goal
 slice-aggregate-read-goal c = search needs
@@ -43,10 +43,10 @@ same-length-3 : tie.Need-same-length-3
 same-length-3 c = search needs
 
 returns-3 : tie.Need-returns-3
-returns-3 c = retained-delivery-did _ _ _ (gives-book-undo 3 noForm (c .before .before .before .before .before .before .before .before .before .before .args .book .now) (c .before .before .before .before .before .before .before .held .result .book) (c .before .before .before .before .before .before .before .held .ensures .present (not-false _ (c .before .before .before .before .before .before .if1 .left))) (given (byteAs parseTrigger (c .before .before .before .before .before .before .before .before .before .before .args .trigger)) (λ (t : DeliveryTrigger). given (byteAs parseGoal (c .before .before .before .before .before .before .before .before .before .before .args .goal)) (λ (g : SubmissionDeliveryGoal). queueRetainedDelivery (c .before .before .before .before .before .before .before .before .before .before .args .id) t g))) (given-some (λ (t : DeliveryTrigger). given (byteAs parseGoal (c .before .before .before .before .before .before .before .before .before .before .args .goal)) (λ (g : SubmissionDeliveryGoal). queueRetainedDelivery (c .before .before .before .before .before .before .before .before .before .before .args .id) t g)) (byte-got parseTrigger (c .before .before .before .before .before .before .before .before .before .before .args .trigger) (c .before .before .before .before .read-trigger .ensures) (c .before .before .before .if2 .left)) ∙ given-none (λ (g : SubmissionDeliveryGoal). queueRetainedDelivery (c .before .before .before .before .before .before .before .before .before .before .args .id) (c .before .before .before .before .read-trigger .result .value) g) (byte-bad parseGoal (c .before .before .before .before .before .before .before .before .before .before .args .goal) (c .before .read-goal .ensures) (c .if3 .taken))))
+returns-3 c = retained-delivery-did _ _ _ (gives-book-undo 3 noForm (c .before .before .before .before .before .before .before .before .before .before .before .before .args .book .now) (c .before .before .before .before .before .before .before .before .before .held .result .book) (c .before .before .before .before .before .before .before .before .before .held .ensures .present (not-false _ (c .before .before .before .before .before .before .before .before .if1 .left))) (given (byteAs parseTrigger (c .before .before .before .before .before .before .before .before .before .before .before .before .args .trigger)) (λ (t : DeliveryTrigger). given (byteAs parseGoal (c .before .before .before .before .before .before .before .before .before .before .before .before .args .goal)) (λ (g : SubmissionDeliveryGoal). queueRetainedDelivery (c .before .before .before .before .before .before .before .before .before .before .before .before .args .id) t g))) (given-some (λ (t : DeliveryTrigger). given (byteAs parseGoal (c .before .before .before .before .before .before .before .before .before .before .before .before .args .goal)) (λ (g : SubmissionDeliveryGoal). queueRetainedDelivery (c .before .before .before .before .before .before .before .before .before .before .before .before .args .id) t g)) (byte-got parseTrigger (c .before .before .before .before .before .before .before .before .before .before .before .before .args .trigger) (c .before .before .before .before .before .read-trigger .ensures) (c .before .before .before .before .if2 .left)) ∙ given-none (λ (g : SubmissionDeliveryGoal). queueRetainedDelivery (c .before .before .before .before .before .before .before .before .before .before .before .before .args .id) (c .before .before .before .before .before .read-trigger .result) g) (byte-bad parseGoal (c .before .before .before .before .before .before .before .before .before .before .before .before .args .goal) (c .before .read-goal .ensures) (c .if3 .taken))))
 
 queue-retained-delivery-sound-requires : tie.Need-queue-retained-delivery-sound-requires
-queue-retained-delivery-sound-requires c κs = (c .before .before .before .before .before .before .before .held .ensures .present (not-false _ (c .before .before .before .before .before .before .if1 .left))) .sound
+queue-retained-delivery-sound-requires c κs = (c .before .before .before .before .before .before .before .before .before .held .ensures .present (not-false _ (c .before .before .before .before .before .before .before .before .if1 .left))) .sound
 
 settle-done-requires : tie.Need-settle-done-requires
 settle-done-requires c κs = search needs
@@ -55,7 +55,7 @@ same-length-4 : tie.Need-same-length-4
 same-length-4 c = search needs
 
 returns-4 : tie.Need-returns-4
-returns-4 c = retained-delivery-did _ _ _ (done-given (c .before .before .before .before .before .before .before .before .before .before .before .before .before .before .before .args .book .now) (c .before .before .before .before .before .before .before .before .before .before .before .before .held .result .book) (c .before .before .before .before .before .before .before .before .before .before .before .before .held .ensures .present (not-false _ (c .before .before .before .before .before .before .before .before .before .before .before .if1 .left))) (given (byteAs parseTrigger (c .before .before .before .before .before .before .before .before .before .before .before .before .before .before .before .args .trigger)) (λ (t : DeliveryTrigger). given (byteAs parseGoal (c .before .before .before .before .before .before .before .before .before .before .before .before .before .before .before .args .goal)) (λ (g : SubmissionDeliveryGoal). queueRetainedDelivery (c .before .before .before .before .before .before .before .before .before .before .before .before .before .before .before .args .id) t g))) (c .before .before .before .before .queue-retained-delivery-sound .result) (done-as (c .before .before .before .before .before .before .before .before .before .before .before .before .held .result .book) (sym (given-some (λ (t : DeliveryTrigger). given (byteAs parseGoal (c .before .before .before .before .before .before .before .before .before .before .before .before .before .before .before .args .goal)) (λ (g : SubmissionDeliveryGoal). queueRetainedDelivery (c .before .before .before .before .before .before .before .before .before .before .before .before .before .before .before .args .id) t g)) (byte-got parseTrigger (c .before .before .before .before .before .before .before .before .before .before .before .before .before .before .before .args .trigger) (c .before .before .before .before .before .before .before .before .before .read-trigger .ensures) (c .before .before .before .before .before .before .before .before .if2 .left)) ∙ given-some (λ (g : SubmissionDeliveryGoal). queueRetainedDelivery (c .before .before .before .before .before .before .before .before .before .before .before .before .before .before .before .args .id) (c .before .before .before .before .before .before .before .before .before .read-trigger .result .value) g) (byte-got parseGoal (c .before .before .before .before .before .before .before .before .before .before .before .before .before .before .before .args .goal) (c .before .before .before .before .before .before .read-goal .ensures) (c .before .before .before .before .before .if3 .left)))) (c .before .before .before .before .queue-retained-delivery-sound .ensures)) (c .before .before .settle-done .ensures))
+returns-4 c = retained-delivery-did _ _ _ (done-given (c .before .before .before .before .before .before .before .before .before .before .before .before .before .before .before .before .before .args .book .now) (c .before .before .before .before .before .before .before .before .before .before .before .before .before .before .held .result .book) (c .before .before .before .before .before .before .before .before .before .before .before .before .before .before .held .ensures .present (not-false _ (c .before .before .before .before .before .before .before .before .before .before .before .before .before .if1 .left))) (given (byteAs parseTrigger (c .before .before .before .before .before .before .before .before .before .before .before .before .before .before .before .before .before .args .trigger)) (λ (t : DeliveryTrigger). given (byteAs parseGoal (c .before .before .before .before .before .before .before .before .before .before .before .before .before .before .before .before .before .args .goal)) (λ (g : SubmissionDeliveryGoal). queueRetainedDelivery (c .before .before .before .before .before .before .before .before .before .before .before .before .before .before .before .before .before .args .id) t g))) (c .before .before .before .before .queue-retained-delivery-sound .result) (done-as (c .before .before .before .before .before .before .before .before .before .before .before .before .before .before .held .result .book) (sym (given-some (λ (t : DeliveryTrigger). given (byteAs parseGoal (c .before .before .before .before .before .before .before .before .before .before .before .before .before .before .before .before .before .args .goal)) (λ (g : SubmissionDeliveryGoal). queueRetainedDelivery (c .before .before .before .before .before .before .before .before .before .before .before .before .before .before .before .before .before .args .id) t g)) (byte-got parseTrigger (c .before .before .before .before .before .before .before .before .before .before .before .before .before .before .before .before .before .args .trigger) (c .before .before .before .before .before .before .before .before .before .before .read-trigger .ensures) (c .before .before .before .before .before .before .before .before .before .if2 .left)) ∙ given-some (λ (g : SubmissionDeliveryGoal). queueRetainedDelivery (c .before .before .before .before .before .before .before .before .before .before .before .before .before .before .before .before .before .args .id) (c .before .before .before .before .before .before .before .before .before .before .read-trigger .result) g) (byte-got parseGoal (c .before .before .before .before .before .before .before .before .before .before .before .before .before .before .before .before .before .args .goal) (c .before .before .before .before .before .before .read-goal .ensures) (c .before .before .before .before .before .if3 .left)))) (c .before .before .before .before .queue-retained-delivery-sound .ensures)) (c .before .before .settle-done .ensures))
 
 pub submission-book-queue-retained-delivery-spec : {M : Type 1} → statement M
 submission-book-queue-retained-delivery-spec =

@@ -1,27 +1,16 @@
-use Rattle.lists.specs.Lists.{flatMap}
-use Rattle.book_data.specs.Sound.{tokensOf, attemptToken}
-use Rattle.entry_read.specs.Attempts.{elem-both}
+-- A token is in the tokens held and in the live slot's where it is in either.
 use mathlib.Core.Bool.{Bool, not, _&&_}
 use lib.Dec.{ltb}
-use borrow.Author.Needs.{needs}
+use Rattle.book_data.specs.Sound.{attemptToken}
+use Rattle.entry_read.specs.Entries.{elem-both}
 use mathlib.Core.Path.{ap}
-use lib.ListN.{take}
+use borrow.Author.Needs.{needs}
 use Rattle.entry_read.proofs.attempt.fresh_token.Statement.{statement}
 use Rattle.entry_read.proofs.attempt.fresh_token.Tie as tie
 
-holds-token-requires : tie.Need-holds-token-requires
-holds-token-requires c κs = search needs
-
-slot-holds-requires : tie.Need-slot-holds-requires
-slot-holds-requires c κs = search needs
-
 returns : tie.Need-returns
-returns c = ap (λ (b : Bool). ltb (c .before .before .args .token) (c .before .before .args .next) && not b) (elem-both (c .before .before .args .token) (flatMap tokensOf (take (c .before .before .args .n) (c .before .before .args .earlier))) (attemptToken (c .before .before .args .live)) (c .before .holds-token .ensures) (c .slot-holds .ensures))
+returns c = let a = c .before .before .before .before .before .args in
+    ap (λ (b : Bool). ltb (a .token .0) (a .next .0) && not b) (elem-both (a .token .0) (a .held .now) (attemptToken (a .live)) (c .before .before .before .contains .ensures) (c .before .before .slot-holds .ensures))
 
 pub fresh-token-spec : {M : Type 1} → statement M
-fresh-token-spec =
-    tie.close
-    (tie.spec
-    holds-token-requires
-    slot-holds-requires
-    returns)
+fresh-token-spec = tie.close (tie.spec (λ c κs. search needs) (λ c κs. search needs) returns)

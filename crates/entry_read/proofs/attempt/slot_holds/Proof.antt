@@ -1,9 +1,11 @@
-use Rattle.entry_read.specs.Attempts.{slot-elem}
+-- A slot has the token where it is present and its own token is that one.
+use Rattle.entry_read.specs.Entries.{slot-elem}
+use borrow.Author.Needs.{needs}
 use Rattle.entry_read.proofs.attempt.slot_holds.Statement.{statement}
 use Rattle.entry_read.proofs.attempt.slot_holds.Tie as tie
 
 returns : tie.Need-returns
-returns c = slot-elem (c .before .before .args .a .present) (c .before .before .args .a .attempt .token .0) (c .before .before .args .token)
+returns c = let a = c .before .before .before .args in slot-elem (a .a .present) (a .a .attempt .token .0) (a .token .0)
 
 pub slot-holds-spec : {M : Type 1} → statement M
 slot-holds-spec = tie.close (tie.spec returns)

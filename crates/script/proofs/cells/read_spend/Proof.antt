@@ -1,37 +1,19 @@
-use Rattle.script.specs.Onward.{hash-on, byte-on, on-join}
+-- The parts of a spend one behind the other.
+use Rattle.script.specs.Onward.{byte-on, hash-on, on-then}
 use borrow.Author.Needs.{needs}
 use Rattle.script.proofs.cells.read_spend.Statement.{statement}
 use Rattle.script.proofs.cells.read_spend.Tie as tie
 
-read-count-requires : tie.Need-read-count-requires
-read-count-requires c κs = search needs
-
-read-coin-requires : tie.Need-read-coin-requires
-read-coin-requires c κs = search needs
-
-read-hash-requires : tie.Need-read-hash-requires
-read-hash-requires c κs = search needs
-
-read-count-requires-2 : tie.Need-read-count-requires-2
-read-count-requires-2 c κs = search needs
-
-read-count-requires-3 : tie.Need-read-count-requires-3
-read-count-requires-3 c κs = search needs
-
-read-outputs-requires : tie.Need-read-outputs-requires
-read-outputs-requires c κs = search needs
-
 returns : tie.Need-returns
-returns c = let s = c .before .before .before .before .before .before .before .before .before .before .before .before .before .before .before .before .args .s .now in on-join (on-join (on-join (on-join (on-join (byte-on s (c .before .before .before .before .before .before .before .before .before .before .before .before .before .before .before .before .args .at) 255 (c .before .before .before .before .before .before .before .before .before .before .before .before .before .before .read-count .ensures)) (c .before .before .before .before .before .before .before .before .before .before .before .before .before .read-coin .ensures)) (hash-on s (c .before .before .before .before .before .before .before .before .before .before .before .before .before .read-coin .result .at) (c .before .before .before .before .before .before .before .before .before .before .before .before .read-hash .ensures))) (byte-on s (c .before .before .before .before .before .before .before .before .before .before .before .before .read-hash .result .at) 255 (c .before .before .before .before .before .before .before .before .before .before .before .read-count2 .ensures))) (byte-on s (c .before .before .before .before .before .before .before .before .before .before .before .read-count2 .result .at) 255 (c .before .before .before .before .before .before .before .before .before .before .read-count3 .ensures))) (c .before .before .before .before .before .before .before .before .before .read-outputs .ensures)
+returns c =
+    let read-count = c .before .before .before .before .before .before .before .before .before .before .read-count in
+    let read-coin = c .before .before .before .before .before .before .before .before .read-coin in
+    let read-hash = c .before .before .before .before .before .before .read-hash in
+    let read-count2 = c .before .before .before .before .read-count2 in
+    let read-count3 = c .before .before .read-count3 in
+    let read-outputs = c .read-outputs in
+    on-then (byte-on (read-count .ensures)) (on-then (read-coin .ensures) (on-then (hash-on (read-hash .ensures))
+    (on-then (byte-on (read-count2 .ensures)) (on-then (byte-on (read-count3 .ensures)) (read-outputs .ensures)))))
 
 pub read-spend-spec : {M : Type 1} → statement M
-read-spend-spec =
-    tie.close
-    (tie.spec
-    read-count-requires
-    read-coin-requires
-    read-hash-requires
-    read-count-requires-2
-    read-count-requires-3
-    read-outputs-requires
-    returns)
+read-spend-spec = tie.close (tie.spec (λ c κs. search needs) (λ c κs. search needs) (λ c κs. search needs) (λ c κs. search needs) (λ c κs. search needs) (λ c κs. search needs) returns)

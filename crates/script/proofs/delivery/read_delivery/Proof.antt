@@ -1,37 +1,18 @@
+-- The six arguments one behind the other.
 use Rattle.script.specs.Onward.{on-join}
 use borrow.Author.Needs.{needs}
 use Rattle.script.proofs.delivery.read_delivery.Statement.{statement}
 use Rattle.script.proofs.delivery.read_delivery.Tie as tie
 
-read-id-requires : tie.Need-read-id-requires
-read-id-requires c κs = search needs
-
-read-bundle-requires : tie.Need-read-bundle-requires
-read-bundle-requires c κs = search needs
-
-read-expiry-requires : tie.Need-read-expiry-requires
-read-expiry-requires c κs = search needs
-
-read-fee-intent-requires : tie.Need-read-fee-intent-requires
-read-fee-intent-requires c κs = search needs
-
-read-trigger-requires : tie.Need-read-trigger-requires
-read-trigger-requires c κs = search needs
-
-read-goal-requires : tie.Need-read-goal-requires
-read-goal-requires c κs = search needs
-
 returns : tie.Need-returns
-returns c = on-join (on-join (on-join (on-join (on-join (c .before .before .before .before .before .before .before .before .before .before .before .before .before .before .before .before .before .before .before .read-id .ensures) (c .before .before .before .before .before .before .before .before .before .before .before .before .before .before .before .before .before .before .read-bundle .ensures)) (c .before .before .before .before .before .before .before .before .before .before .before .before .before .before .before .before .before .read-expiry .ensures)) (c .before .before .before .before .before .before .before .before .before .before .before .before .before .before .before .before .read-fee-intent .ensures)) (c .before .before .before .before .before .before .before .before .before .before .before .before .before .before .before .read-trigger .ensures .on)) (c .before .before .before .before .before .before .before .before .before .before .before .before .before .before .read-goal .ensures .on)
+returns c =
+    let read-id = c .before .before .before .before .before .before .before .before .before .before .before .before .before .before .before .before .before .before .before .read-id in
+    let read-bundle = c .before .before .before .before .before .before .before .before .before .before .before .before .before .before .before .before .before .before .read-bundle in
+    let read-expiry = c .before .before .before .before .before .before .before .before .before .before .before .before .before .before .before .before .before .read-expiry in
+    let read-fee-intent = c .before .before .before .before .before .before .before .before .before .before .before .before .before .before .before .before .read-fee-intent in
+    let read-trigger = c .before .before .before .before .before .before .before .before .before .before .before .before .before .before .before .read-trigger in
+    let read-goal = c .before .before .before .before .before .before .before .before .before .before .before .before .before .before .read-goal in
+    on-join (on-join (on-join (on-join (on-join (read-id .ensures) (read-bundle .ensures)) (read-expiry .ensures)) (read-fee-intent .ensures)) (read-trigger .ensures .on)) (read-goal .ensures .on)
 
 pub read-delivery-spec : {M : Type 1} → statement M
-read-delivery-spec =
-    tie.close
-    (tie.spec
-    read-id-requires
-    read-bundle-requires
-    read-expiry-requires
-    read-fee-intent-requires
-    read-trigger-requires
-    read-goal-requires
-    returns)
+read-delivery-spec = tie.close (tie.spec (λ c κs. search needs) (λ c κs. search needs) (λ c κs. search needs) (λ c κs. search needs) (λ c κs. search needs) (λ c κs. search needs) returns)

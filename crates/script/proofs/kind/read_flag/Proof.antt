@@ -1,13 +1,10 @@
-use Rattle.script.specs.Onward.{byte-on}
+-- A flag is one byte.
 use borrow.Author.Needs.{needs}
 use Rattle.script.proofs.kind.read_flag.Statement.{statement}
 use Rattle.script.proofs.kind.read_flag.Tie as tie
 
-read-count-requires : tie.Need-read-count-requires
-read-count-requires c κs = search needs
-
 returns : tie.Need-returns
-returns c = byte-on (c .before .before .args .s .now) (c .before .before .args .at) 255 (c .read-count .ensures)
+returns c = c .read-byte .ensures
 
 pub read-flag-spec : {M : Type 1} → statement M
-read-flag-spec = tie.close (tie.spec read-count-requires returns)
+read-flag-spec = tie.close (tie.spec (λ c κs. search needs) returns)

@@ -1,16 +1,11 @@
-use Rattle.script.specs.Onward.{byte-on}
+-- The byte tells where the argument ends, the goal's reader what it stands for.
+use mathlib.Core.Path.{refl}
 use borrow.Author.Needs.{needs}
 use Rattle.script.proofs.kind.read_goal.Statement.{statement}
 use Rattle.script.proofs.kind.read_goal.Tie as tie
 
-read-count-requires : tie.Need-read-count-requires
-read-count-requires c κs = search needs
-
-read-goal-requires : tie.Need-read-goal-requires
-read-goal-requires c κs = search needs
-
 returns : tie.Need-returns
-returns c = record { on = byte-on (c .before .before .before .args .s .now) (c .before .before .before .args .at) 255 (c .before .read-count .ensures); place = c .read-goal .result .at; is = c .read-goal .ensures }
+returns c = record { on = c .before .before .read-byte .ensures; place = _; is = c .read-goal .ensures; fits = refl }
 
 pub read-goal-spec : {M : Type 1} → statement M
-read-goal-spec = tie.close (tie.spec read-count-requires read-goal-requires returns)
+read-goal-spec = tie.close (tie.spec (λ c κs. search needs) (λ c κs. search needs) returns)

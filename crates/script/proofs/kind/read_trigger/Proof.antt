@@ -1,16 +1,11 @@
-use Rattle.script.specs.Onward.{byte-on}
+-- The byte tells where the argument ends, the trigger's reader what it stands for.
+use mathlib.Core.Path.{refl}
 use borrow.Author.Needs.{needs}
 use Rattle.script.proofs.kind.read_trigger.Statement.{statement}
 use Rattle.script.proofs.kind.read_trigger.Tie as tie
 
-read-count-requires : tie.Need-read-count-requires
-read-count-requires c κs = search needs
-
-read-trigger-requires : tie.Need-read-trigger-requires
-read-trigger-requires c κs = search needs
-
 returns : tie.Need-returns
-returns c = record { on = byte-on (c .before .before .before .args .s .now) (c .before .before .before .args .at) 255 (c .before .read-count .ensures); place = c .read-trigger .result .at; is = c .read-trigger .ensures }
+returns c = record { on = c .before .before .read-byte .ensures; place = _; is = c .read-trigger .ensures; fits = refl }
 
 pub read-trigger-spec : {M : Type 1} → statement M
-read-trigger-spec = tie.close (tie.spec read-count-requires read-trigger-requires returns)
+read-trigger-spec = tie.close (tie.spec (λ c κs. search needs) (λ c κs. search needs) returns)

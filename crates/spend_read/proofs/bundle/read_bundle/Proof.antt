@@ -1,43 +1,40 @@
-use Rattle.wire_bytes.specs.Reading.{gives, refuses, reads-got, reads-bad, upTo-most}
-use Rattle.book_data.specs.Zero.{zeroBundle}
-use Rattle.spend_read.specs.Answers.{bundle-bad, bundle-short, bundle-got}
+-- The spends fill their cells one behind the other.
+use Rattle.archive_form.specs.Parse.{parseSpend, parseBundle}
+use Rattle.book_data.specs.Zero.{zeroSpend}
+use Rattle.cursor.specs.Cursor.{reads-then, ends-as}
+use Rattle.cursor.specs.Cells.{Filled, filled-start, filled-more, filled-list}
+use native.Mathlib.Omega.{arith}
+use Prim.Native.Nat.{_-_}
 use borrow.Author.Needs.{needs}
 use Rattle.spend_read.proofs.bundle.read_bundle.Statement.{statement}
 use Rattle.spend_read.proofs.bundle.read_bundle.Tie as tie
 
-read-count-requires : tie.Need-read-count-requires
-read-count-requires c κs = search needs
+abbrev Inv-loop : tie.InvT-loop
+Inv-loop s at₀ base count n spends₀ i₀ at spends i = Filled 4 zeroSpend (λ before. parseSpend base) s at₀ n spends at i
 
-no-bundle-requires : tie.Need-no-bundle-requires
-no-bundle-requires c κs = search needs
+abbrev μ-loop : tie.MeasureT-loop
+μ-loop s at₀ base count n spends₀ i₀ at spends i = n - i
 
-returns : tie.Need-returns
-returns c = rw (c .no-bundle .ensures) (refuses zeroBundle (bundle-bad (c .before .before .before .before .args .base) (c .before .before .before .before .args .s .now) (c .before .before .before .before .args .at) (reads-bad (c .before .before .read-count .ensures) (c .before .if1 .taken))))
+loop-holds : tie.Need-loop-holds Inv-loop μ-loop
+loop-holds c = rw (c .zero .ensures) (filled-start 4 zeroSpend (λ before. parseSpend (c .before .before .before .before .args .base)) (c .before .before .before .before .args .s .now) _ _)
 
-cast-read-spends : tie.Need-cast-read-spends
-cast-read-spends c = search needs
+loop-less : tie.Need-loop-less Inv-loop μ-loop
+loop-less c = omega (arith, c .before .before .before .loop .inv .some)
 
-read-spends-requires : tie.Need-read-spends-requires
-read-spends-requires c κs = upTo-most 4 (c .before .before .before .before .args .s .now) (c .before .before .before .before .args .at) _ _ (reads-got (c .before .before .read-count .ensures) (c .before .if1 .left))
+loop-again : tie.Need-loop-again Inv-loop μ-loop
+loop-again c = filled-more (c .before .before .before .loop .inv) (c .before .before .before .before .before .read-count .ensures .few) (c .before .before .loop-test .taken) (c .read-spend .ensures)
 
-no-bundle-requires-2 : tie.Need-no-bundle-requires-2
-no-bundle-requires-2 c κs = search needs
-
-returns-2 : tie.Need-returns-2
-returns-2 c = rw (c .no-bundle2 .ensures) (refuses zeroBundle (bundle-short (c .before .before .before .before .before .before .before .args .base) (c .before .before .before .before .before .before .before .args .s .now) (c .before .before .before .before .before .before .before .args .at) _ (reads-got (c .before .before .before .before .before .read-count .ensures) (c .before .before .before .before .if1 .left)) (reads-bad (c .before .before .read-spends .ensures) (c .before .if2 .taken))))
-
-returns-3 : tie.Need-returns-3
-returns-3 c = gives zeroBundle (bundle-got (c .before .before .before .before .before .before .before .args .base) (c .before .before .before .before .before .before .before .args .s .now) (c .before .before .before .before .before .before .before .args .at) _ (reads-got (c .before .before .before .before .before .read-count .ensures) (c .before .before .before .before .if1 .left)) (reads-got (c .before .before .read-spends .ensures) (c .before .if2 .left)))
+returns : tie.Need-returns Inv-loop μ-loop
+unfolding parseBundle
+returns c =
+    let read-count = c .before .before .before .read-count in
+    let loop = c .before .loop in
+    let loop-test = c .loop-test in
+    let w = filled-list (read-count .ensures .reads) (read-count .ensures .few) (loop .inv) (loop-test .left) in reads-then _ (w .read) (ends-as (λ i. record { count = w .long i; spends = w .same i }))
 
 pub read-bundle-spec : {M : Type 1} → statement M
 read-bundle-spec =
     tie.close
     (tie.spec
-    read-count-requires
-    no-bundle-requires
-    returns
-    cast-read-spends
-    read-spends-requires
-    no-bundle-requires-2
-    returns-2
-    returns-3)
+    Inv-loop μ-loop (λ c κs. search needs) (λ c. search needs) (λ c κs. search needs) loop-holds (λ c κs. search needs) (λ c. search needs) (λ c. search needs) (λ c. search needs) loop-less loop-again
+    returns)

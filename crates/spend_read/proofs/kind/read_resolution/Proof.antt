@@ -1,23 +1,13 @@
-use Rattle.wire_bytes.specs.Reading.{gives, refuses, reads-got, reads-bad}
-use Rattle.archive_form.specs.Parse.{resolutionOf}
-use Rattle.spend_read.specs.Parts.{kind-bad, kind-got, resolution-is}
-use mathlib.Core.Path.{_∙_}
+-- A kind is a count in another form.
+use Rattle.archive_form.specs.Parse.{resolutionOf, parseResolution}
+use Rattle.cursor.specs.Cursor.{reads-mapped}
 use borrow.Author.Needs.{needs}
 use Rattle.spend_read.proofs.kind.read_resolution.Statement.{statement}
 use Rattle.spend_read.proofs.kind.read_resolution.Tie as tie
 
-read-count-requires : tie.Need-read-count-requires
-read-count-requires c κs = search needs
-
 returns : tie.Need-returns
-returns c = refuses _ (resolution-is (c .before .before .before .args .s .now) (c .before .before .before .args .at) ∙ kind-bad resolutionOf 2 (c .before .before .before .args .s .now) (c .before .before .before .args .at) (reads-bad (c .before .read-count .ensures) (c .if1 .taken)))
-
-resolution-of-requires : tie.Need-resolution-of-requires
-resolution-of-requires c κs = search needs
-
-returns-2 : tie.Need-returns-2
-returns-2 c = gives _ (resolution-is (c .before .before .before .before .args .s .now) (c .before .before .before .before .args .at) ∙ kind-got resolutionOf 2 (c .before .before .before .before .args .s .now) (c .before .before .before .before .args .at) (reads-got (c .before .before .read-count .ensures) (c .before .if1 .left)) (c .resolution-of .ensures))
+unfolding parseResolution
+returns c = reads-mapped resolutionOf (c .before .read-count .ensures .reads) (c .resolution-of .ensures)
 
 pub read-resolution-spec : {M : Type 1} → statement M
-read-resolution-spec =
-    tie.close (tie.spec read-count-requires returns resolution-of-requires returns-2)
+read-resolution-spec = tie.close (tie.spec (λ c κs. search needs) (λ c κs. search needs) returns)

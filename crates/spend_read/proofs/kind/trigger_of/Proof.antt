@@ -1,3 +1,4 @@
+-- The last kind stands for every number from its own on.
 use Rattle.spend_read.specs.Parts.{after-three}
 use Rattle.archive_form.specs.Parse.{triggerOf}
 use mathlib.Core.Path.{refl}
@@ -5,17 +6,8 @@ use borrow.Author.Needs.{needs}
 use Rattle.spend_read.proofs.kind.trigger_of.Statement.{statement}
 use Rattle.spend_read.proofs.kind.trigger_of.Tie as tie
 
-returns : tie.Need-returns
-returns c = search needs
-
-returns-2 : tie.Need-returns-2
-returns-2 c = search needs
-
-returns-3 : tie.Need-returns-3
-returns-3 c = search needs
-
 returns-4 : tie.Need-returns-4
 returns-4 c = after-three triggerOf (λ k. refl) (c .before .before .before .args .n) (c .before .before .if1 .left) (c .before .if2 .left) (c .if3 .left)
 
 pub trigger-of-spec : {M : Type 1} → statement M
-trigger-of-spec = tie.close (tie.spec returns returns-2 returns-3 returns-4)
+trigger-of-spec = tie.close (tie.spec (λ c. search needs) (λ c. search needs) (λ c. search needs) returns-4)
