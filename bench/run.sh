@@ -12,7 +12,7 @@ fi
 log=$out/build.log
 : >"$log"
 # A library is proved again when it is built, which takes a minute or two, so one that is newer than every source is kept.
-for crate in c_api call_bench archive_c sha256_c; do
+for crate in c_api sha256_c; do
     library=target/staticlib/lib$crate.a
     if [ ! -f "$library" ] || [ -n "$(find crates crates.txt -regex '.*\.\(rt\|antt\|txt\)' -newer "$library" -print -quit)" ]; then
         echo "proving and building $library" >&2
@@ -30,7 +30,7 @@ cp bench/calls/rust/timing.rs "$copy/src/transaction_manager/"
 echo 'pub mod timing;' >>"$copy/src/transaction_manager.rs"
 printf 'pub mod case;\npub use transaction_manager::timing;\n' >>"$copy/src/lib.rs"
 
-libraries="-L native=$PWD/target/staticlib -l static=c_api -l static=call_bench"
+libraries="-L native=$PWD/target/staticlib -l static=c_api"
 if command -v cargo >/dev/null && [ -f "$upstream/src/transaction_manager/submission.rs" ]; then
     SUBMISSION_BOOK_UPSTREAM=$(cd "$upstream" && pwd) RUSTFLAGS=$libraries CARGO_TARGET_DIR=$out/cargo \
         cargo build --release --offline --features rust --manifest-path bench/calls/Cargo.toml >>"$log" 2>&1 || { cat "$log"; exit 1; }
@@ -40,8 +40,8 @@ else
     rustc --edition 2021 -C opt-level=3 -o "$out/call_times" bench/calls/src/main.rs $libraries >>"$log" 2>&1 || { cat "$log"; exit 1; }
     calls=$out/call_times
 fi
-for part in archive sha256; do
-    rustc --edition 2021 -C opt-level=3 -o "$out/$part" "bench/$part/main.rs" -L target/staticlib -l "static=${part}_c" >>"$log" 2>&1 || { cat "$log"; exit 1; }
+for part in archive:c_api sha256:sha256_c; do
+    rustc --edition 2021 -C opt-level=3 -o "$out/${part%:*}" "bench/${part%:*}/main.rs" -L target/staticlib -l "static=${part#*:}" >>"$log" 2>&1 || { cat "$log"; exit 1; }
 done
 "$calls"
 "$out/archive"

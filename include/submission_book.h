@@ -26,7 +26,7 @@
  * big-endian. A mark is one byte, 0 or 1.
  *
  * REFUSALS. A refused call leaves every lent byte, with two exceptions: a 13 sets `place`, and a drain refused 11
- * leaves the book as far as it came. Checks run in this order: 1, then 3, then 2, then what the call's own rules
+ * leaves the book as far as it came. Checks run in this order: 1, then 2, then 3, then what the call's own rules
  * say, then 12. Any call may answer
  *     1   `book` holds no book: fewer than 8 bytes, fewer than its length says, or no archive there
  *         (submission_book_open and submission_book_read do not look, and never answer 1)
@@ -238,7 +238,7 @@ uint8_t submission_book_queue_retained_delivery(uint8_t *book, size_t book_len, 
 
 /* Offers each listed submission in the list's order, as submission_book_queue_retained_delivery does: with goal 1
  * where its current bundle is acknowledged, else with goal 0. Ids that are not retained are passed over.
- * Refusals: 3 `trigger` over 3; 2 over 64 ids; 10 the queue would pass 16 entries. */
+ * Refusals, in this order: 2 over 64 ids; 3 `trigger` over 3; 10 the queue would pass 16 entries. */
 SUBMISSION_BOOK_NODISCARD
 uint8_t submission_book_queue_rebroadcast_epoch(uint8_t *book, size_t book_len, const uint64_t *ids, size_t ids_len,
     uint8_t trigger);
@@ -378,7 +378,8 @@ uint8_t submission_book_restore_runtime(uint8_t *book, size_t book_len);
  * list): Landed. Else an input of it is among the `spent` coin ids: InputSpent; but Landed stays where `reorg` is
  * 0. Else, where its id is among `rolled_back`: Active again. In the first two cases it is settled: its replay mark
  * and queue entries go, its live attempt is set aside, and its id is retired.
- * Refusals: 3 `reorg` over 1; 2 a list out of form, or over 64 ids; 10 more than 64 retirements would result. */
+ * Refusals, in this order: 2 a list out of form, or over 64 ids; 3 `reorg` over 1; 10 more than 64 retirements
+ * would result. */
 SUBMISSION_BOOK_NODISCARD
 uint8_t submission_book_reconcile_chain_terminality(uint8_t *book, size_t book_len,
     const uint8_t *observed, size_t observed_len, const uint8_t *spent, size_t spent_len, uint8_t reorg,

@@ -1,4 +1,4 @@
-//! Times the proved reader and writer of archives and plain ones on the same bytes, turn about, and prints a table.
+//! Times the proved reader and writer of archives, through the library, and plain ones on the same bytes, turn about, and prints a table.
 #[path = "../clock.rs"]
 mod clock;
 mod plain;
@@ -9,8 +9,7 @@ use std::hint::black_box;
 const ROUNDS: usize = 15;
 
 extern "C" {
-    fn wotzenka_archive_read(bytes: *const u8, length: usize) -> u64;
-    fn wotzenka_archive_rewrite(bytes: *const u8, length: usize, out: *mut u8, room: usize, times: u64) -> u64;
+    fn submission_book_read(book: *mut u8, book_len: usize, archive: *const u8, archive_len: usize, place: *mut u64) -> u8;
 }
 
 fn seconds(mut work: impl FnMut()) -> f64 {
@@ -92,29 +91,33 @@ fn main() {
     assert_eq!(bytes.len(), 57_694);
     let book = plain::read(&bytes).unwrap_or_else(|place| panic!("refused at {place}"));
     assert_eq!(plain::write(&book, bytes.len()), bytes);
-    let mut out = vec![0u8; bytes.len()];
-    // The functions read `length` bytes and write at most `room`.
-    let read = || unsafe { wotzenka_archive_read(bytes.as_ptr(), bytes.len()) };
-    let mut rewrite = |times| unsafe {
-        wotzenka_archive_rewrite(bytes.as_ptr(), bytes.len(), out.as_mut_ptr(), out.len(), times)
+    // With a byte left over the archive is read to its end and refused 13 there; without it its book is written, too.
+    let left_over = [&bytes[..], &[0]].concat();
+    let mut lent = vec![0u8; 8 + bytes.len()];
+    let mut place = 0u64;
+    // The function reads the archive, and writes at most the lent bytes and the place.
+    let mut read = |archive: &[u8], lent: &mut [u8]| unsafe {
+        submission_book_read(lent.as_mut_ptr(), lent.len(), archive.as_ptr(), archive.len(), &mut place)
     };
-    assert_eq!(read(), 0);
-    assert_eq!(rewrite(1), bytes.len() as u64);
+    assert_eq!(read(&left_over, &mut lent), 13);
+    assert_eq!(read(&bytes, &mut lent), 0);
+    assert_eq!(lent[8..], bytes);
     let times = 100;
     let [mut ours_read, mut ours_write, mut plain_read, mut plain_write] = [const { Vec::new() }; 4];
     for _ in 0..ROUNDS {
-        ours_read.push(seconds(|| (0..times).for_each(|_| assert_eq!(black_box(read()), 0))));
-        // One read and so many writes, less one read and one write, so that the reading drops out.
-        ours_write.push(seconds(|| assert_eq!(rewrite(times + 1), 57_694)) - seconds(|| assert_eq!(rewrite(1), 57_694)));
+        let reading = seconds(|| (0..times).for_each(|_| assert_eq!(black_box(read(&left_over, &mut lent)), 13)));
+        let both = seconds(|| (0..times).for_each(|_| assert_eq!(black_box(read(&bytes, &mut lent)), 0)));
+        ours_read.push(reading);
+        ours_write.push(both - reading);
         plain_read.push(seconds(|| (0..times).for_each(|_| assert!(black_box(plain::read(&bytes)).is_ok()))));
         plain_write.push(seconds(|| (0..times).for_each(|_| drop(black_box(plain::write(&book, bytes.len()))))));
     }
-    assert_eq!(out, bytes);
+    assert_eq!(place, bytes.len() as u64);
     println!("## Archives against plain Rust\n");
     println!(
         "The largest book, 57,694 bytes. Medians of {ROUNDS} rounds, turn about, by processor time. The ratio is the port's \
-         speed divided by the plain one's: above 1 the port is faster. The port's writer tests the book's soundness each \
-         time, the plain one does not.\n"
+         speed divided by the plain one's: above 1 the port is faster. The port is timed through `submission_book_read`: \
+         reading with a byte left over, which is refused 13 behind the whole archive, writing as an accepted call less that.\n"
     );
     println!("| | port MB/s | plain Rust MB/s | ratio |\n|---|---|---|---|");
     let rate = |time: f64| bytes.len() as f64 * times as f64 / 1e6 / time;

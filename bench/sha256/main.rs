@@ -9,13 +9,13 @@ use std::hint::black_box;
 const ROUNDS: usize = 15;
 
 extern "C" {
-    fn wotzenka_sha256(message: *const u8, length: usize, digest: *mut [u8; 32]);
+    fn sha256_c_digest(message: *const u8, length: usize, digest: *mut [u8; 32]);
 }
 
 fn proved(message: &[u8]) -> [u8; 32] {
     let mut digest = [0u8; 32];
     // The function reads `length` bytes and writes 32.
-    unsafe { wotzenka_sha256(message.as_ptr(), message.len(), &mut digest) };
+    unsafe { sha256_c_digest(message.as_ptr(), message.len(), &mut digest) };
     digest
 }
 

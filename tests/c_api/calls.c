@@ -301,8 +301,10 @@ static void test_arguments(void) {
     long_list[1] = 801 & 0xff;
     expect("sample book", sample_book(book), true);
     keep();
-    refused("trigger", submission_book_queue_rebroadcast_epoch(book, LEN, many, 65, 4), 3);
+    refused("trigger", submission_book_queue_rebroadcast_epoch(book, LEN, many, 64, 4), 3);
     refused("65 ids", submission_book_queue_rebroadcast_epoch(book, LEN, many, 65, 1), 2);
+    refused("no book before 65 ids", submission_book_queue_rebroadcast_epoch(book, 7, many, 65, 4), 1);
+    refused("65 ids before a trigger", submission_book_queue_rebroadcast_epoch(book, LEN, many, 65, 4), 2);
     refused("trigger", submission_book_queue_retained_delivery(book, LEN, 1, 4, 0), 3);
     refused("goal", submission_book_queue_retained_delivery(book, LEN, 1, 0, 2), 3);
     refused("no delivery", submission_book_queue(book, LEN, NULL, 0), 3);
@@ -311,7 +313,11 @@ static void test_arguments(void) {
     refused("joined left over", submission_book_finalize_attempt(book, LEN, 5, 0, coins, 1, answer, ROOM), 3);
     refused("5 spends", submission_book_finalize_attempt(book, LEN, 5, 1, bundle, 1, answer, ROOM), 3);
     refused("no joined bundle", submission_book_finalize_attempt(book, LEN, 5, 1, NULL, 0, answer, ROOM), 3);
-    refused("reorg", submission_book_reconcile_chain_terminality(book, LEN, NULL, 0, NULL, 0, 2, NULL, 0), 3);
+    refused("reorg", submission_book_reconcile_chain_terminality(book, LEN, coins, 2, NULL, 0, 2, many, 64), 3);
+    refused("no book before no coin list", submission_book_reconcile_chain_terminality(book, 7, NULL, 0, NULL, 0, 2, NULL, 0), 1);
+    refused("no coin list before reorg", submission_book_reconcile_chain_terminality(book, LEN, NULL, 0, NULL, 0, 2, NULL, 0), 2);
+    refused("31 bytes before reorg", submission_book_reconcile_chain_terminality(book, LEN, coins, 2, ids_of_coins, 31, 2, NULL, 0), 2);
+    refused("65 ids before reorg", submission_book_reconcile_chain_terminality(book, LEN, coins, 2, NULL, 0, 2, many, 65), 2);
     refused("no coin list", submission_book_reconcile_chain_terminality(book, LEN, NULL, 0, NULL, 0, 1, NULL, 0), 2);
     refused("801 coins", submission_book_reconcile_chain_terminality(book, LEN, long_list, sizeof long_list, NULL, 0, 1, NULL, 0), 2);
     refused("31 bytes", submission_book_reconcile_chain_terminality(book, LEN, coins, 2, ids_of_coins, 31, 1, NULL, 0), 2);

@@ -213,18 +213,6 @@ fn delivery_bytes(entry: &Queued) -> Vec<u8> {
     bytes[19..bytes.len() - 3].to_vec()
 }
 
-/// The archive of a book that holds the case's delivery, or its joined bundle, as its one queue entry.
-pub fn holder(case: &Case) -> Vec<u8> {
-    let entry = if case.call == "finalize_attempt" {
-        [&[0][..], &case.bytes, &[0, 0, 0, 0]].concat()
-    } else {
-        case.bytes.clone()
-    };
-    let mut bytes = archive::write(&Book::open(0, 0));
-    bytes.splice(18..19, [1].into_iter().chain(entry));
-    bytes
-}
-
 fn token_cases(size: Size) -> Vec<Case> {
     let token = live_token(size);
     let finalised = book(size, State::Finalised, true);

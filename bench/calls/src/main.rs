@@ -1,5 +1,5 @@
-//! Every call of the book, timed in one run on the same books: the upstream Rust, the port through its C boundary, and
-//! the port's methods by value. Prints Markdown.
+//! Every call of the book, timed in one run on the same books: the upstream Rust, and the port through its C boundary,
+//! also without the reading and writing of the book. Prints Markdown.
 
 #[path = "../../clock.rs"]
 mod clock;
@@ -31,7 +31,6 @@ mod oracle {
 #[path = "../../../tests/oracle/rust_book/src/sha256.rs"]
 mod sha256;
 
-mod by_value;
 mod inputs;
 mod port;
 mod stack;

@@ -2,7 +2,6 @@
 
 use std::fs;
 
-use crate::by_value::ByValue;
 use crate::case::Case;
 use crate::clock::median;
 use crate::inputs::{cases, new_intents, Size, EMPTY, FULL, TYPICAL};
@@ -35,8 +34,8 @@ fn against(port: f64, rust: Option<f64>) -> String {
 
 fn cells(times: Times) -> String {
     let rust = times.rust.map_or("-".to_string(), figure);
-    let by_value = times.by_value.map_or("-".to_string(), |value| against(value, times.rust));
-    format!(" {rust} | {} | {by_value} |", against(times.boundary, times.rust))
+    let own = times.own.map_or("-".to_string(), |own| against(own, times.rust));
+    format!(" {rust} | {} | {own} |", against(times.boundary, times.rust))
 }
 
 fn processor() -> String {
@@ -51,7 +50,7 @@ fn head() -> String {
         out += "The upstream text or cargo is not at hand, so there is no Rust side in this run.\n\n";
     }
     out += "| call |";
-    SIZES.iter().for_each(|size| out += &format!(" {}: Rust | C | by value |", size.name));
+    SIZES.iter().for_each(|size| out += &format!(" {}: Rust | C | own |", size.name));
     out + &format!("\n|---|{}\n", "---|".repeat(9))
 }
 
@@ -64,18 +63,18 @@ fn row_name(cases: &[Case], row: usize) -> String {
     }
 }
 
-/// The slowest of the calls by token on the full book, by value and through the C boundary.
+/// The slowest of the calls by token on the full book, its own part and whole.
 #[derive(Default)]
 struct Slowest {
-    by_value: (f64, &'static str),
+    own: (f64, &'static str),
     boundary: (f64, &'static str),
 }
 
 impl Slowest {
     fn note(&mut self, call: &'static str, times: Times) {
-        let by_value = times.by_value.unwrap_or(0.0);
-        if call.ends_with("attempt") && by_value > self.by_value.0 {
-            self.by_value = (by_value, call);
+        let own = times.own.unwrap_or(0.0);
+        if call.ends_with("attempt") && own > self.own.0 {
+            self.own = (own, call);
         }
         if call.ends_with("attempt") && times.boundary > self.boundary.0 {
             self.boundary = (times.boundary, call);
@@ -83,12 +82,12 @@ impl Slowest {
     }
 
     fn text(&self) -> String {
-        let ((by_value, method), (boundary, call)) = (self.by_value, self.boundary);
+        let ((own, slow), (boundary, call)) = (self.own, self.boundary);
         format!(
-            "\nGoal: a call by token within {TOKEN_CALL} µs by value. On the full book the slowest, `{method}`, takes {} µs: {}. \
-             Through the C boundary, where the call also reads the whole book and writes it back, the slowest, `{call}`, takes {} µs.\n\n",
-            figure(by_value),
-            verdict(by_value <= TOKEN_CALL),
+            "\nGoal: a call by token within {TOKEN_CALL} µs of its own. On the full book the slowest, `{slow}`, takes {} µs: {}. \
+             With the reading of the whole book and the writing back, the slowest, `{call}`, takes {} µs.\n\n",
+            figure(own),
+            verdict(own <= TOKEN_CALL),
             figure(boundary),
         )
     }
@@ -196,18 +195,18 @@ fn verdict(met: bool) -> &'static str {
 
 pub fn drain() -> String {
     let times = times(&new_intents(16, TYPICAL));
-    let value = times.by_value.expect("a method of call_bench");
+    let own = times.own.expect("a drain reads and writes its book");
     let goal = match times.rust {
         Some(rust) => {
-            let ratio = value / rust;
+            let ratio = own / rust;
             format!(". Measured: {} times: {}", figure(ratio), verdict(ratio <= DRAIN_RATIO))
         }
         None => ", which is not at hand".to_string(),
     };
     format!(
         "## A drain of 16 new intents of two spends and two outputs each, in µs\n\n\
-         | Rust | C | by value |\n|---|---|---|\n|{}\n\n\
-         Goal: by value within {DRAIN_RATIO} times the Rust{goal}.\n\n",
+         | Rust | C | own |\n|---|---|---|\n|{}\n\n\
+         Goal: its own part within {DRAIN_RATIO} times the Rust{goal}.\n\n",
         cells(times)
     )
 }
@@ -229,35 +228,22 @@ fn refused_stack(case: &Case) -> usize {
     boundary_stack(&cut)
 }
 
-fn by_value_stack(case: &Case) -> Option<usize> {
-    ByValue::of(case)?;
-    Some(stack::on_thread(|| {
-        let mut calls = ByValue::of(case).expect("a method");
-        stack::used(&mut || assert!(calls.run(1) > 0))
-    }))
-}
-
 /// The table, and the largest of it.
 pub fn stack() -> (String, usize) {
     let mut table = "## Stack, in bytes, on the full book\n\n\
         A thread's stack is painted before the call and looked at after it. *C, refused*: the book's archive is cut short \
-        by a byte. *by value*: with `call_bench`'s function around the method, which reads, holds and writes the book.\n\n\
-        | call | C | C, refused | by value |\n|---|---|---|---|\n"
+        by a byte.\n\n\
+        | call | C | C, refused |\n|---|---|---|\n"
         .to_string();
     let full = cases(FULL);
     let mut largest = (0, String::new());
     for (row, case) in full.iter().enumerate() {
         let name = row_name(&full, row);
-        let ways = [
-            ("C", Some(boundary_stack(case))),
-            ("C, refused", Some(refused_stack(case))),
-            ("by value", by_value_stack(case)),
-        ];
         table += &format!("| {name} |");
-        for (way, bytes) in ways {
-            table += &format!(" {} |", bytes.map_or("-".to_string(), |bytes| bytes.to_string()));
-            if bytes.is_some_and(|bytes| bytes > largest.0) {
-                largest = (bytes.unwrap_or(0), format!("`{name}`, {way}"));
+        for (way, bytes) in [("C", boundary_stack(case)), ("C, refused", refused_stack(case))] {
+            table += &format!(" {bytes} |");
+            if bytes > largest.0 {
+                largest = (bytes, format!("`{name}`, {way}"));
             }
         }
         table += "\n";

@@ -2,7 +2,6 @@
 
 use std::hint::black_box;
 
-use crate::by_value::ByValue;
 use crate::case::Case;
 use crate::clock::{median, now};
 use crate::plain;
@@ -12,12 +11,13 @@ pub const ROUNDS: usize = 21;
 /// Books that a call meets in one round; together they fit a processor's cache.
 const BOOKS: usize = 32;
 
-/// Microseconds; `rust` is none without the upstream text, `by_value` where `call_bench` has no such method.
+/// Microseconds; `rust` is none without the upstream text. `own` is the call less one that reads the same book and
+/// writes it back unchanged; none for calls that do not do both.
 #[derive(Clone, Copy)]
 pub struct Times {
     pub rust: Option<f64>,
     pub boundary: f64,
-    pub by_value: Option<f64>,
+    pub own: Option<f64>,
 }
 
 /// What reading the clock twice takes of the time between.
@@ -71,7 +71,7 @@ fn rust_seconds(case: &Case, copies: usize) -> Option<f64> {
     }
 }
 
-/// Both ways of calling the port must leave the book that the Rust leaves.
+/// The port must leave the book that the Rust leaves.
 fn check(case: &Case) {
     let mut book = lent(&case.book);
     assert_eq!(port::call(case)(&mut book), 0, "{} is refused", case.call);
@@ -80,19 +80,6 @@ fn check(case: &Case) {
         let left = rust_book::timing::left(case);
         assert!(archive(&book) == left, "{}: the Rust leaves another book", case.call);
     }
-    if let Some(mut by_value) = ByValue::of(case) {
-        let length = by_value.run(1);
-        assert!(by_value.out[..length] == *archive(&book), "{}: by value another book is left", case.call);
-    }
-}
-
-/// Seconds of so many calls by value: these and one more, less the one more with the reading and writing around it.
-fn by_value_seconds(by_value: &mut ByValue, times: u64) -> f64 {
-    let start = now();
-    black_box(by_value.run(times));
-    let middle = now();
-    black_box(by_value.run(0));
-    (middle - start) - (now() - middle)
 }
 
 /// The Rust's books are many where they are small, so that the clock is coarse against no call.
@@ -100,20 +87,28 @@ fn copies(case: &Case) -> usize {
     (BOOKS * port::BOOK_BYTES / (case.book.len() + 1000)).clamp(BOOKS, 256)
 }
 
+/// Calls that make a book, or do not write it back.
+fn has_own(call: &str) -> bool {
+    !matches!(call, "open" | "read" | "write" | "reconciliation_input_coins" | "absent_outputs_for_ids")
+}
+
 pub fn times(case: &Case) -> Times {
     check(case);
     let clock = clock_seconds();
     let copies = copies(case);
     let mut call = port::call(case);
+    let mut idle = port::idle();
     let filled = lent(&case.book);
     let mut books = vec![filled.clone(); BOOKS];
-    let mut by_value = ByValue::of(case);
-    let (mut rust, mut boundary, mut value) = (Vec::new(), Vec::new(), Vec::new());
+    let (mut rust, mut boundary, mut own) = (Vec::new(), Vec::new(), Vec::new());
     for _ in 0..ROUNDS {
         rust.extend(rust_seconds(case, copies).map(|seconds| (seconds - clock) / copies as f64));
-        boundary.push((boundary_seconds(&mut call, &filled, &mut books) - clock) / BOOKS as f64);
-        value.extend(by_value.iter_mut().map(|calls| by_value_seconds(calls, BOOKS as u64) / BOOKS as f64));
+        let seconds = boundary_seconds(&mut call, &filled, &mut books);
+        boundary.push((seconds - clock) / BOOKS as f64);
+        if has_own(case.call) {
+            own.push((seconds - boundary_seconds(&mut idle, &filled, &mut books)) / BOOKS as f64);
+        }
     }
     let micros = |seconds: Vec<f64>| (!seconds.is_empty()).then(|| median(seconds).max(0.0) * 1e6);
-    Times { rust: micros(rust), boundary: micros(boundary).expect("rounds"), by_value: micros(value) }
+    Times { rust: micros(rust), boundary: micros(boundary).expect("rounds"), own: micros(own) }
 }

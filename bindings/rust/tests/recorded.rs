@@ -28,6 +28,11 @@ fn no_value<T>(number: u8) -> Answered<T> {
     Err(vec![number])
 }
 
+/// A value beside ids: over 64 of them are refused 2, before the 3 of the value.
+fn beside<T>(ids: &[SubmissionId], value: Answered<T>) -> Answered<T> {
+    value.map_err(|refused| if ids.len() > 64 { vec![2] } else { refused })
+}
+
 fn is_zero(bytes: &[u8]) -> bool {
     bytes.iter().all(|byte| *byte == 0)
 }
@@ -334,7 +339,7 @@ impl Player {
             },
             0x02 => {
                 let (ids, byte) = (script.ids()?, script.byte()?);
-                trigger(byte).and_then(|trigger| {
+                beside(&ids, trigger(byte)).and_then(|trigger| {
                     let queued = self.book.queue_rebroadcast_epoch(&ids, trigger);
                     queued.map(nothing).map_err(refusal)
                 })
@@ -385,7 +390,11 @@ impl Player {
             }));
         }
         let (byte, ids) = (script.byte()?, script.ids()?);
-        let given = flag(byte).and_then(|reorg| Ok((coins(first)?, coin_ids(second)?, reorg)));
+        let lists = coins(first).and_then(|observed| Ok((observed, coin_ids(second)?)));
+        let given = lists.and_then(|(observed, spent)| {
+            let reorg = beside(&ids, flag(byte))?;
+            Ok((observed, spent, reorg))
+        });
         Some(given.and_then(|(observed, spent, reorg)| {
             let done = self.book.reconcile_chain_terminality(&observed, &spent, reorg, &ids);
             done.map(nothing).map_err(refusal)

@@ -1,4 +1,5 @@
 // Calls that answer nothing.
+use answers::value::refusal_number;
 use book_data::Height;
 use book_data::SubmissionId;
 use driver_frame::Step;
@@ -30,6 +31,16 @@ fn queue(s: &[u8], at: usize, b: SubmissionBook) -> Step {
     finish_done(r, d.at)
 }
 
+// An argument beside the lists stands for no value: 3, but the call's own 2 for its lists comes first.
+fn unfit(r: DoneAnswer) -> u8 {
+    let answer = r.answer;
+    let n = refusal_number(answer);
+    if n == 2 {
+        return 2;
+    }
+    3
+}
+
 // 02
 fn queue_rebroadcast_epoch(s: &[u8], at: usize, b: SubmissionBook) -> Step {
     let i = read_ids(s, at);
@@ -39,13 +50,13 @@ fn queue_rebroadcast_epoch(s: &[u8], at: usize, b: SubmissionBook) -> Step {
     if !ok {
         return broken(b);
     }
-    if !fit {
-        return finish_with(3, b, t.at);
-    }
     let ids = i.items;
     let n = i.count;
     let trigger = t.value;
     let r = b.queue_rebroadcast_epoch(&ids[0..n], trigger);
+    if !fit {
+        return finish_with(unfit(r), b, t.at);
+    }
     finish_done(r, t.at)
 }
 
@@ -97,9 +108,6 @@ fn reconcile_chain_terminality(s: &[u8], at: usize, b: SubmissionBook) -> Step {
     if !ok {
         return broken(b);
     }
-    if !fit {
-        return finish_with(3, b, i.at);
-    }
     let observed = o.from;
     let observed_end = o.at;
     let spent = p.from;
@@ -112,6 +120,9 @@ fn reconcile_chain_terminality(s: &[u8], at: usize, b: SubmissionBook) -> Step {
         f.value,
         &ids[0..n],
     );
+    if !fit {
+        return finish_with(unfit(r), b, i.at);
+    }
     finish_done(r, i.at)
 }
 

@@ -75,14 +75,16 @@ fn refused(rows: &mut Rows, call: &Call, before: &Book, number: u8, after: &Book
 
 /// A refusal at the door where a later one would be due as well.
 fn precedence_rows(rows: &mut Rows, call: &Call, before: &Book, number: u8) {
-    let many = match call {
-        Call::QueueRebroadcastEpoch { ids, .. } => ids.len() > MOST_IDS,
-        Call::ReconcileChainTerminality { ids, .. } => ids.len() > MOST_IDS,
-        _ => false,
-    };
-    rows.add_if(number == 3 && many, "3: before a 2");
     rows.add_if(number == 2 && call.buffer() == Some(0), "2: before a 12");
     match call {
+        Call::QueueRebroadcastEpoch { ids, trigger } if number == 2 && *trigger > 3 => {
+            rows.add_if(ids.len() > MOST_IDS, "2: ids before a 3");
+        }
+        Call::ReconcileChainTerminality { observed, spent, reorg, ids } if number == 2 && *reorg > 1 => {
+            rows.add_if(door::coin_list(observed).is_err(), "2: coin list before a 3");
+            rows.add_if(door::coin_ids(spent).is_err(), "2: coin ids before a 3");
+            rows.add_if(ids.len() > MOST_IDS, "2: ids before a 3");
+        }
         Call::FinalizeAttempt { token, .. } => {
             let unknown = before.with_live(*token).is_none() && *token >= before.next_token;
             rows.add_if(unknown, "3: before a 4");

@@ -250,7 +250,7 @@ fn candidate(seed: u64, number: u64) -> Candidate {
 }
 
 /// Refusals of arguments that the types of the rules do not hold.
-const UNTYPED: [&str; 9] = [
+const UNTYPED: [&str; 11] = [
     "3: absent number not zero",
     "3: fee kind",
     "3: goal",
@@ -259,7 +259,9 @@ const UNTYPED: [&str; 9] = [
     "3: trigger",
     "3: source",
     "3: flag",
-    "3: before a 2",
+    "2: ids before a 3",
+    "2: coin list before a 3",
+    "2: coin ids before a 3",
 ];
 
 /// Reading an archive and the test of soundness are no calls of a list.

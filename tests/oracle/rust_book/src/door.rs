@@ -167,7 +167,7 @@ pub enum Entered {
     NothingToCheck,
 }
 
-/// The door of each call. A 3 for a trigger or flag comes before a 2.
+/// The door of each call. A 2 for a list comes before the 3 of a trigger or flag beside it.
 pub fn enter(call: &Call) -> Result<Entered, Turned> {
     Ok(match call {
         Call::Queue { id, bundle: cells, expiry, fee_intent: fee_cells, trigger, goal } => {
@@ -181,8 +181,8 @@ pub fn enter(call: &Call) -> Result<Entered, Turned> {
             })
         }
         Call::QueueRebroadcastEpoch { ids: list, trigger } => {
-            let trigger = kind(*trigger, 3, "trigger")?;
             let ids = ids(list)?.to_vec();
+            let trigger = kind(*trigger, 3, "trigger")?;
             Entered::Rebroadcast { ids, trigger }
         }
         Call::QueueRetainedDelivery { trigger, goal, .. } => Entered::Delivery {
@@ -197,13 +197,11 @@ pub fn enter(call: &Call) -> Result<Entered, Turned> {
         }
         Call::ReconciliationInputCoins { landed, .. } => Entered::Coins(coin_list(landed)?),
         Call::ReconcileChainTerminality { observed, spent, reorg, ids: list } => {
+            let observed = coin_list(observed)?;
+            let spent = coin_ids(spent)?;
+            let ids = ids(list)?.to_vec();
             let reorg = kind(*reorg, 1, "flag")? == 1;
-            Entered::Report {
-                observed: coin_list(observed)?,
-                spent: coin_ids(spent)?,
-                reorg,
-                ids: ids(list)?.to_vec(),
-            }
+            Entered::Report { observed, spent, reorg, ids }
         }
         Call::CausallyRolledBackIds { absent, live_inputs } => {
             Entered::CoinsAndInputs { coins: coin_list(absent)?, inputs: coin_ids(live_inputs)? }

@@ -386,9 +386,9 @@ pub const MUTANTS: &[Mutant] = &[
     Mutant {
         number: 53,
         file: "rust_book/src/door.rs",
-        find: "            let trigger = kind(*trigger, 3, \"trigger\")?;\n            let ids = ids(list)?.to_vec();",
-        put: "            let ids = ids(list)?.to_vec();\n            let trigger = kind(*trigger, 3, \"trigger\")?;",
-        note: "2 before the 3 of a trigger",
+        find: "            let ids = ids(list)?.to_vec();\n            let trigger = kind(*trigger, 3, \"trigger\")?;",
+        put: "            let trigger = kind(*trigger, 3, \"trigger\")?;\n            let ids = ids(list)?.to_vec();",
+        note: "the 3 of a trigger before a 2",
     },
     Mutant {
         number: 54,

@@ -210,7 +210,11 @@ pub fn damage(rng: &mut Rng, call: &mut Call) {
             3 => *ids = too_many_ids(rng),
             _ => {
                 *reorg = out_of_range(rng, 1);
-                *ids = too_many_ids(rng);
+                match rng.below(3) {
+                    0 => *observed = damaged_list(rng, observed),
+                    1 => damaged_coin_ids(rng, spent),
+                    _ => *ids = too_many_ids(rng),
+                }
             }
         },
         Call::CausallyRolledBackIds { absent, live_inputs } => {
