@@ -505,3 +505,12 @@ fn books_go_to_other_threads() {
     });
     assert_eq!(book, drained_book(NO_FEE));
 }
+
+#[test]
+fn tokens_ids_and_heights_are_numbers() {
+    let numbers: (Token, SubmissionId, Height) = (5.into(), 6.into(), u64::MAX.into());
+    assert_eq!(numbers, (Token(5), SubmissionId(6), Height(u64::MAX)));
+    assert_eq!(u64::from(numbers.0), 5);
+    assert_eq!(u64::from(numbers.1), 6);
+    assert_eq!(u64::from(numbers.2), u64::MAX);
+}
