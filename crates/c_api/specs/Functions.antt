@@ -40,7 +40,7 @@ use Rattle.boundary.specs.Forms.{noForm, statusForm, flagForm, heightForm, idsF
 use Rattle.boundary.specs.Arguments.{given, listed, byteAs, bytesAs, flagIn}
 use Rattle.c_api.specs.Laws.{sourceIn, joinedIn}
 use Rattle.c_api.specs.Quiet.{GivesBytes, bytesForm, lengthOf}
-use Rattle.c_api.specs.Whole.{GivesLength, writeFrom, GivesPlace, readInto}
+use Rattle.boundary_whole.specs.Whole.{GivesLength, writeFrom, GivesPlace, readInto}
 
 -- a call of the library, `submission_book_…`. Runs of bytes and of ids are lists of numbers; `answer` and `archive` are the bytes lent for
 -- the answer, and the number behind them is the one lent for its length. The book is lent besides

@@ -1,5 +1,4 @@
 pub mod Laws
-pub mod Whole
 pub mod Quiet
 pub mod Functions
-pub mod Lists
+pub mod Arguments

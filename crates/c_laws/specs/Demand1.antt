@@ -27,7 +27,7 @@ use Rattle.answer_laws.specs.Turned.{TurnedAway, turned-away}
 use Rattle.boundary_laws.specs.Fits.{formOf}
 use Rattle.boundary_laws.specs.Lent.{held-holds, Wrote, wrote, short, written-as}
 use Rattle.c_api.specs.Quiet.{lengthBy}
-use Rattle.c_api.specs.Whole.{readInto, GivesPlace}
+use Rattle.boundary_whole.specs.Whole.{readInto, GivesPlace}
 use Rattle.c_api.specs.Functions.{CCall, Returned, back, counted, OpenDid, ReadDid, Did}
 use Rattle.c_laws.specs.Functions.{Lent, lent, Asked, asks, badList, badValue, callOf}
 use Rattle.c_laws.specs.Told.{told, toldOn, toldIn, Held, no-book, one-book, did-told}

@@ -36,7 +36,7 @@ use Rattle.boundary_laws.specs.Fits.{formOf}
 use Rattle.boundary_laws.specs.Lent.{Holds, Wrote, wrote, short, written-as}
 use Rattle.c_api.specs.Laws.{sourceIn, joinedIn}
 use Rattle.c_api.specs.Quiet.{GivesBytes, bytesForm, lengthBy, lengthOf, Quiet, told as quietTold, turned, reconciliation-quiet, absent-quiet}
-use Rattle.c_api.specs.Whole.{Counted, GivesLength, writeFrom}
+use Rattle.boundary_whole.specs.Whole.{Counted, GivesLength, writeFrom}
 use Rattle.c_api.specs.Functions.{
   CCall,
   Returned,

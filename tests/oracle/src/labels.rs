@@ -80,7 +80,9 @@ fn precedence_rows(rows: &mut Rows, call: &Call, before: &Book, number: u8) {
         Call::QueueRebroadcastEpoch { ids, trigger } if number == 2 && *trigger > 3 => {
             rows.add_if(ids.len() > MOST_IDS, "2: ids before a 3");
         }
-        Call::ReconcileChainTerminality { observed, spent, reorg, ids } if number == 2 && *reorg > 1 => {
+        Call::ReconcileChainTerminality { observed, spent, reorg, ids }
+            if number == 2 && *reorg > 1 =>
+        {
             rows.add_if(door::coin_list(observed).is_err(), "2: coin list before a 3");
             rows.add_if(door::coin_ids(spent).is_err(), "2: coin ids before a 3");
             rows.add_if(ids.len() > MOST_IDS, "2: ids before a 3");

@@ -1,7 +1,6 @@
 use Rattle.c_api.specs.Functions.{fee-intent-did}
 use borrow.Author.Tests.{not-true, not-false}
-use Rattle.rules.specs.Calls.FeeIntentForAttempt.{feeIntentForAttempt}
-use Rattle.boundary.specs.Forms.{gives-absent, fee-intent-given, feeIntentForm}
+use Rattle.boundary.specs.Forms.{gives-absent, fee-intent-given}
 use borrow.Author.Needs.{needs}
 use Rattle.c_api.proofs.attempts.submission_book_fee_intent_for_attempt.Statement.{
   statement,
@@ -15,7 +14,7 @@ same-length : tie.Need-same-length
 same-length c = search needs
 
 returns : tie.Need-returns
-returns c = fee-intent-did _ (gives-absent feeIntentForm (feeIntentForAttempt (c .before .before .before .before .before .args .token)) (c .before .before .before .before .before .args .book .now) (c .before .before .before .before .before .args .answer .now) (c .before .held .ensures .absent (not-true _ (c .if1 .taken))))
+returns c = fee-intent-did _ (gives-absent _ _ _ _ (c .before .held .ensures .absent (not-true _ (c .if1 .taken))))
 
 fee-intent-for-attempt-sound-requires : tie.Need-fee-intent-for-attempt-sound-requires
 fee-intent-for-attempt-sound-requires c κs = c .before .held .ensures .present (not-false _ (c .if1 .left)) .sound
@@ -30,7 +29,9 @@ same-length-3 : tie.Need-same-length-3
 same-length-3 c = search needs
 
 returns-2 : tie.Need-returns-2
-returns-2 c = fee-intent-did _ (fee-intent-given (c .before .before .before .before .before .before .before .before .before .before .before .before .before .args .book .now) (c .before .before .before .before .before .before .before .before .before .before .before .before .before .args .answer .now) (c .before .before .before .before .before .before .before .before .before .held .result .book) (c .before .before .before .before .before .before .before .before .before .held .ensures .present (not-false _ (c .before .before .before .before .before .before .before .before .if1 .left))) (feeIntentForAttempt (c .before .before .before .before .before .before .before .before .before .before .before .before .before .args .token)) (c .before .before .before .before .before .before .before .fee-intent-for-attempt-sound .result) (c .before .before .before .before .before .before .before .fee-intent-for-attempt-sound .ensures) (c .before .before .before .before .settle-fee-intent .ensures))
+returns-2 c = fee-intent-did _ (fee-intent-given _ _ _
+    (c .before .before .before .before .before .before .before .before .before .held .ensures .present (not-false _ (c .before .before .before .before .before .before .before .before .if1 .left))) _ _
+    (c .before .before .before .before .before .before .before .fee-intent-for-attempt-sound .ensures) (c .before .before .before .before .settle-fee-intent .ensures))
 
 pub submission-book-fee-intent-for-attempt-spec : {M : Type 1} → statement M
 submission-book-fee-intent-for-attempt-spec =

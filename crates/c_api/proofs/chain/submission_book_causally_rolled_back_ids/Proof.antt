@@ -1,7 +1,6 @@
 use Rattle.c_api.specs.Functions.{rolled-back-did}
 use borrow.Author.Tests.{not-true, not-false}
-use Rattle.rules.specs.Calls.CausallyRolledBackIds.{causallyRolledBackIds}
-use Rattle.boundary.specs.Forms.{gives-absent, ids-given, idsForm}
+use Rattle.boundary.specs.Forms.{gives-absent, ids-given}
 use borrow.Author.Needs.{needs}
 use Rattle.c_api.proofs.chain.submission_book_causally_rolled_back_ids.Statement.{
   statement,
@@ -15,7 +14,7 @@ same-length : tie.Need-same-length
 same-length c = search needs
 
 returns : tie.Need-returns
-returns c = rolled-back-did _ _ (gives-absent idsForm (causallyRolledBackIds (c .before .before .before .before .before .before .before .args .absent .now) (c .before .before .before .before .before .before .before .args .inputs .now)) (c .before .before .before .before .before .before .before .args .book .now) (c .before .before .before .before .before .before .before .args .answer .now) (c .before .held .ensures .absent (not-true _ (c .if1 .taken))))
+returns c = rolled-back-did _ _ (gives-absent _ _ _ _ (c .before .held .ensures .absent (not-true _ (c .if1 .taken))))
 
 causally-rolled-back-ids-sound-requires : tie.Need-causally-rolled-back-ids-sound-requires
 causally-rolled-back-ids-sound-requires c κs = c .before .held .ensures .present (not-false _ (c .if1 .left)) .sound
@@ -30,7 +29,9 @@ same-length-3 : tie.Need-same-length-3
 same-length-3 c = search needs
 
 returns-2 : tie.Need-returns-2
-returns-2 c = rolled-back-did _ _ (ids-given (c .before .before .before .before .before .before .before .before .before .before .before .before .before .before .before .args .book .now) (c .before .before .before .before .before .before .before .before .before .before .before .before .before .before .before .args .answer .now) (c .before .before .before .before .before .before .before .before .before .held .result .book) (c .before .before .before .before .before .before .before .before .before .held .ensures .present (not-false _ (c .before .before .before .before .before .before .before .before .if1 .left))) (causallyRolledBackIds (c .before .before .before .before .before .before .before .before .before .before .before .before .before .before .before .args .absent .now) (c .before .before .before .before .before .before .before .before .before .before .before .before .before .before .before .args .inputs .now)) (c .before .before .before .before .before .before .before .causally-rolled-back-ids-sound .result) (c .before .before .before .before .before .before .before .causally-rolled-back-ids-sound .ensures) (c .before .before .before .before .settle-ids .ensures))
+returns-2 c = rolled-back-did _ _ (ids-given _ _ _
+    (c .before .before .before .before .before .before .before .before .before .held .ensures .present (not-false _ (c .before .before .before .before .before .before .before .before .if1 .left))) _ _
+    (c .before .before .before .before .before .before .before .causally-rolled-back-ids-sound .ensures) (c .before .before .before .before .settle-ids .ensures))
 
 pub submission-book-causally-rolled-back-ids-spec : {M : Type 1} → statement M
 submission-book-causally-rolled-back-ids-spec =

@@ -1,5 +1,5 @@
 use borrow.Author.Tests.{not-true, not-false}
-use Rattle.c_api.specs.Lists.{lists-are, report-absent, report-unlisted, report-bad, report-done}
+use Rattle.c_api.specs.Arguments.{lists-are, report-absent, report-unlisted, report-bad, report-done}
 use borrow.Author.Needs.{needs}
 use Rattle.c_api.proofs.chain.submission_book_reconcile_chain_terminality.Statement.{
   statement,

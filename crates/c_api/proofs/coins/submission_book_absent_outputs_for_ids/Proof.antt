@@ -1,8 +1,6 @@
 use Rattle.c_api.specs.Functions.{absent-outputs-did}
 use borrow.Author.Tests.{not-true, not-false}
 use lib.ListN.{length}
-use Rattle.book_data.specs.Model.{view}
-use Rattle.rules.specs.Calls.AbsentOutputsForIds.{absentOutputsForIds}
 use Rattle.c_api.specs.Quiet.{bytes-absent, bytes-done, bytes-refused, absent-quiet}
 use borrow.Author.Needs.{needs}
 use Rattle.c_api.proofs.coins.submission_book_absent_outputs_for_ids.Statement.{statement}
@@ -12,7 +10,7 @@ held-requires : tie.Need-held-requires
 held-requires c κs = search needs
 
 returns : tie.Need-returns
-returns c = absent-outputs-did _ _ _ _ (bytes-absent (c .before .before .before .before .before .before .args .book .now) (c .before .before .before .before .before .before .args .answer .now) (c .before .before .before .before .before .before .args .count .now) (absentOutputsForIds (c .before .before .before .before .before .before .args .ids .now) (c .before .before .before .before .before .before .args .absent .now) (length (c .before .before .before .before .before .before .args .answer .now))) (c .before .held .ensures .absent (not-true _ (c .if1 .taken))))
+returns c = absent-outputs-did _ _ _ _ (bytes-absent _ _ _ _ (c .before .held .ensures .absent (not-true _ (c .if1 .taken))))
 
 absent-outputs-for-ids-sound-requires : tie.Need-absent-outputs-for-ids-sound-requires
 absent-outputs-for-ids-sound-requires c κs = (c .before .before .held .ensures .present (not-false _ (c .before .if1 .left))) .sound
@@ -27,13 +25,21 @@ same-length : tie.Need-same-length
 same-length c = search needs
 
 returns-2 : tie.Need-returns-2
-returns-2 c = absent-outputs-did _ _ _ _ (bytes-done (c .before .before .before .before .before .before .before .before .before .before .before .before .args .book .now) (c .before .before .before .before .before .before .before .before .before .before .before .before .args .answer .now) (c .before .before .before .before .before .before .before .held .result .book) (c .before .before .before .before .before .before .before .held .ensures .present (not-false _ (c .before .before .before .before .before .before .if1 .left))) (c .before .before .before .before .before .before .before .before .before .before .before .before .args .count .now) (c .before .before .before .before .absent-outputs-for-ids-sound .result) (absentOutputsForIds (c .before .before .before .before .before .before .before .before .before .before .before .before .args .ids .now) (c .before .before .before .before .before .before .before .before .before .before .before .before .args .absent .now) (length (c .before .before .before .before .before .before .before .before .before .before .before .before .args .answer .now))) (absent-quiet (c .before .before .before .before .before .before .before .before .before .before .before .before .args .ids .now) (c .before .before .before .before .before .before .before .before .before .before .before .before .args .absent .now) (length (c .before .before .before .before .before .before .before .before .before .before .before .before .args .answer .now)) (view (c .before .before .before .before .before .before .before .held .result .book))) (c .before .before .before .before .absent-outputs-for-ids-sound .ensures .0) (c .before .before .before .before .absent-outputs-for-ids-sound .ensures .1) (c .enum-told .given .1))
+returns-2 c =
+    let s = c .before .before .before .before .before .before .before .before .before .before .before .before .args in
+    let h = c .before .before .before .before .before .before .before .held .ensures .present (not-false _ (c .before .before .before .before .before .before .if1 .left)) in
+    let r = c .before .before .before .before .absent-outputs-for-ids-sound .ensures in
+    absent-outputs-did _ _ _ _ (bytes-done _ _ _ h _ _ _ (absent-quiet (s .ids .now) (s .absent .now) (length (s .answer .now)) _) (r .0) (r .1) (c .enum-told .given .1))
 
 same-length-2 : tie.Need-same-length-2
 same-length-2 c = search needs
 
 returns-3 : tie.Need-returns-3
-returns-3 c = absent-outputs-did _ _ _ _ (bytes-refused (c .before .before .before .before .before .before .before .before .before .before .before .before .before .args .book .now) (c .before .before .before .before .before .before .before .before .before .before .before .before .before .args .answer .now) (c .before .before .before .before .before .before .before .before .held .result .book) (c .before .before .before .before .before .before .before .before .held .ensures .present (not-false _ (c .before .before .before .before .before .before .before .if1 .left))) (c .before .before .before .before .before .before .before .before .before .before .before .before .before .args .count .now) (c .before .before .before .before .before .absent-outputs-for-ids-sound .result) (absentOutputsForIds (c .before .before .before .before .before .before .before .before .before .before .before .before .before .args .ids .now) (c .before .before .before .before .before .before .before .before .before .before .before .before .before .args .absent .now) (length (c .before .before .before .before .before .before .before .before .before .before .before .before .before .args .answer .now))) (absent-quiet (c .before .before .before .before .before .before .before .before .before .before .before .before .before .args .ids .now) (c .before .before .before .before .before .before .before .before .before .before .before .before .before .args .absent .now) (length (c .before .before .before .before .before .before .before .before .before .before .before .before .before .args .answer .now)) (view (c .before .before .before .before .before .before .before .before .held .result .book))) (c .before .before .before .before .before .absent-outputs-for-ids-sound .ensures .0) (c .before .before .before .before .before .absent-outputs-for-ids-sound .ensures .1) _ (c .before .said .given .1))
+returns-3 c =
+    let s = c .before .before .before .before .before .before .before .before .before .before .before .before .before .args in
+    let h = c .before .before .before .before .before .before .before .before .held .ensures .present (not-false _ (c .before .before .before .before .before .before .before .if1 .left)) in
+    let r = c .before .before .before .before .before .absent-outputs-for-ids-sound .ensures in
+    absent-outputs-did _ _ _ _ (bytes-refused _ _ _ h _ _ _ (absent-quiet (s .ids .now) (s .absent .now) (length (s .answer .now)) _) (r .0) (r .1) _ (c .before .said .given .1))
 
 pub submission-book-absent-outputs-for-ids-spec : {M : Type 1} → statement M
 submission-book-absent-outputs-for-ids-spec =

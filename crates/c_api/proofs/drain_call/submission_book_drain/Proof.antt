@@ -1,7 +1,6 @@
 use Rattle.c_api.specs.Functions.{drain-did}
 use borrow.Author.Tests.{not-true, not-false}
-use Rattle.rules.specs.Calls.Drain.{drain}
-use Rattle.boundary.specs.Forms.{gives-absent, drain-given, drainForm}
+use Rattle.boundary.specs.Forms.{gives-absent, drain-given}
 use borrow.Author.Needs.{needs}
 use Rattle.c_api.proofs.drain_call.submission_book_drain.Statement.{statement}
 use Rattle.c_api.proofs.drain_call.submission_book_drain.Tie as tie
@@ -13,7 +12,7 @@ same-length : tie.Need-same-length
 same-length c = search needs
 
 returns : tie.Need-returns
-returns c = drain-did (gives-absent drainForm drain (c .before .before .before .before .before .args .book .now) (c .before .before .before .before .before .args .answer .now) (c .before .held .ensures .absent (not-true _ (c .if1 .taken))))
+returns c = drain-did (gives-absent _ _ _ _ (c .before .held .ensures .absent (not-true _ (c .if1 .taken))))
 
 drain-sound-requires : tie.Need-drain-sound-requires
 drain-sound-requires c κs = c .before .held .ensures .present (not-false _ (c .if1 .left)) .sound
@@ -28,7 +27,9 @@ same-length-3 : tie.Need-same-length-3
 same-length-3 c = search needs
 
 returns-2 : tie.Need-returns-2
-returns-2 c = drain-did (drain-given (c .before .before .before .before .before .before .before .before .before .before .before .before .before .args .book .now) (c .before .before .before .before .before .before .before .before .before .before .before .before .before .args .answer .now) (c .before .before .before .before .before .before .before .before .before .held .result .book) (c .before .before .before .before .before .before .before .before .before .held .ensures .present (not-false _ (c .before .before .before .before .before .before .before .before .if1 .left))) drain (c .before .before .before .before .before .before .before .drain-sound .result) (c .before .before .before .before .before .before .before .drain-sound .ensures) (c .before .before .before .before .settle-drain .ensures))
+returns-2 c = drain-did (drain-given _ _ _
+    (c .before .before .before .before .before .before .before .before .before .held .ensures .present (not-false _ (c .before .before .before .before .before .before .before .before .if1 .left))) _ _
+    (c .before .before .before .before .before .before .before .drain-sound .ensures) (c .before .before .before .before .settle-drain .ensures))
 
 pub submission-book-drain-spec : {M : Type 1} → statement M
 submission-book-drain-spec =

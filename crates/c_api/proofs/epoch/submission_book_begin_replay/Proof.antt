@@ -1,7 +1,6 @@
 use Rattle.c_api.specs.Functions.{begin-did}
 use borrow.Author.Tests.{not-true, not-false}
-use Rattle.rules.specs.Calls.Replay.{beginReplay}
-use Rattle.boundary.specs.Forms.{gives-absent, flag-given, flagForm}
+use Rattle.boundary.specs.Forms.{gives-absent, flag-given}
 use borrow.Author.Needs.{needs}
 use Rattle.c_api.proofs.epoch.submission_book_begin_replay.Statement.{statement}
 use Rattle.c_api.proofs.epoch.submission_book_begin_replay.Tie as tie
@@ -13,7 +12,7 @@ same-length : tie.Need-same-length
 same-length c = search needs
 
 returns : tie.Need-returns
-returns c = begin-did _ (gives-absent flagForm (beginReplay (record { 0 = c .before .before .before .before .before .args .height })) (c .before .before .before .before .before .args .book .now) (c .before .before .before .before .before .args .answer .now) (c .before .held .ensures .absent (not-true _ (c .if1 .taken))))
+returns c = begin-did _ (gives-absent _ _ _ _ (c .before .held .ensures .absent (not-true _ (c .if1 .taken))))
 
 begin-replay-sound-requires : tie.Need-begin-replay-sound-requires
 begin-replay-sound-requires c κs = c .before .held .ensures .present (not-false _ (c .if1 .left)) .sound
@@ -28,7 +27,9 @@ same-length-3 : tie.Need-same-length-3
 same-length-3 c = search needs
 
 returns-2 : tie.Need-returns-2
-returns-2 c = begin-did _ (flag-given (c .before .before .before .before .before .before .before .before .before .before .before .before .before .args .book .now) (c .before .before .before .before .before .before .before .before .before .before .before .before .before .args .answer .now) (c .before .before .before .before .before .before .before .before .before .held .result .book) (c .before .before .before .before .before .before .before .before .before .held .ensures .present (not-false _ (c .before .before .before .before .before .before .before .before .if1 .left))) (beginReplay (record { 0 = c .before .before .before .before .before .before .before .before .before .before .before .before .before .args .height })) (c .before .before .before .before .before .before .before .begin-replay-sound .result) (c .before .before .before .before .before .before .before .begin-replay-sound .ensures) (c .before .before .before .before .settle-flag .ensures))
+returns-2 c = begin-did _ (flag-given _ _ _
+    (c .before .before .before .before .before .before .before .before .before .held .ensures .present (not-false _ (c .before .before .before .before .before .before .before .before .if1 .left))) _ _
+    (c .before .before .before .before .before .before .before .begin-replay-sound .ensures) (c .before .before .before .before .settle-flag .ensures))
 
 pub submission-book-begin-replay-spec : {M : Type 1} → statement M
 submission-book-begin-replay-spec =

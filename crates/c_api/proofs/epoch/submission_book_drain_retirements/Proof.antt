@@ -1,7 +1,6 @@
 use Rattle.c_api.specs.Functions.{retirements-did}
 use borrow.Author.Tests.{not-true, not-false}
-use Rattle.rules.specs.Calls.DrainRetirements.{drainRetirements}
-use Rattle.boundary.specs.Forms.{gives-absent, ids-given, idsForm}
+use Rattle.boundary.specs.Forms.{gives-absent, ids-given}
 use borrow.Author.Needs.{needs}
 use Rattle.c_api.proofs.epoch.submission_book_drain_retirements.Statement.{statement}
 use Rattle.c_api.proofs.epoch.submission_book_drain_retirements.Tie as tie
@@ -13,7 +12,7 @@ same-length : tie.Need-same-length
 same-length c = search needs
 
 returns : tie.Need-returns
-returns c = retirements-did (gives-absent idsForm (drainRetirements) (c .before .before .before .before .before .args .book .now) (c .before .before .before .before .before .args .answer .now) (c .before .held .ensures .absent (not-true _ (c .if1 .taken))))
+returns c = retirements-did (gives-absent _ _ _ _ (c .before .held .ensures .absent (not-true _ (c .if1 .taken))))
 
 drain-retirements-sound-requires : tie.Need-drain-retirements-sound-requires
 drain-retirements-sound-requires c κs = c .before .held .ensures .present (not-false _ (c .if1 .left)) .sound
@@ -28,7 +27,9 @@ same-length-3 : tie.Need-same-length-3
 same-length-3 c = search needs
 
 returns-2 : tie.Need-returns-2
-returns-2 c = retirements-did (ids-given (c .before .before .before .before .before .before .before .before .before .before .before .before .before .args .book .now) (c .before .before .before .before .before .before .before .before .before .before .before .before .before .args .answer .now) (c .before .before .before .before .before .before .before .before .before .held .result .book) (c .before .before .before .before .before .before .before .before .before .held .ensures .present (not-false _ (c .before .before .before .before .before .before .before .before .if1 .left))) (drainRetirements) (c .before .before .before .before .before .before .before .drain-retirements-sound .result) (c .before .before .before .before .before .before .before .drain-retirements-sound .ensures) (c .before .before .before .before .settle-ids .ensures))
+returns-2 c = retirements-did (ids-given _ _ _
+    (c .before .before .before .before .before .before .before .before .before .held .ensures .present (not-false _ (c .before .before .before .before .before .before .before .before .if1 .left))) _ _
+    (c .before .before .before .before .before .before .before .drain-retirements-sound .ensures) (c .before .before .before .before .settle-ids .ensures))
 
 pub submission-book-drain-retirements-spec : {M : Type 1} → statement M
 submission-book-drain-retirements-spec =

@@ -1,7 +1,6 @@
 use Rattle.c_api.specs.Functions.{emit-did}
 use borrow.Author.Tests.{not-true, not-false}
-use Rattle.rules.specs.Calls.EmitRetirement.{emitRetirement}
-use Rattle.boundary.specs.Forms.{gives-book-absent, done-given, noForm}
+use Rattle.boundary.specs.Forms.{gives-book-absent, done-given}
 use borrow.Author.Needs.{needs}
 use Rattle.c_api.proofs.epoch.submission_book_emit_retirement.Statement.{statement}
 use Rattle.c_api.proofs.epoch.submission_book_emit_retirement.Tie as tie
@@ -13,7 +12,7 @@ same-length : tie.Need-same-length
 same-length c = search needs
 
 returns : tie.Need-returns
-returns c = emit-did _ (gives-book-absent noForm (emitRetirement (c .before .before .before .before .args .id)) (c .before .before .before .before .args .book .now) (c .before .held .ensures .absent (not-true _ (c .if1 .taken))))
+returns c = emit-did _ (gives-book-absent _ _ _ (c .before .held .ensures .absent (not-true _ (c .if1 .taken))))
 
 emit-retirement-sound-requires : tie.Need-emit-retirement-sound-requires
 emit-retirement-sound-requires c κs = c .before .held .ensures .present (not-false _ (c .if1 .left)) .sound
@@ -25,7 +24,8 @@ same-length-2 : tie.Need-same-length-2
 same-length-2 c = search needs
 
 returns-2 : tie.Need-returns-2
-returns-2 c = emit-did _ (done-given (c .before .before .before .before .before .before .before .before .before .args .book .now) (c .before .before .before .before .before .before .held .result .book) (c .before .before .before .before .before .before .held .ensures .present (not-false _ (c .before .before .before .before .before .if1 .left))) (emitRetirement (c .before .before .before .before .before .before .before .before .before .args .id)) (c .before .before .before .before .emit-retirement-sound .result) (c .before .before .before .before .emit-retirement-sound .ensures) (c .before .before .settle-done .ensures))
+returns-2 c = emit-did _ (done-given _ _ (c .before .before .before .before .before .before .held .ensures .present (not-false _ (c .before .before .before .before .before .if1 .left))) _ _
+    (c .before .before .before .before .emit-retirement-sound .ensures) (c .before .before .settle-done .ensures))
 
 pub submission-book-emit-retirement-spec : {M : Type 1} → statement M
 submission-book-emit-retirement-spec =

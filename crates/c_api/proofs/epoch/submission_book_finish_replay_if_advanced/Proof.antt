@@ -1,7 +1,6 @@
 use Rattle.c_api.specs.Functions.{finish-did}
 use borrow.Author.Tests.{not-true, not-false}
-use Rattle.rules.specs.Calls.Replay.{finishReplayIfAdvanced}
-use Rattle.boundary.specs.Forms.{gives-book-absent, done-given, noForm}
+use Rattle.boundary.specs.Forms.{gives-book-absent, done-given}
 use borrow.Author.Needs.{needs}
 use Rattle.c_api.proofs.epoch.submission_book_finish_replay_if_advanced.Statement.{
   statement,
@@ -15,7 +14,7 @@ same-length : tie.Need-same-length
 same-length c = search needs
 
 returns : tie.Need-returns
-returns c = finish-did _ (gives-book-absent noForm (finishReplayIfAdvanced (record { 0 = c .before .before .before .before .args .height })) (c .before .before .before .before .args .book .now) (c .before .held .ensures .absent (not-true _ (c .if1 .taken))))
+returns c = finish-did _ (gives-book-absent _ _ _ (c .before .held .ensures .absent (not-true _ (c .if1 .taken))))
 
 finish-replay-if-advanced-sound-requires : tie.Need-finish-replay-if-advanced-sound-requires
 finish-replay-if-advanced-sound-requires c κs = c .before .held .ensures .present (not-false _ (c .if1 .left)) .sound
@@ -27,7 +26,8 @@ same-length-2 : tie.Need-same-length-2
 same-length-2 c = search needs
 
 returns-2 : tie.Need-returns-2
-returns-2 c = finish-did _ (done-given (c .before .before .before .before .before .before .before .before .before .args .book .now) (c .before .before .before .before .before .before .held .result .book) (c .before .before .before .before .before .before .held .ensures .present (not-false _ (c .before .before .before .before .before .if1 .left))) (finishReplayIfAdvanced (record { 0 = c .before .before .before .before .before .before .before .before .before .args .height })) (c .before .before .before .before .finish-replay-if-advanced-sound .result) (c .before .before .before .before .finish-replay-if-advanced-sound .ensures) (c .before .before .settle-done .ensures))
+returns-2 c = finish-did _ (done-given _ _ (c .before .before .before .before .before .before .held .ensures .present (not-false _ (c .before .before .before .before .before .if1 .left))) _ _
+    (c .before .before .before .before .finish-replay-if-advanced-sound .ensures) (c .before .before .settle-done .ensures))
 
 pub submission-book-finish-replay-if-advanced-spec : {M : Type 1} → statement M
 submission-book-finish-replay-if-advanced-spec =

@@ -1,7 +1,6 @@
 use Rattle.c_api.specs.Functions.{height-did}
 use borrow.Author.Tests.{not-true, not-false}
-use Rattle.rules.specs.Calls.Replay.{replayRollbackHeight}
-use Rattle.boundary.specs.Forms.{gives-absent, height-given, heightForm}
+use Rattle.boundary.specs.Forms.{gives-absent, height-given}
 use borrow.Author.Needs.{needs}
 use Rattle.c_api.proofs.epoch.submission_book_replay_rollback_height.Statement.{statement}
 use Rattle.c_api.proofs.epoch.submission_book_replay_rollback_height.Tie as tie
@@ -13,7 +12,7 @@ same-length : tie.Need-same-length
 same-length c = search needs
 
 returns : tie.Need-returns
-returns c = height-did (gives-absent heightForm (replayRollbackHeight) (c .before .before .before .before .before .args .book .now) (c .before .before .before .before .before .args .answer .now) (c .before .held .ensures .absent (not-true _ (c .if1 .taken))))
+returns c = height-did (gives-absent _ _ _ _ (c .before .held .ensures .absent (not-true _ (c .if1 .taken))))
 
 replay-rollback-height-sound-requires : tie.Need-replay-rollback-height-sound-requires
 replay-rollback-height-sound-requires c κs = c .before .held .ensures .present (not-false _ (c .if1 .left)) .sound
@@ -28,7 +27,9 @@ same-length-3 : tie.Need-same-length-3
 same-length-3 c = search needs
 
 returns-2 : tie.Need-returns-2
-returns-2 c = height-did (height-given (c .before .before .before .before .before .before .before .before .before .before .before .before .before .args .book .now) (c .before .before .before .before .before .before .before .before .before .before .before .before .before .args .answer .now) (c .before .before .before .before .before .before .before .before .before .held .result .book) (c .before .before .before .before .before .before .before .before .before .held .ensures .present (not-false _ (c .before .before .before .before .before .before .before .before .if1 .left))) (replayRollbackHeight) (c .before .before .before .before .before .before .before .replay-rollback-height-sound .result) (c .before .before .before .before .before .before .before .replay-rollback-height-sound .ensures) (c .before .before .before .before .settle-height .ensures))
+returns-2 c = height-did (height-given _ _ _
+    (c .before .before .before .before .before .before .before .before .before .held .ensures .present (not-false _ (c .before .before .before .before .before .before .before .before .if1 .left))) _ _
+    (c .before .before .before .before .before .before .before .replay-rollback-height-sound .ensures) (c .before .before .before .before .settle-height .ensures))
 
 pub submission-book-replay-rollback-height-spec : {M : Type 1} → statement M
 submission-book-replay-rollback-height-spec =

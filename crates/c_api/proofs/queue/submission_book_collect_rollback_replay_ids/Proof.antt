@@ -1,7 +1,6 @@
 use Rattle.c_api.specs.Functions.{collect-did}
 use borrow.Author.Tests.{not-true, not-false}
-use Rattle.rules.specs.Calls.CollectRollbackReplayIds.{collectRollbackReplayIds}
-use Rattle.boundary.specs.Forms.{gives-book-absent, done-given, noForm}
+use Rattle.boundary.specs.Forms.{gives-book-absent, done-given}
 use borrow.Author.Needs.{needs}
 use Rattle.c_api.proofs.queue.submission_book_collect_rollback_replay_ids.Statement.{
   statement,
@@ -15,7 +14,7 @@ same-length : tie.Need-same-length
 same-length c = search needs
 
 returns : tie.Need-returns
-returns c = collect-did _ (gives-book-absent noForm (collectRollbackReplayIds (c .before .before .before .before .before .args .ids .now)) (c .before .before .before .before .before .args .book .now) (c .before .held .ensures .absent (not-true _ (c .if1 .taken))))
+returns c = collect-did _ (gives-book-absent _ _ _ (c .before .held .ensures .absent (not-true _ (c .if1 .taken))))
 
 collect-rollback-replay-ids-sound-requires : tie.Need-collect-rollback-replay-ids-sound-requires
 collect-rollback-replay-ids-sound-requires c κs = c .before .held .ensures .present (not-false _ (c .if1 .left)) .sound
@@ -27,7 +26,8 @@ same-length-2 : tie.Need-same-length-2
 same-length-2 c = search needs
 
 returns-2 : tie.Need-returns-2
-returns-2 c = collect-did _ (done-given (c .before .before .before .before .before .before .before .before .before .before .args .book .now) (c .before .before .before .before .before .before .held .result .book) (c .before .before .before .before .before .before .held .ensures .present (not-false _ (c .before .before .before .before .before .if1 .left))) (collectRollbackReplayIds (c .before .before .before .before .before .before .before .before .before .before .args .ids .now)) (c .before .before .before .before .collect-rollback-replay-ids-sound .result) (c .before .before .before .before .collect-rollback-replay-ids-sound .ensures) (c .before .before .settle-done .ensures))
+returns-2 c = collect-did _ (done-given _ _ (c .before .before .before .before .before .before .held .ensures .present (not-false _ (c .before .before .before .before .before .if1 .left))) _ _
+    (c .before .before .before .before .collect-rollback-replay-ids-sound .ensures) (c .before .before .settle-done .ensures))
 
 pub submission-book-collect-rollback-replay-ids-spec : {M : Type 1} → statement M
 submission-book-collect-rollback-replay-ids-spec =

@@ -1,11 +1,7 @@
-use Rattle.c_api.specs.Functions.{queue-did}
+use Rattle.c_api.specs.Arguments.{queue-absent, queue-bad, queue-done}
+use Rattle.boundary.specs.Arguments.{bytes-bad, bytes-over, bytes-got}
 use borrow.Author.Tests.{not-true, not-false}
-use mathlib.Core.Path.{sym}
-use Rattle.boundary.specs.Forms.{gives-book-absent, done-given, noForm}
-use Rattle.rules.specs.Calls.Queue.{queue}
 use Rattle.archive_form.specs.Parse.{parseDelivery}
-use Rattle.boundary.specs.Arguments.{given, bytesAs, bytes-bad, bytes-over, bytes-got, gives-book-undo, given-none, given-some}
-use Rattle.c_api.specs.Laws.{done-as}
 use borrow.Author.Needs.{needs}
 use Rattle.c_api.proofs.queue.submission_book_queue.Statement.{statement}
 use Rattle.c_api.proofs.queue.submission_book_queue.Tie as tie
@@ -17,7 +13,7 @@ same-length : tie.Need-same-length
 same-length c = search needs
 
 returns : tie.Need-returns
-returns c = queue-did _ (gives-book-absent noForm (given (bytesAs parseDelivery (c .before .before .before .before .before .args .delivery .now)) queue) (c .before .before .before .before .before .args .book .now) (c .before .held .ensures .absent (not-true _ (c .if1 .taken))))
+returns c = queue-absent _ _ (c .before .held .ensures .absent (not-true _ (c .if1 .taken)))
 
 read-delivery-requires : tie.Need-read-delivery-requires
 read-delivery-requires c κs = search needs
@@ -26,13 +22,14 @@ same-length-2 : tie.Need-same-length-2
 same-length-2 c = search needs
 
 returns-2 : tie.Need-returns-2
-returns-2 c = queue-did _ (gives-book-undo 3 noForm (c .before .before .before .before .before .before .before .before .args .book .now) (c .before .before .before .before .held .result .book) (c .before .before .before .before .held .ensures .present (not-false _ (c .before .before .before .if1 .left))) (given (bytesAs parseDelivery (c .before .before .before .before .before .before .before .before .args .delivery .now)) queue) (given-none queue (bytes-bad parseDelivery (c .before .before .before .before .before .before .before .before .args .delivery .now) (c .before .read-delivery .ensures) (c .if2 .taken))))
+returns-2 c = queue-bad _ _ _ (c .before .before .before .before .held .ensures .present (not-false _ (c .before .before .before .if1 .left))) (bytes-bad parseDelivery _ (c .before .read-delivery .ensures) (c .if2 .taken))
 
 same-length-3 : tie.Need-same-length-3
 same-length-3 c = search needs
 
 returns-3 : tie.Need-returns-3
-returns-3 c = queue-did _ (gives-book-undo 3 noForm (c .before .before .before .before .before .before .before .before .before .args .book .now) (c .before .before .before .before .before .held .result .book) (c .before .before .before .before .before .held .ensures .present (not-false _ (c .before .before .before .before .if1 .left))) (given (bytesAs parseDelivery (c .before .before .before .before .before .before .before .before .before .args .delivery .now)) queue) (given-none queue (bytes-over parseDelivery (c .before .before .before .before .before .before .before .before .before .args .delivery .now) (c .before .before .read-delivery .ensures) (c .before .if2 .left) (c .if3 .taken))))
+returns-3 c = queue-bad _ _ _ (c .before .before .before .before .before .held .ensures .present (not-false _ (c .before .before .before .before .if1 .left)))
+    (bytes-over parseDelivery _ (c .before .before .read-delivery .ensures) (c .before .if2 .left) (c .if3 .taken))
 
 queue-sound-requires : tie.Need-queue-sound-requires
 queue-sound-requires c κs = (c .before .before .before .before .before .held .ensures .present (not-false _ (c .before .before .before .before .if1 .left))) .sound
@@ -44,7 +41,9 @@ same-length-4 : tie.Need-same-length-4
 same-length-4 c = search needs
 
 returns-4 : tie.Need-returns-4
-returns-4 c = queue-did _ (done-given (c .before .before .before .before .before .before .before .before .before .before .before .before .before .before .args .book .now) (c .before .before .before .before .before .before .before .before .before .before .held .result .book) (c .before .before .before .before .before .before .before .before .before .before .held .ensures .present (not-false _ (c .before .before .before .before .before .before .before .before .before .if1 .left))) (given (bytesAs parseDelivery (c .before .before .before .before .before .before .before .before .before .before .before .before .before .before .args .delivery .now)) queue) (c .before .before .before .before .queue-sound .result) (done-as (c .before .before .before .before .before .before .before .before .before .before .held .result .book) (sym (given-some queue (bytes-got parseDelivery (c .before .before .before .before .before .before .before .before .before .before .before .before .before .before .args .delivery .now) (c .before .before .before .before .before .before .before .read-delivery .ensures) (c .before .before .before .before .before .before .if2 .left) (c .before .before .before .before .before .if3 .left)))) (c .before .before .before .before .queue-sound .ensures)) (c .before .before .settle-done .ensures))
+returns-4 c = queue-done _ _ _ (c .before .before .before .before .before .before .before .before .before .before .held .ensures .present (not-false _ (c .before .before .before .before .before .before .before .before .before .if1 .left))) _
+    (bytes-got parseDelivery _ (c .before .before .before .before .before .before .before .read-delivery .ensures) (c .before .before .before .before .before .before .if2 .left) (c .before .before .before .before .before .if3 .left))
+    (c .before .before .before .before .queue-sound .ensures) (c .before .before .settle-done .ensures)
 
 pub submission-book-queue-spec : {M : Type 1} → statement M
 submission-book-queue-spec =

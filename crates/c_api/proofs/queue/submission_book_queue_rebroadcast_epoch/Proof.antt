@@ -1,7 +1,7 @@
 use borrow.Author.Tests.{not-true, not-false}
 use Rattle.archive_form.specs.Parse.{parseTrigger}
 use Rattle.boundary.specs.Arguments.{byte-bad, byte-got}
-use Rattle.c_api.specs.Lists.{epoch-absent, epoch-long, epoch-bad, epoch-done}
+use Rattle.c_api.specs.Arguments.{epoch-absent, epoch-long, epoch-bad, epoch-done}
 use borrow.Author.Needs.{needs}
 use Rattle.c_api.proofs.queue.submission_book_queue_rebroadcast_epoch.Statement.{statement}
 use Rattle.c_api.proofs.queue.submission_book_queue_rebroadcast_epoch.Tie as tie
@@ -44,7 +44,8 @@ same-length-4 : tie.Need-same-length-4
 same-length-4 c = search needs
 
 returns-4 : tie.Need-returns-4
-returns-4 c = epoch-done _ _ _ _ (c .before .before .before .before .before .before .before .before .before .before .before .held .ensures .present (not-false _ (c .before .before .before .before .before .before .before .before .before .before .if1 .left))) _ (c .before .before .before .before .before .before .before .before .before .if2 .left)
+returns-4 c = epoch-done _ _ _ _ (c .before .before .before .before .before .before .before .before .before .before .before .held .ensures .present
+    (not-false _ (c .before .before .before .before .before .before .before .before .before .before .if1 .left))) _ (c .before .before .before .before .before .before .before .before .before .if2 .left)
     (byte-got parseTrigger _ (c .before .before .before .before .before .before .read-trigger .ensures) (c .before .before .before .before .before .if3 .left))
     (c .before .before .before .before .queue-rebroadcast-epoch-sound .ensures) (c .before .before .settle-done .ensures)
 

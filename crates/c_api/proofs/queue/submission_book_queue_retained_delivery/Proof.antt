@@ -1,13 +1,7 @@
-use Rattle.c_api.specs.Functions.{retained-delivery-did}
+use Rattle.c_api.specs.Arguments.{delivery-absent, trigger-bad, goal-bad, delivery-done}
+use Rattle.boundary.specs.Arguments.{byte-bad, byte-got}
 use borrow.Author.Tests.{not-true, not-false}
-use mathlib.Core.Path.{sym, _∙_}
-use Rattle.boundary.specs.Forms.{gives-book-absent, done-given, noForm}
-use Rattle.rules.specs.Calls.QueueRetainedDelivery.{queueRetainedDelivery}
-use Rattle.book_data.specs.declared.DeliveryTrigger.{DeliveryTrigger}
-use Rattle.book_data.specs.declared.SubmissionDeliveryGoal.{SubmissionDeliveryGoal}
 use Rattle.archive_form.specs.Parse.{parseTrigger, parseGoal}
-use Rattle.boundary.specs.Arguments.{given, byteAs, byte-bad, byte-got, gives-book-undo, given-none, given-some}
-use Rattle.c_api.specs.Laws.{done-as}
 use borrow.Author.Needs.{needs}
 use Rattle.c_api.proofs.queue.submission_book_queue_retained_delivery.Statement.{statement}
 use Rattle.c_api.proofs.queue.submission_book_queue_retained_delivery.Tie as tie
@@ -19,7 +13,7 @@ same-length : tie.Need-same-length
 same-length c = search needs
 
 returns : tie.Need-returns
-returns c = retained-delivery-did _ _ _ (gives-book-absent noForm (given (byteAs parseTrigger (c .before .before .before .before .args .trigger)) (λ (t : DeliveryTrigger). given (byteAs parseGoal (c .before .before .before .before .args .goal)) (λ (g : SubmissionDeliveryGoal). queueRetainedDelivery (c .before .before .before .before .args .id) t g))) (c .before .before .before .before .args .book .now) (c .before .held .ensures .absent (not-true _ (c .if1 .taken))))
+returns c = delivery-absent _ _ _ _ (c .before .held .ensures .absent (not-true _ (c .if1 .taken)))
 
 slice-aggregate-read-trigger : tie.Need-slice-aggregate-read-trigger
 slice-aggregate-read-trigger c = search needs
@@ -31,7 +25,7 @@ same-length-2 : tie.Need-same-length-2
 same-length-2 c = search needs
 
 returns-2 : tie.Need-returns-2
-returns-2 c = retained-delivery-did _ _ _ (gives-book-undo 3 noForm (c .before .before .before .before .before .before .before .before .args .book .now) (c .before .before .before .before .before .held .result .book) (c .before .before .before .before .before .held .ensures .present (not-false _ (c .before .before .before .before .if1 .left))) (given (byteAs parseTrigger (c .before .before .before .before .before .before .before .before .args .trigger)) (λ (t : DeliveryTrigger). given (byteAs parseGoal (c .before .before .before .before .before .before .before .before .args .goal)) (λ (g : SubmissionDeliveryGoal). queueRetainedDelivery (c .before .before .before .before .before .before .before .before .args .id) t g))) (given-none (λ (t : DeliveryTrigger). given (byteAs parseGoal (c .before .before .before .before .before .before .before .before .args .goal)) (λ (g : SubmissionDeliveryGoal). queueRetainedDelivery (c .before .before .before .before .before .before .before .before .args .id) t g)) (byte-bad parseTrigger (c .before .before .before .before .before .before .before .before .args .trigger) (c .before .read-trigger .ensures) (c .if2 .taken))))
+returns-2 c = trigger-bad _ _ _ _ _ (c .before .before .before .before .before .held .ensures .present (not-false _ (c .before .before .before .before .if1 .left))) (byte-bad parseTrigger _ (c .before .read-trigger .ensures) (c .if2 .taken))
 
 slice-aggregate-read-goal : tie.Need-slice-aggregate-read-goal
 slice-aggregate-read-goal c = search needs
@@ -43,7 +37,8 @@ same-length-3 : tie.Need-same-length-3
 same-length-3 c = search needs
 
 returns-3 : tie.Need-returns-3
-returns-3 c = retained-delivery-did _ _ _ (gives-book-undo 3 noForm (c .before .before .before .before .before .before .before .before .before .before .before .before .args .book .now) (c .before .before .before .before .before .before .before .before .before .held .result .book) (c .before .before .before .before .before .before .before .before .before .held .ensures .present (not-false _ (c .before .before .before .before .before .before .before .before .if1 .left))) (given (byteAs parseTrigger (c .before .before .before .before .before .before .before .before .before .before .before .before .args .trigger)) (λ (t : DeliveryTrigger). given (byteAs parseGoal (c .before .before .before .before .before .before .before .before .before .before .before .before .args .goal)) (λ (g : SubmissionDeliveryGoal). queueRetainedDelivery (c .before .before .before .before .before .before .before .before .before .before .before .before .args .id) t g))) (given-some (λ (t : DeliveryTrigger). given (byteAs parseGoal (c .before .before .before .before .before .before .before .before .before .before .before .before .args .goal)) (λ (g : SubmissionDeliveryGoal). queueRetainedDelivery (c .before .before .before .before .before .before .before .before .before .before .before .before .args .id) t g)) (byte-got parseTrigger (c .before .before .before .before .before .before .before .before .before .before .before .before .args .trigger) (c .before .before .before .before .before .read-trigger .ensures) (c .before .before .before .before .if2 .left)) ∙ given-none (λ (g : SubmissionDeliveryGoal). queueRetainedDelivery (c .before .before .before .before .before .before .before .before .before .before .before .before .args .id) (c .before .before .before .before .before .read-trigger .result) g) (byte-bad parseGoal (c .before .before .before .before .before .before .before .before .before .before .before .before .args .goal) (c .before .read-goal .ensures) (c .if3 .taken))))
+returns-3 c = goal-bad _ _ _ _ _ (c .before .before .before .before .before .before .before .before .before .held .ensures .present (not-false _ (c .before .before .before .before .before .before .before .before .if1 .left)))
+    (byte-got parseTrigger _ (c .before .before .before .before .before .read-trigger .ensures) (c .before .before .before .before .if2 .left)) (byte-bad parseGoal _ (c .before .read-goal .ensures) (c .if3 .taken))
 
 queue-retained-delivery-sound-requires : tie.Need-queue-retained-delivery-sound-requires
 queue-retained-delivery-sound-requires c κs = (c .before .before .before .before .before .before .before .before .before .held .ensures .present (not-false _ (c .before .before .before .before .before .before .before .before .if1 .left))) .sound
@@ -55,7 +50,11 @@ same-length-4 : tie.Need-same-length-4
 same-length-4 c = search needs
 
 returns-4 : tie.Need-returns-4
-returns-4 c = retained-delivery-did _ _ _ (done-given (c .before .before .before .before .before .before .before .before .before .before .before .before .before .before .before .before .before .args .book .now) (c .before .before .before .before .before .before .before .before .before .before .before .before .before .before .held .result .book) (c .before .before .before .before .before .before .before .before .before .before .before .before .before .before .held .ensures .present (not-false _ (c .before .before .before .before .before .before .before .before .before .before .before .before .before .if1 .left))) (given (byteAs parseTrigger (c .before .before .before .before .before .before .before .before .before .before .before .before .before .before .before .before .before .args .trigger)) (λ (t : DeliveryTrigger). given (byteAs parseGoal (c .before .before .before .before .before .before .before .before .before .before .before .before .before .before .before .before .before .args .goal)) (λ (g : SubmissionDeliveryGoal). queueRetainedDelivery (c .before .before .before .before .before .before .before .before .before .before .before .before .before .before .before .before .before .args .id) t g))) (c .before .before .before .before .queue-retained-delivery-sound .result) (done-as (c .before .before .before .before .before .before .before .before .before .before .before .before .before .before .held .result .book) (sym (given-some (λ (t : DeliveryTrigger). given (byteAs parseGoal (c .before .before .before .before .before .before .before .before .before .before .before .before .before .before .before .before .before .args .goal)) (λ (g : SubmissionDeliveryGoal). queueRetainedDelivery (c .before .before .before .before .before .before .before .before .before .before .before .before .before .before .before .before .before .args .id) t g)) (byte-got parseTrigger (c .before .before .before .before .before .before .before .before .before .before .before .before .before .before .before .before .before .args .trigger) (c .before .before .before .before .before .before .before .before .before .before .read-trigger .ensures) (c .before .before .before .before .before .before .before .before .before .if2 .left)) ∙ given-some (λ (g : SubmissionDeliveryGoal). queueRetainedDelivery (c .before .before .before .before .before .before .before .before .before .before .before .before .before .before .before .before .before .args .id) (c .before .before .before .before .before .before .before .before .before .before .read-trigger .result) g) (byte-got parseGoal (c .before .before .before .before .before .before .before .before .before .before .before .before .before .before .before .before .before .args .goal) (c .before .before .before .before .before .before .read-goal .ensures) (c .before .before .before .before .before .if3 .left)))) (c .before .before .before .before .queue-retained-delivery-sound .ensures)) (c .before .before .settle-done .ensures))
+returns-4 c = delivery-done _ _ _ _ _ (c .before .before .before .before .before .before .before .before .before .before .before .before .before .before .held .ensures .present
+    (not-false _ (c .before .before .before .before .before .before .before .before .before .before .before .before .before .if1 .left)))
+    (byte-got parseTrigger _ (c .before .before .before .before .before .before .before .before .before .before .read-trigger .ensures) (c .before .before .before .before .before .before .before .before .before .if2 .left)) _
+    (byte-got parseGoal _ (c .before .before .before .before .before .before .read-goal .ensures) (c .before .before .before .before .before .if3 .left))
+    (c .before .before .before .before .queue-retained-delivery-sound .ensures) (c .before .before .settle-done .ensures)
 
 pub submission-book-queue-retained-delivery-spec : {M : Type 1} → statement M
 submission-book-queue-retained-delivery-spec =

@@ -1,7 +1,6 @@
 use Rattle.c_api.specs.Functions.{active-ids-did}
 use borrow.Author.Tests.{not-true, not-false}
-use Rattle.rules.specs.Calls.ActiveIds.{activeIds}
-use Rattle.boundary.specs.Forms.{gives-absent, ids-given, idsForm}
+use Rattle.boundary.specs.Forms.{gives-absent, ids-given}
 use borrow.Author.Needs.{needs}
 use Rattle.c_api.proofs.retained.submission_book_active_ids.Statement.{statement}
 use Rattle.c_api.proofs.retained.submission_book_active_ids.Tie as tie
@@ -13,7 +12,7 @@ same-length : tie.Need-same-length
 same-length c = search needs
 
 returns : tie.Need-returns
-returns c = active-ids-did (gives-absent idsForm (activeIds) (c .before .before .before .before .before .args .book .now) (c .before .before .before .before .before .args .answer .now) (c .before .held .ensures .absent (not-true _ (c .if1 .taken))))
+returns c = active-ids-did (gives-absent _ _ _ _ (c .before .held .ensures .absent (not-true _ (c .if1 .taken))))
 
 active-ids-sound-requires : tie.Need-active-ids-sound-requires
 active-ids-sound-requires c κs = c .before .held .ensures .present (not-false _ (c .if1 .left)) .sound
@@ -28,7 +27,9 @@ same-length-3 : tie.Need-same-length-3
 same-length-3 c = search needs
 
 returns-2 : tie.Need-returns-2
-returns-2 c = active-ids-did (ids-given (c .before .before .before .before .before .before .before .before .before .before .before .before .before .args .book .now) (c .before .before .before .before .before .before .before .before .before .before .before .before .before .args .answer .now) (c .before .before .before .before .before .before .before .before .before .held .result .book) (c .before .before .before .before .before .before .before .before .before .held .ensures .present (not-false _ (c .before .before .before .before .before .before .before .before .if1 .left))) (activeIds) (c .before .before .before .before .before .before .before .active-ids-sound .result) (c .before .before .before .before .before .before .before .active-ids-sound .ensures) (c .before .before .before .before .settle-ids .ensures))
+returns-2 c = active-ids-did (ids-given _ _ _
+    (c .before .before .before .before .before .before .before .before .before .held .ensures .present (not-false _ (c .before .before .before .before .before .before .before .before .if1 .left))) _ _
+    (c .before .before .before .before .before .before .before .active-ids-sound .ensures) (c .before .before .before .before .settle-ids .ensures))
 
 pub submission-book-active-ids-spec : {M : Type 1} → statement M
 submission-book-active-ids-spec =

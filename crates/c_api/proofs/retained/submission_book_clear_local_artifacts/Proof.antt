@@ -27,7 +27,8 @@ same-length-2 : tie.Need-same-length-2
 same-length-2 c = search needs
 
 returns-2 : tie.Need-returns-2
-returns-2 c = clear-did (done-given (c .before .before .before .before .before .before .before .before .before .args .book .now) (c .before .before .before .before .before .before .held .result .book) (c .before .before .before .before .before .before .held .ensures .present (not-false _ (c .before .before .before .before .before .if1 .left))) (clearLocalArtifacts) (c .before .before .before .before .clear-local-artifacts-sound .result) (c .before .before .before .before .clear-local-artifacts-sound .ensures) (c .before .before .settle-done .ensures))
+returns-2 c = clear-did (done-given _ _ (c .before .before .before .before .before .before .held .ensures .present (not-false _ (c .before .before .before .before .before .if1 .left))) _ _
+    (c .before .before .before .before .clear-local-artifacts-sound .ensures) (c .before .before .settle-done .ensures))
 
 pub submission-book-clear-local-artifacts-spec : {M : Type 1} → statement M
 submission-book-clear-local-artifacts-spec =

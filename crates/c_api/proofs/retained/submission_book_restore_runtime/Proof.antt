@@ -25,7 +25,8 @@ same-length-2 : tie.Need-same-length-2
 same-length-2 c = search needs
 
 returns-2 : tie.Need-returns-2
-returns-2 c = restore-did (done-given (c .before .before .before .before .before .before .before .before .before .args .book .now) (c .before .before .before .before .before .before .held .result .book) (c .before .before .before .before .before .before .held .ensures .present (not-false _ (c .before .before .before .before .before .if1 .left))) (restoreRuntime) (c .before .before .before .before .restore-runtime-sound .result) (c .before .before .before .before .restore-runtime-sound .ensures) (c .before .before .settle-done .ensures))
+returns-2 c = restore-did (done-given _ _ (c .before .before .before .before .before .before .held .ensures .present (not-false _ (c .before .before .before .before .before .if1 .left))) _ _
+    (c .before .before .before .before .restore-runtime-sound .ensures) (c .before .before .settle-done .ensures))
 
 pub submission-book-restore-runtime-spec : {M : Type 1} → statement M
 submission-book-restore-runtime-spec =

@@ -1,7 +1,6 @@
 use Rattle.c_api.specs.Functions.{retain-did}
 use borrow.Author.Tests.{not-true, not-false}
-use Rattle.rules.specs.Calls.RetainSubmitted.{retainSubmitted}
-use Rattle.boundary.specs.Forms.{gives-absent, ids-given, idsForm}
+use Rattle.boundary.specs.Forms.{gives-absent, ids-given}
 use borrow.Author.Needs.{needs}
 use Rattle.c_api.proofs.retained.submission_book_retain_submitted.Statement.{statement}
 use Rattle.c_api.proofs.retained.submission_book_retain_submitted.Tie as tie
@@ -13,7 +12,7 @@ same-length : tie.Need-same-length
 same-length c = search needs
 
 returns : tie.Need-returns
-returns c = retain-did _ (gives-absent idsForm (retainSubmitted (c .before .before .before .before .before .before .args .removed .now)) (c .before .before .before .before .before .before .args .book .now) (c .before .before .before .before .before .before .args .answer .now) (c .before .held .ensures .absent (not-true _ (c .if1 .taken))))
+returns c = retain-did _ (gives-absent _ _ _ _ (c .before .held .ensures .absent (not-true _ (c .if1 .taken))))
 
 retain-submitted-sound-requires : tie.Need-retain-submitted-sound-requires
 retain-submitted-sound-requires c κs = c .before .held .ensures .present (not-false _ (c .if1 .left)) .sound
@@ -28,7 +27,9 @@ same-length-3 : tie.Need-same-length-3
 same-length-3 c = search needs
 
 returns-2 : tie.Need-returns-2
-returns-2 c = retain-did _ (ids-given (c .before .before .before .before .before .before .before .before .before .before .before .before .before .before .args .book .now) (c .before .before .before .before .before .before .before .before .before .before .before .before .before .before .args .answer .now) (c .before .before .before .before .before .before .before .before .before .held .result .book) (c .before .before .before .before .before .before .before .before .before .held .ensures .present (not-false _ (c .before .before .before .before .before .before .before .before .if1 .left))) (retainSubmitted (c .before .before .before .before .before .before .before .before .before .before .before .before .before .before .args .removed .now)) (c .before .before .before .before .before .before .before .retain-submitted-sound .result) (c .before .before .before .before .before .before .before .retain-submitted-sound .ensures) (c .before .before .before .before .settle-ids .ensures))
+returns-2 c = retain-did _ (ids-given _ _ _
+    (c .before .before .before .before .before .before .before .before .before .held .ensures .present (not-false _ (c .before .before .before .before .before .before .before .before .if1 .left))) _ _
+    (c .before .before .before .before .before .before .before .retain-submitted-sound .ensures) (c .before .before .before .before .settle-ids .ensures))
 
 pub submission-book-retain-submitted-spec : {M : Type 1} → statement M
 submission-book-retain-submitted-spec =

@@ -1,0 +1,54 @@
+// A book made in lent bytes, by opening or from an archive; and the archive of a lent book.
+use archive_read::read_archive;
+use archive_size::size_archive;
+use archive_write::write_book;
+use book_data::SubmissionId;
+use book_data::Token;
+use boundary_read::held;
+use boundary_write::put_back;
+use open_book::open;
+ghost use mathlib.Core.List.{[]};
+ghost use Rattle.rules.specs.Opened.{opened};
+ghost use Rattle.archive_form.specs.Parse.{readArchive};
+ghost use Rattle.boundary.specs.Held.{heldIn};
+ghost use Rattle.boundary.specs.Settle.{GivesBook, written};
+ghost use Rattle.boundary_whole.specs.Whole.{GivesPlace, readInto, GivesLength, writeFrom};
+
+// An empty book with these two numbers.
+pub fn open_into(book: &mut [u8], next_token: u64, next_id: u64) -> u8
+    ensures { λ r. ⌜ GivesBook (written 0 (opened «next_token» «next_id») [] (now (book .entry)) []) r (now (book .exit)) ⌝ }
+{
+    let b = open(Token(next_token), SubmissionId(next_id));
+    put_back(0, b, book)
+}
+
+// The book of an archive; 13 with the place of its first broken item.
+pub fn read_into(book: &mut [u8], archive: &[u8], place: &mut u64) -> u8
+    ensures { λ r. ⌜ GivesPlace (readInto (readArchive (now (archive .entry))) (now (book .entry)) (now (place .entry))) r (now (book .exit)) (now (place .exit)) ⌝ }
+{
+    let x = read_archive(archive);
+    let ok = x.ok;
+    if !ok {
+        *place = x.place as u64;
+        return 13;
+    }
+    put_back(0, x.book, book)
+}
+
+// The archive of the book, and its length.
+pub fn write_from(book: &[u8], archive: &mut [u8], length: &mut u64) -> u8
+    ensures { λ r. ⌜ GivesLength (writeFrom (heldIn (now (book .entry))) (now (archive .entry)) (now (length .entry))) r (now (archive .exit)) (now (length .exit)) ⌝ }
+{
+    let h = held(book);
+    let ok = h.ok;
+    if !ok {
+        return 1;
+    }
+    let n = size_archive(h.book);
+    if archive.len() < n {
+        return 12;
+    }
+    write_book(archive, h.book);
+    *length = n as u64;
+    0
+}
