@@ -3,26 +3,21 @@ ghost use mathlib.Core.Path.{_≡_};
 ghost use lib.ListN.{take};
 ghost use Rattle.wire.specs.Wire.{be, encMany, encOpt};
 ghost use Rattle.spend.specs.Forms.{encodeFeeIntent};
-ghost use Rattle.archive_form.specs.Encode.{encodeAttempt, encodeSlot};
-ghost use Rattle.answers.specs.Fits.{Fits};
+ghost use Rattle.append.specs.Fits.{Fits};
 ghost use Rattle.answers.specs.Forms.{refusalNumber, statusNumber, dispositionNumber, encodeIds, encodeFinal};
-use crate::part::append_bundle;
-use crate::part::append_byte;
-use crate::part::append_bytes;
-use crate::part::append_fee_intent;
 use crate::part::append_flag;
-use crate::part::append_hash;
-use crate::part::append_number;
-use book_data::DeliveryAttempt;
+use append::append_byte;
+use append::append_bytes;
+use append::append_number;
 use book_data::Ids64;
-use book_data::OptionalAttempt;
 use book_data::SubmissionFeeIntent;
-use entry_write::goal_number;
 use lists::at_most;
 use replies::CallAnswer;
 use replies::FeeSourceDisposition;
 use replies::FinalizedSubmission;
 use replies::SubmissionAttemptStatus;
+use spend_write::write::append_bundle;
+use spend_write::write::append_fee_intent;
 
 // 0, or the refusal's number.
 pub fn refusal_number(a: CallAnswer) -> u8
@@ -71,32 +66,6 @@ pub fn append_ids(out: &mut [u8], at: usize, ids: Ids64) -> usize
     let k = at_most(n, 64);
     let e = append_byte(&mut *out, at, k as u8);
     append_numbers(out, e, items, n)
-}
-
-fn append_attempt(out: &mut [u8], at: usize, a: DeliveryAttempt) -> usize
-    ensures { λ r. ⌜ Fits (encodeAttempt a) at (now (out .entry)) (now (out .exit)) r ⌝ }
-{
-    let goal = a.goal;
-    let drained = a.drained_variant_fingerprint;
-    let finalized = a.finalized_variant_fingerprint;
-    let g = goal_number(goal);
-    let token_end = append_number(&mut *out, at, a.token.0);
-    let goal_end = append_byte(&mut *out, token_end, g);
-    let drained_end = append_bytes(&mut *out, goal_end, &drained);
-    append_hash(out, drained_end, finalized)
-}
-
-// A mark, and the attempt where it is 1.
-pub fn append_slot(out: &mut [u8], at: usize, a: OptionalAttempt) -> usize
-    ensures { λ r. ⌜ Fits (encodeSlot a) at (now (out .entry)) (now (out .exit)) r ⌝ }
-{
-    let present = a.present;
-    if !present {
-        return append_byte(out, at, 0);
-    }
-    let attempt = a.attempt;
-    let e = append_byte(&mut *out, at, 1);
-    append_attempt(out, e, attempt)
 }
 
 pub fn append_optional_fee_intent(

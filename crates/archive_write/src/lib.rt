@@ -1,95 +1,88 @@
 // The sections of an archive. Each section writer gets the rest of the buffer from its start, and returns how many bytes it wrote.
 ghost use mathlib.Core.Path.{_≡_};
 ghost use mathlib.Core.List.{_++_};
-ghost use Prim.Native.Nat.{_≤_};
-ghost use lib.ListN.{length, take};
+ghost use lib.ListN.{take};
 ghost use Rattle.wire.specs.Wire.{be, encMany, encList};
 ghost use Rattle.wire.specs.Puts.{Room, Puts};
+ghost use Rattle.append.specs.Fits.{Fits};
 ghost use Rattle.archive_form.specs.Encode.{encodeSubmitted, encodeDelivery, encodeBook};
 ghost use Rattle.archive_write.specs.Sections.{frontOf, backOf, numbersForm};
+use append::append_byte;
+use append::append_number;
 use book_data::BookData;
 use book_data::PendingDelivery;
 use book_data::SubmissionId;
 use book_data::SubmittedTx;
 use book_data::Token;
-use entry_write::write_delivery;
-use entry_write::write_submitted;
+use entry_write::append_delivery;
+use entry_write::append_submitted;
 use lists::at_most;
-use spend_write::write::write_height;
-use wire::write::put_byte;
-use wire::write::put_number;
+use spend_write::write::append_height;
 
 // Numbers (count 2): next token, next submission id.
 fn write_numbers(out: &mut [u8], token: Token, id: SubmissionId) -> usize
-    requires { ⌜ Room (numbersForm token id) 0 (now out) ⌝ }
-    ensures { λ r. ⌜ Puts (numbersForm token id) 0 (now (out .entry)) (now (out .exit)) r ⌝ }
+    ensures { λ r. ⌜ Fits (numbersForm token id) 0 (now (out .entry)) (now (out .exit)) r ⌝ }
 {
-    let count_end = put_byte(&mut *out, 0, 2);
-    let token_end = put_number(&mut *out, count_end, token.0);
-    put_number(out, token_end, id.0)
+    let count_end = append_byte(&mut *out, 0, 2);
+    let token_end = append_number(&mut *out, count_end, token.0);
+    append_number(out, token_end, id.0)
 }
 
 // The first n submissions.
-fn write_submissions(out: &mut [u8], at: usize, a: [SubmittedTx; 16], n: usize) -> usize
-    requires { ⌜ Room (encMany encodeSubmitted (take n a)) at (now out) ⌝ }
-    ensures { λ r. ⌜ Puts (encMany encodeSubmitted (take n a)) at (now (out .entry)) (now (out .exit)) r ⌝ }
+fn append_submissions(out: &mut [u8], at: usize, a: [SubmittedTx; 16], n: usize) -> usize
+    ensures { λ r. ⌜ Fits (encMany encodeSubmitted (take n a)) at (now (out .entry)) (now (out .exit)) r ⌝ }
 {
     let k = at_most(n, 16);
     let mut e = at;
     let mut i: usize = 0;
     while i < k {
         let t = a[i];
-        e = write_submitted(&mut *out, e, t);
+        e = append_submitted(&mut *out, e, t);
         i += 1;
     }
     e
 }
 
 fn write_retained(out: &mut [u8], a: [SubmittedTx; 16], n: usize) -> usize
-    requires { ⌜ Room (encList encodeSubmitted (take n a)) 0 (now out) ⌝ }
-    ensures { λ r. ⌜ Puts (encList encodeSubmitted (take n a)) 0 (now (out .entry)) (now (out .exit)) r ⌝ }
+    ensures { λ r. ⌜ Fits (encList encodeSubmitted (take n a)) 0 (now (out .entry)) (now (out .exit)) r ⌝ }
 {
     let k = at_most(n, 16);
-    let e = put_byte(&mut *out, 0, k as u8);
-    write_submissions(out, e, a, n)
+    let e = append_byte(&mut *out, 0, k as u8);
+    append_submissions(out, e, a, n)
 }
 
 // The first n queue entries.
-fn write_deliveries(out: &mut [u8], at: usize, a: [PendingDelivery; 16], n: usize) -> usize
-    requires { ⌜ Room (encMany encodeDelivery (take n a)) at (now out) ⌝ }
-    ensures { λ r. ⌜ Puts (encMany encodeDelivery (take n a)) at (now (out .entry)) (now (out .exit)) r ⌝ }
+fn append_deliveries(out: &mut [u8], at: usize, a: [PendingDelivery; 16], n: usize) -> usize
+    ensures { λ r. ⌜ Fits (encMany encodeDelivery (take n a)) at (now (out .entry)) (now (out .exit)) r ⌝ }
 {
     let k = at_most(n, 16);
     let mut e = at;
     let mut i: usize = 0;
     while i < k {
         let d = a[i];
-        e = write_delivery(&mut *out, e, d);
+        e = append_delivery(&mut *out, e, d);
         i += 1;
     }
     e
 }
 
 fn write_queue(out: &mut [u8], a: [PendingDelivery; 16], n: usize) -> usize
-    requires { ⌜ Room (encList encodeDelivery (take n a)) 0 (now out) ⌝ }
-    ensures { λ r. ⌜ Puts (encList encodeDelivery (take n a)) 0 (now (out .entry)) (now (out .exit)) r ⌝ }
+    ensures { λ r. ⌜ Fits (encList encodeDelivery (take n a)) 0 (now (out .entry)) (now (out .exit)) r ⌝ }
 {
     let k = at_most(n, 16);
-    let e = put_byte(&mut *out, 0, k as u8);
-    write_deliveries(out, e, a, n)
+    let e = append_byte(&mut *out, 0, k as u8);
+    append_deliveries(out, e, a, n)
 }
 
 // Retirements, or replayed ids.
 fn write_ids(out: &mut [u8], ids: &[u64]) -> usize
-    requires { ⌜ Room (encList (be 8) (now ids)) 0 (now out) ⌝ }
-    requires { ⌜ length (now ids) ≤ 255 ⌝ }
-    ensures { λ r. ⌜ Puts (encList (be 8) (now (ids .entry))) 0 (now (out .entry)) (now (out .exit)) r ⌝ }
+    ensures { λ r. ⌜ Fits (encList (be 8) (now (ids .entry))) 0 (now (out .entry)) (now (out .exit)) r ⌝ }
 {
     let n = ids.len();
-    let mut e = put_byte(&mut *out, 0, n as u8);
+    let mut e = append_byte(&mut *out, 0, (n % 256) as u8);
     let mut i: usize = 0;
     while i < n {
-        e = put_number(&mut *out, e, ids[i]);
+        e = append_number(&mut *out, e, ids[i]);
         i += 1;
     }
     e
@@ -97,8 +90,7 @@ fn write_ids(out: &mut [u8], ids: &[u64]) -> usize
 
 // Numbers, retained submissions and queue.
 fn write_front(out: &mut [u8], b: BookData) -> usize
-    requires { ⌜ Room (frontOf b) 0 (now out) ⌝ }
-    ensures { λ r. ⌜ Puts (frontOf b) 0 (now (out .entry)) (now (out .exit)) r ⌝ }
+    ensures { λ r. ⌜ Fits (frontOf b) 0 (now (out .entry)) (now (out .exit)) r ⌝ }
 {
     let submitted = b.submitted;
     let pending = b.pending_deliveries;
@@ -113,8 +105,7 @@ fn write_front(out: &mut [u8], b: BookData) -> usize
 
 // Retirements, rollback height and replayed ids.
 fn write_back(out: &mut [u8], b: BookData) -> usize
-    requires { ⌜ Room (backOf b) 0 (now out) ⌝ }
-    ensures { λ r. ⌜ Puts (backOf b) 0 (now (out .entry)) (now (out .exit)) r ⌝ }
+    ensures { λ r. ⌜ Fits (backOf b) 0 (now (out .entry)) (now (out .exit)) r ⌝ }
 {
     let retired = b.retired_submission_ids;
     let retired_ids = retired.items;
@@ -125,7 +116,7 @@ fn write_back(out: &mut [u8], b: BookData) -> usize
     let r = at_most(retired.count, 64);
     let p = at_most(replayed.count, 16);
     let at = write_ids(&mut *out, &retired_ids[0..r]);
-    let rollback = write_height(&mut out[at..], 0, height);
+    let rollback = append_height(&mut out[at..], 0, height);
     let next = at + rollback;
     let last = write_ids(&mut out[next..], &replayed_ids[0..p]);
     next + last

@@ -1,7 +1,7 @@
 // Reading an archive, and whether the book is sound.
-use answers::part::append_byte;
 use answers::part::append_flag;
-use answers::part::append_number;
+use append::append_byte;
+use append::append_number;
 use archive_read::read_archive;
 use book_data::BookData;
 use book_sound::is_sound;

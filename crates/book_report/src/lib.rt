@@ -1,6 +1,6 @@
 // A book as text on standard output, section by section.
 ghost use Prim.Native.Nat.{_≤_};
-use answers::part::append_bytes;
+use append::append_bytes;
 use book_data::BookData;
 use book_data::Ids64;
 use book_data::PendingDelivery;

@@ -2,13 +2,13 @@
 ghost use mathlib.Core.Path.{_≡_};
 ghost use Prim.Native.Nat.{_<_};
 ghost use lib.ListN.{take};
-ghost use Rattle.answers.specs.Fits.{Fits};
+ghost use Rattle.append.specs.Fits.{Fits};
 ghost use Rattle.text.specs.Each.{eachFrom};
 ghost use Rattle.book_text.specs.Coins.{coinText};
 ghost use Rattle.book_text.specs.Bundles.{outputText, runText, spendText, bundleText, variantText};
 use crate::coin::append_coin;
 use crate::words::append_hash_line;
-use answers::part::append_bytes;
+use append::append_bytes;
 use book_data::CoinSpend;
 use book_data::Output;
 use book_data::SpendBundle;

@@ -2,7 +2,7 @@
 ghost use mathlib.Core.Path.{_≡_};
 ghost use Prim.Native.Nat.{_≤_};
 ghost use lib.ListN.{length};
-ghost use Rattle.answers.specs.Fits.{Fits};
+ghost use Rattle.append.specs.Fits.{Fits};
 ghost use Rattle.book_text.specs.Coins.{amountOf, isCoin, partsText, coinOrBytes, coinText};
 use coin_string::from_parts;
 use cursor::read_hash;

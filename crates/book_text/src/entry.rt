@@ -1,7 +1,7 @@
 // Attempts, retained submissions, queue entries, tokens and lists of ids.
 ghost use mathlib.Core.Path.{_≡_};
 ghost use Prim.Native.Nat.{_<_};
-ghost use Rattle.answers.specs.Fits.{Fits};
+ghost use Rattle.append.specs.Fits.{Fits};
 ghost use Rattle.wire.specs.Wire.{encMany};
 ghost use Rattle.book_text.specs.Entries.{attemptText, slotText, slotsText, factsText, entryText, headingText, submissionText, intentText, deliveryText, tokenText, tokensText, idAfterSpace, noneOf, idsText};
 use crate::bundle::append_bundle;
@@ -15,7 +15,7 @@ use crate::words::append_height;
 use crate::words::append_id;
 use crate::words::append_resolution;
 use crate::words::append_trigger;
-use answers::part::append_bytes;
+use append::append_bytes;
 use book_data::AttemptSlots;
 use book_data::DeliveryAttempt;
 use book_data::OptionalAttempt;

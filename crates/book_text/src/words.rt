@@ -1,9 +1,9 @@
 // The kinds in words, each up to its line's end, and the optional parts.
 ghost use mathlib.Core.Path.{_≡_};
-ghost use Rattle.answers.specs.Fits.{Fits};
+ghost use Rattle.append.specs.Fits.{Fits};
 ghost use Rattle.text.specs.Numbers.{hexLine};
 ghost use Rattle.book_text.specs.Words.{goalText, triggerText, chainText, resolutionText, feeIntentText, heightText, idText, hashText};
-use answers::part::append_bytes;
+use append::append_bytes;
 use book_data::DeliveryTrigger;
 use book_data::FeeIntentKind;
 use book_data::FeeResolution;

@@ -14,7 +14,7 @@ use Rattle.wire.specs.Number.{be-length, numbers-length, opt-size}
 use Rattle.wire.specs.Puts.{Puts, Size, puts-overlay}
 use Rattle.spend.specs.Forms.{encodeBundle, encodeHeight, encodeFeeIntent}
 use Rattle.archive_form.specs.Encode.{encodeHash, encodeAttempt, encodeSlot, goalNumber}
-use Rattle.answers.specs.Fits.{Fits}
+use Rattle.append.specs.Fits.{Fits}
 use Rattle.answers.specs.Forms.{flagNumber, statusNumber, dispositionNumber, encodeIds, encodeFinal, encodeDrained}
 use Rattle.answers.specs.Drain.{encodeFailure, encodeFailed, encodeSubmissions, encodeFailures}
 use Rattle.submitted.specs.Drained.{drainedBack, zeroDrained}

@@ -2,8 +2,8 @@
 // They are made first, so that a call whose answer or book does not fit leaves every lent byte.
 use answers::value::append_optional_fee_intent;
 use answers::value::append_optional_finalized;
-use answers::value::append_slot;
 use boundary_write::settle;
+use entry_write::append_slot;
 use replies::AttemptReply;
 use replies::FeeIntentReply;
 use replies::FinalizeReply;

@@ -1,7 +1,7 @@
 -- A drain's answer in an array of its own: both parts, one behind the other.
 use Prim.Native.Nat.{ℕ}
 use mathlib.Core.List.{List}
-use Rattle.answers.specs.Fits.{FitsWithin, within-join}
+use Rattle.append.specs.Fits.{FitsWithin, within-join}
 use Rattle.answers.specs.Drain.{encodeSubmissions, encodeFailures}
 use Rattle.drain_answers.specs.declared.DrainReply.{DrainReply}
 use Rattle.boundary.specs.Forms.{encodeDrain}

@@ -1,7 +1,6 @@
 // Replies with a flag, a status, a height or ids: the value's bytes, in the form of docs/DRIVER.md, into the lent answer. They are made
 // first, so that a call whose answer or book does not fit leaves every lent byte.
 use answers::part::append_flag;
-use answers::part::append_height;
 use answers::value::append_ids;
 use answers::value::append_status;
 use boundary_write::settle;
@@ -9,6 +8,7 @@ use replies::FlagReply;
 use replies::HeightReply;
 use replies::IdsReply;
 use replies::StatusReply;
+use spend_write::write::append_height;
 ghost use Rattle.wire.specs.Wire.{be};
 ghost use Rattle.spend.specs.Forms.{encodeHeight};
 ghost use Rattle.answers.specs.Forms.{flagNumber, statusNumber, encodeIds};

@@ -1,7 +1,7 @@
 // Calls that write their value into a lent buffer.
-use answers::part::append_byte;
 use answers::part::append_length;
 use answers::value::refusal_number;
+use append::append_byte;
 use driver_frame::Step;
 use driver_frame::broken;
 use driver_frame::finish;

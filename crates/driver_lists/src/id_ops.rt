@@ -1,7 +1,7 @@
 // Calls that answer a list of ids.
-use answers::part::append_byte;
 use answers::value::append_ids;
 use answers::value::refusal_number;
+use append::append_byte;
 use book_data::Ids64;
 use driver_frame::Step;
 use driver_frame::broken;

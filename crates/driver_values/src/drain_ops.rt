@@ -1,8 +1,8 @@
 // The drain.
 use answers::drained::append_failures;
 use answers::drained::append_submissions;
-use answers::part::append_byte;
 use answers::value::refusal_number;
+use append::append_byte;
 use driver_frame::Step;
 use driver_frame::finish;
 use driver_frame::finish_with;

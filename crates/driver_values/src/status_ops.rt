@@ -1,7 +1,7 @@
 // Calls that answer whether a token's attempt took them.
-use answers::part::append_byte;
 use answers::value::append_status;
 use answers::value::refusal_number;
+use append::append_byte;
 use book_data::Token;
 use driver_frame::Step;
 use driver_frame::broken;

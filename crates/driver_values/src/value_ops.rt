@@ -1,11 +1,9 @@
 // Calls that answer one value of their own: a finalised submission, a fee intent, a flag, a height, an attempt.
-use answers::part::append_byte;
 use answers::part::append_flag;
-use answers::part::append_height;
 use answers::value::append_optional_fee_intent;
 use answers::value::append_optional_finalized;
-use answers::value::append_slot;
 use answers::value::refusal_number;
+use append::append_byte;
 use book_data::Height;
 use book_data::OptionalAttempt;
 use book_data::OptionalHeight;
@@ -16,10 +14,12 @@ use driver_frame::broken;
 use driver_frame::finish;
 use driver_frame::finish_with;
 use driver_frame::say;
+use entry_write::append_slot;
 use replies::FinalizedSubmission;
 use script::cells::read_bundle;
 use script::kind::read_number;
 use script::kind::read_source;
+use spend_write::write::append_height;
 use submission::AttemptAnswer;
 use submission::FeeIntentAnswer;
 use submission::FinalizeAnswer;

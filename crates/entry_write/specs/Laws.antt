@@ -1,15 +1,13 @@
 -- The optional parts by cases, as the writers meet them.
-use mathlib.Core.Path.{_≡_, sym, ap, _∙_}
+use mathlib.Core.Path.{_≡_, sym, ap}
 use mathlib.Core.Bool.{Bool, true, false}
-use mathlib.Core.List.{List, _++_, append-assoc}
+use mathlib.Core.List.{List, _++_}
 use Prim.Native.Nat.{ℕ}
 use Rattle.wire.specs.Wire.{be, encOpt}
-use Rattle.spend.specs.Forms.{encodeBundle}
 use Rattle.book_data.specs.declared.SubmissionId.{SubmissionId}
 use Rattle.book_data.specs.declared.OptionalId.{OptionalId}
 use Rattle.book_data.specs.declared.OptionalId.the-variants.{NoId, Of}
-use Rattle.book_data.specs.declared.SubmissionBroadcastVariant.{SubmissionBroadcastVariant}
-use Rattle.archive_form.specs.Encode.{encodeVariant, encodeId}
+use Rattle.archive_form.specs.Encode.{encodeId}
 
 pub opt-no : (b : Bool) (l : List ℕ) → b ≡ false → be 1 0 ≡ encOpt b l
 unfolding encOpt
@@ -18,10 +16,6 @@ opt-no b l e = sym (ap (λ (x : Bool). encOpt x l) e)
 pub opt-yes : (b : Bool) (l : List ℕ) → b ≡ true → be 1 1 ++ l ≡ encOpt b l
 unfolding encOpt
 opt-yes b l e = sym (ap (λ (x : Bool). encOpt x l) e)
-
-pub variant-yes : (v : SubmissionBroadcastVariant) → v .«fee_bearing» ≡ true → be 1 1 ++ encodeBundle (v .bundle) ++ be 8 (v .«applied_fee») ≡ encodeVariant v
-unfolding encodeVariant
-variant-yes v e = append-assoc (be 1 1) (encodeBundle (v .bundle)) (be 8 (v .«applied_fee»)) ∙ opt-yes (v .«fee_bearing») (encodeBundle (v .bundle) ++ be 8 (v .«applied_fee»)) e
 
 pub id-no : (i : OptionalId) → i ≡ NoId → be 1 0 ≡ encodeId i
 unfolding encodeId

@@ -1,8 +1,11 @@
 // The parts of a retained submission and of a queue entry, written from place `at` on; each function returns the place behind.
 ghost use mathlib.Core.Path.{_≡_};
 ghost use Rattle.wire.specs.Wire.{be};
-ghost use Rattle.wire.specs.Puts.{Room, Puts};
+ghost use Rattle.append.specs.Fits.{Fits};
 ghost use Rattle.archive_form.specs.Encode.{goalNumber, triggerNumber, chainNumber, resolutionNumber, encodeHash, encodeAttempt, encodeSlot, encodeSlots, encodeVariant, encodeFacts, encodeSubmitted, encodeId, encodeDelivery};
+use append::append_byte;
+use append::append_bytes;
+use append::append_number;
 use book_data::AttemptSlots;
 use book_data::DeliveryAttempt;
 use book_data::DeliveryTrigger;
@@ -16,12 +19,9 @@ use book_data::SubmissionChainTerminality;
 use book_data::SubmissionDeliveryGoal;
 use book_data::SubmittedEntry;
 use book_data::SubmittedTx;
-use spend_write::write::write_bundle;
-use spend_write::write::write_fee_intent;
-use spend_write::write::write_height;
-use wire::write::put_byte;
-use wire::write::put_bytes;
-use wire::write::put_number;
+use spend_write::write::append_bundle;
+use spend_write::write::append_fee_intent;
+use spend_write::write::append_height;
 
 pub fn goal_number(g: SubmissionDeliveryGoal) -> u8
     ensures { λ r. ⌜ r ≡ goalNumber g ⌝ }
@@ -63,74 +63,68 @@ pub fn resolution_number(f: FeeResolution) -> u8
     }
 }
 
-fn write_hash(out: &mut [u8], at: usize, h: OptionalHash) -> usize
-    requires { ⌜ Room (encodeHash h) at (now out) ⌝ }
-    ensures { λ r. ⌜ Puts (encodeHash h) at (now (out .entry)) (now (out .exit)) r ⌝ }
+pub fn append_hash(out: &mut [u8], at: usize, h: OptionalHash) -> usize
+    ensures { λ r. ⌜ Fits (encodeHash h) at (now (out .entry)) (now (out .exit)) r ⌝ }
 {
     let present = h.present;
     if !present {
-        return put_byte(out, at, 0);
+        return append_byte(out, at, 0);
     }
     let hash = h.hash;
-    let e = put_byte(&mut *out, at, 1);
-    put_bytes(out, e, &hash)
+    let e = append_byte(&mut *out, at, 1);
+    append_bytes(out, e, &hash)
 }
 
-fn write_attempt(out: &mut [u8], at: usize, a: DeliveryAttempt) -> usize
-    requires { ⌜ Room (encodeAttempt a) at (now out) ⌝ }
-    ensures { λ r. ⌜ Puts (encodeAttempt a) at (now (out .entry)) (now (out .exit)) r ⌝ }
+pub fn append_attempt(out: &mut [u8], at: usize, a: DeliveryAttempt) -> usize
+    ensures { λ r. ⌜ Fits (encodeAttempt a) at (now (out .entry)) (now (out .exit)) r ⌝ }
 {
     let goal = a.goal;
     let drained = a.drained_variant_fingerprint;
     let finalized = a.finalized_variant_fingerprint;
     let g = goal_number(goal);
-    let token_end = put_number(&mut *out, at, a.token.0);
-    let goal_end = put_byte(&mut *out, token_end, g);
-    let drained_end = put_bytes(&mut *out, goal_end, &drained);
-    write_hash(out, drained_end, finalized)
+    let token_end = append_number(&mut *out, at, a.token.0);
+    let goal_end = append_byte(&mut *out, token_end, g);
+    let drained_end = append_bytes(&mut *out, goal_end, &drained);
+    append_hash(out, drained_end, finalized)
 }
 
-fn write_slot(out: &mut [u8], at: usize, a: OptionalAttempt) -> usize
-    requires { ⌜ Room (encodeSlot a) at (now out) ⌝ }
-    ensures { λ r. ⌜ Puts (encodeSlot a) at (now (out .entry)) (now (out .exit)) r ⌝ }
+pub fn append_slot(out: &mut [u8], at: usize, a: OptionalAttempt) -> usize
+    ensures { λ r. ⌜ Fits (encodeSlot a) at (now (out .entry)) (now (out .exit)) r ⌝ }
 {
     let present = a.present;
     if !present {
-        return put_byte(out, at, 0);
+        return append_byte(out, at, 0);
     }
     let attempt = a.attempt;
-    let e = put_byte(&mut *out, at, 1);
-    write_attempt(out, e, attempt)
+    let e = append_byte(&mut *out, at, 1);
+    append_attempt(out, e, attempt)
 }
 
-fn write_slots(out: &mut [u8], at: usize, s: AttemptSlots) -> usize
-    requires { ⌜ Room (encodeSlots s) at (now out) ⌝ }
-    ensures { λ r. ⌜ Puts (encodeSlots s) at (now (out .entry)) (now (out .exit)) r ⌝ }
+fn append_slots(out: &mut [u8], at: usize, s: AttemptSlots) -> usize
+    ensures { λ r. ⌜ Fits (encodeSlots s) at (now (out .entry)) (now (out .exit)) r ⌝ }
 {
     let active = s.active_attempt;
     let completed = s.completed_attempt;
-    let e = write_slot(&mut *out, at, active);
-    write_slot(out, e, completed)
+    let e = append_slot(&mut *out, at, active);
+    append_slot(out, e, completed)
 }
 
-fn write_variant(out: &mut [u8], at: usize, v: SubmissionBroadcastVariant) -> usize
-    requires { ⌜ Room (encodeVariant v) at (now out) ⌝ }
-    ensures { λ r. ⌜ Puts (encodeVariant v) at (now (out .entry)) (now (out .exit)) r ⌝ }
+fn append_variant(out: &mut [u8], at: usize, v: SubmissionBroadcastVariant) -> usize
+    ensures { λ r. ⌜ Fits (encodeVariant v) at (now (out .entry)) (now (out .exit)) r ⌝ }
 {
     let fee_bearing = v.fee_bearing;
     if !fee_bearing {
-        return put_byte(out, at, 0);
+        return append_byte(out, at, 0);
     }
     let bundle = v.bundle;
-    let mark_end = put_byte(&mut *out, at, 1);
-    let bundle_end = write_bundle(&mut *out, mark_end, bundle);
-    put_number(out, bundle_end, v.applied_fee)
+    let mark_end = append_byte(&mut *out, at, 1);
+    let bundle_end = append_bundle(&mut *out, mark_end, bundle);
+    append_number(out, bundle_end, v.applied_fee)
 }
 
 // Durable mark and fee intent, acknowledged fingerprint, chain, expiry.
-fn write_facts(out: &mut [u8], at: usize, e: SubmittedEntry) -> usize
-    requires { ⌜ Room (encodeFacts e) at (now out) ⌝ }
-    ensures { λ r. ⌜ Puts (encodeFacts e) at (now (out .entry)) (now (out .exit)) r ⌝ }
+fn append_facts(out: &mut [u8], at: usize, e: SubmittedEntry) -> usize
+    ensures { λ r. ⌜ Fits (encodeFacts e) at (now (out .entry)) (now (out .exit)) r ⌝ }
 {
     let status = e.status;
     let resolution = status.fee_resolution;
@@ -140,46 +134,43 @@ fn write_facts(out: &mut [u8], at: usize, e: SubmittedEntry) -> usize
     let acknowledged = e.wallet_acknowledged_variant;
     let m = resolution_number(resolution);
     let c = chain_number(terminality);
-    let mark_end = put_byte(&mut *out, at, m);
-    let fee_end = write_fee_intent(&mut *out, mark_end, fee_intent);
-    let acknowledged_end = write_hash(&mut *out, fee_end, acknowledged);
-    let chain_end = put_byte(&mut *out, acknowledged_end, c);
-    write_height(out, chain_end, expiry)
+    let mark_end = append_byte(&mut *out, at, m);
+    let fee_end = append_fee_intent(&mut *out, mark_end, fee_intent);
+    let acknowledged_end = append_hash(&mut *out, fee_end, acknowledged);
+    let chain_end = append_byte(&mut *out, acknowledged_end, c);
+    append_height(out, chain_end, expiry)
 }
 
-pub fn write_submitted(out: &mut [u8], at: usize, t: SubmittedTx) -> usize
-    requires { ⌜ Room (encodeSubmitted t) at (now out) ⌝ }
-    ensures { λ r. ⌜ Puts (encodeSubmitted t) at (now (out .entry)) (now (out .exit)) r ⌝ }
+pub fn append_submitted(out: &mut [u8], at: usize, t: SubmittedTx) -> usize
+    ensures { λ r. ⌜ Fits (encodeSubmitted t) at (now (out .entry)) (now (out .exit)) r ⌝ }
 {
     let slots = t.slots;
     let entry = t.entry;
     let fingerprint = entry.intent_fingerprint;
     let base = entry.base_bundle;
     let variant = entry.current_variant;
-    let id_end = put_number(&mut *out, at, entry.id.0);
-    let slots_end = write_slots(&mut *out, id_end, slots);
-    let fingerprint_end = put_bytes(&mut *out, slots_end, &fingerprint);
-    let base_end = write_bundle(&mut *out, fingerprint_end, base);
-    let variant_end = write_variant(&mut *out, base_end, variant);
-    write_facts(out, variant_end, entry)
+    let id_end = append_number(&mut *out, at, entry.id.0);
+    let slots_end = append_slots(&mut *out, id_end, slots);
+    let fingerprint_end = append_bytes(&mut *out, slots_end, &fingerprint);
+    let base_end = append_bundle(&mut *out, fingerprint_end, base);
+    let variant_end = append_variant(&mut *out, base_end, variant);
+    append_facts(out, variant_end, entry)
 }
 
-fn write_id(out: &mut [u8], at: usize, i: OptionalId) -> usize
-    requires { ⌜ Room (encodeId i) at (now out) ⌝ }
-    ensures { λ r. ⌜ Puts (encodeId i) at (now (out .entry)) (now (out .exit)) r ⌝ }
+pub fn append_id(out: &mut [u8], at: usize, i: OptionalId) -> usize
+    ensures { λ r. ⌜ Fits (encodeId i) at (now (out .entry)) (now (out .exit)) r ⌝ }
 {
     match i {
-        OptionalId::NoId => put_byte(out, at, 0),
+        OptionalId::NoId => append_byte(out, at, 0),
         OptionalId::Of(x) => {
-            let e = put_byte(&mut *out, at, 1);
-            put_number(out, e, x.0)
+            let e = append_byte(&mut *out, at, 1);
+            append_number(out, e, x.0)
         }
     }
 }
 
-pub fn write_delivery(out: &mut [u8], at: usize, d: PendingDelivery) -> usize
-    requires { ⌜ Room (encodeDelivery d) at (now out) ⌝ }
-    ensures { λ r. ⌜ Puts (encodeDelivery d) at (now (out .entry)) (now (out .exit)) r ⌝ }
+pub fn append_delivery(out: &mut [u8], at: usize, d: PendingDelivery) -> usize
+    ensures { λ r. ⌜ Fits (encodeDelivery d) at (now (out .entry)) (now (out .exit)) r ⌝ }
 {
     let intent = d.intent;
     let id = intent.id;
@@ -190,10 +181,10 @@ pub fn write_delivery(out: &mut [u8], at: usize, d: PendingDelivery) -> usize
     let goal = d.goal;
     let t = trigger_number(trigger);
     let g = goal_number(goal);
-    let id_end = write_id(&mut *out, at, id);
-    let bundle_end = write_bundle(&mut *out, id_end, bundle);
-    let expiry_end = write_height(&mut *out, bundle_end, expiry);
-    let fee_end = write_fee_intent(&mut *out, expiry_end, fee_intent);
-    let trigger_end = put_byte(&mut *out, fee_end, t);
-    put_byte(out, trigger_end, g)
+    let id_end = append_id(&mut *out, at, id);
+    let bundle_end = append_bundle(&mut *out, id_end, bundle);
+    let expiry_end = append_height(&mut *out, bundle_end, expiry);
+    let fee_end = append_fee_intent(&mut *out, expiry_end, fee_intent);
+    let trigger_end = append_byte(&mut *out, fee_end, t);
+    append_byte(out, trigger_end, g)
 }

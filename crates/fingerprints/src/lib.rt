@@ -8,9 +8,9 @@ use sha256::sha256;
 use spend_size::size_bundle;
 use spend_size::size_fee_intent;
 use spend_size::size_height;
-use spend_write::write::write_bundle;
-use spend_write::write::write_fee_intent;
-use spend_write::write::write_height;
+use spend_write::write::append_bundle;
+use spend_write::write::append_fee_intent;
+use spend_write::write::append_height;
 
 // `submission_variant_fingerprint`
 pub fn variant_fingerprint(b: SpendBundle) -> [u8; 32]
@@ -18,7 +18,7 @@ pub fn variant_fingerprint(b: SpendBundle) -> [u8; 32]
 {
     let mut form = [0u8; 1073];
     let n = size_bundle(b);
-    write_bundle(&mut form, 0, b);
+    append_bundle(&mut form, 0, b);
     sha256(&form[0..n])
 }
 
@@ -32,8 +32,8 @@ pub fn intent_fingerprint(
 {
     let mut form = [0u8; 1123];
     let n = size_bundle(b) + size_height(expiry) + size_fee_intent(f);
-    let bundle_end = write_bundle(&mut form, 0, b);
-    let expiry_end = write_height(&mut form, bundle_end, expiry);
-    write_fee_intent(&mut form, expiry_end, f);
+    let bundle_end = append_bundle(&mut form, 0, b);
+    let expiry_end = append_height(&mut form, bundle_end, expiry);
+    append_fee_intent(&mut form, expiry_end, f);
     sha256(&form[0..n])
 }

@@ -1,5 +1,5 @@
 // An item in words: what is expected of it, where it is, and its form.
-use answers::part::append_bytes;
+use append::append_bytes;
 use archive_items::Item;
 use archive_items::Position;
 use archive_items::Within;

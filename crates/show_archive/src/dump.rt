@@ -1,5 +1,5 @@
 // The bytes in hexadecimal, 16 to a line.
-use answers::part::append_bytes;
+use append::append_bytes;
 use book_report::say;
 use libc::STDOUT_FILENO;
 use text::append_spaced_hex;

@@ -1,5 +1,5 @@
 // Why bytes are no archive: the reader's place, what is expected there, and what stands there.
-use answers::part::append_bytes;
+use append::append_bytes;
 use archive_items::Item;
 use archive_items::Position;
 use archive_items::order::item_at;

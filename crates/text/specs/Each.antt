@@ -6,7 +6,7 @@ use native.Mathlib.Omega.{arith}
 use native.Mathlib.Nat.{add-zero}
 use lib.ListN.{length, getD, take}
 use Rattle.lists.specs.Laws.{take-cut}
-use Rattle.answers.specs.Fits.{Fits, fits-join, fits-as, fits-none}
+use Rattle.append.specs.Fits.{Fits, fits-join, fits-as, fits-none}
 
 -- the text of each element, the first of which has index k
 unfoldable pub eachFrom : {A : Type 0} → (ℕ → A → List ℕ) → ℕ → List A → List ℕ

@@ -4,9 +4,9 @@ ghost use mathlib.Core.Path.{_≡_};
 ghost use Prim.Native.Nat.{_≤_, _<_};
 ghost use mathlib.Core.List.{_++_};
 ghost use lib.ListN.{length, drop};
-ghost use Rattle.answers.specs.Fits.{Fits};
+ghost use Rattle.append.specs.Fits.{Fits};
 ghost use Rattle.text.specs.Numbers.{digit, decimal, hexByte, hex, spacedByte, spacedHex, numberLine, hexLine};
-use answers::part::append_bytes;
+use append::append_bytes;
 
 // The digits of n at the end of a; answers where they start.
 fn spell(n: u64, a: &mut [u8; 20]) -> usize

@@ -1,45 +1,30 @@
-use native.Mathlib.Omega.{arith}
-use Prim.Native.Nat.{_-_}
-use Rattle.wire.specs.Puts.{room-first, puts-as, room-as}
-use Rattle.archive_write.specs.Sections.{backOf, book-form, place-inside}
-use Rattle.archive_write.specs.Rest.{room-rest, join-rest, end-in}
+-- Each section goes into the rest of the buffer, and what is written so far is joined with it (`fits-both`).
+use Rattle.append.specs.Fits.{fits-as, rest-starts, fits-both}
+use Rattle.archive_write.specs.Sections.{book-form}
 use borrow.Author.Needs.{needs}
+use native.Mathlib.Omega.{arith}
 use Rattle.archive_write.proofs.write_book.Statement.{statement}
 use Rattle.archive_write.proofs.write_book.Tie as tie
 
-write-front-requires : tie.Need-write-front-requires
-write-front-requires c κs = room-first (backOf ((c .before .before .args) .b)) (room-as (book-form ((c .before .before .args) .b)) (c .before .before .pre))
-
 sub-write-back : tie.Need-sub-write-back
-sub-write-back c = place-inside (backOf ((c .before .before .before .before .before .args) .b)) (room-as (book-form ((c .before .before .before .before .before .args) .b)) (c .before .before .before .before .before .pre)) ((c .before .before .write-front) .ensures)
+sub-write-back c = rest-starts (c .before .before .write-front .ensures)
 
 part-write-back-start : tie.Need-part-write-back-start
-part-write-back-start c = place-inside (backOf ((c .before .before .before .before .before .args) .b)) (room-as (book-form ((c .before .before .before .before .before .args) .b)) (c .before .before .before .before .before .pre)) ((c .before .before .write-front) .ensures)
-
-part-write-back-end : tie.Need-part-write-back-end
-part-write-back-end c = search needs
-
-write-back-requires : tie.Need-write-back-requires
-write-back-requires c κs = room-rest (room-as (book-form ((c .before .before .before .before .before .before .args) .b)) (c .before .before .before .before .before .before .pre)) ((c .before .before .before .write-front) .ensures)
+part-write-back-start c = rest-starts (c .before .before .write-front .ensures)
 
 add-result : tie.Need-add-result
-add-result c = let r = room-as (book-form ((c .before .before .before .before .before .before .before .before .before .args) .b)) (c .before .before .before .before .before .before .before .before .before .pre) in omega (arith, end-in r (join-rest r ((c .before .before .before .before .before .before .write-front) .ensures) ((c .before .before .write-back) .ensures)))
-
-same-length : tie.Need-same-length
-same-length c = search needs
+add-result c = omega (arith, fits-both (c .before .before .before .before .before .before .write-front .ensures) _ (c .before .before .write-back .ensures) .inside (omega arith))
 
 returns : tie.Need-returns
-returns c = let r = room-as (book-form ((c .before .before .before .before .before .before .before .before .before .args) .b)) (c .before .before .before .before .before .before .before .before .before .pre) in puts-as (book-form ((c .before .before .before .before .before .before .before .before .before .args) .b)) (join-rest r ((c .before .before .before .before .before .before .write-front) .ensures) ((c .before .before .write-back) .ensures))
+returns c =
+    let the-args = c .before .before .before .before .before .before .before .before .before .args in
+    let the-write-front = c .before .before .before .before .before .before .write-front in
+    let the-write-back = c .before .before .write-back in
+    let the-pre = c .before .before .before .before .before .before .before .before .before .pre in
+    fits-as (book-form (the-args .b)) (fits-both (the-write-front .ensures) _ (the-write-back .ensures)) .puts (the-pre)
 
 pub write-book-spec : {M : Type 1} → statement M
 write-book-spec =
     tie.close
     (tie.spec
-    write-front-requires
-    sub-write-back
-    part-write-back-start
-    part-write-back-end
-    write-back-requires
-    add-result
-    same-length
-    returns)
+    (λ c κs. search needs) sub-write-back part-write-back-start (λ c. search needs) (λ c κs. search needs) add-result (λ c. search needs) returns)

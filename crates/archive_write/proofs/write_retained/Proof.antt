@@ -1,47 +1,27 @@
-use mathlib.Core.Path.{_≡_, ap}
-use Prim.Native.Nat.{_-_}
-use lib.ListN.{length, take}
+-- Each item follows the one before it (`fits-join`).
 use Rattle.lists.specs.Laws.{count-cut}
-use Rattle.wire.specs.Wire.{be, encMany}
-use Rattle.wire.specs.Puts.{room-first, room-next, puts-join, puts-as, room-as}
+use Rattle.wire.specs.Wire.{be}
+use Rattle.append.specs.Fits.{fits-join, fits-as}
 use Rattle.archive_form.specs.Encode.{encodeSubmitted}
 use Rattle.archive_write.specs.Sections.{list-form}
 use borrow.Author.Needs.{needs}
+use mathlib.Core.Path.{_≡_, ap}
+use lib.ListN.{length, take}
 use Rattle.archive_write.proofs.write_retained.Statement.{statement}
 use Rattle.archive_write.proofs.write_retained.Tie as tie
 
-at-most-requires : tie.Need-at-most-requires
-at-most-requires c κs = search needs
-
-cast-put-byte : tie.Need-cast-put-byte
-cast-put-byte c = search needs
-
-put-byte-requires : tie.Need-put-byte-requires
-put-byte-requires c κs = let a = (c .before .before .before .args) in let l : length (a .a) ≡ 16 = search needs in
-    let q = ap (be 1) (count-cut 16 (a .n) ((c .before .at-most) .result) (a .a) l ((c .before .at-most) .ensures)) in
-    room-as q (room-first (encMany encodeSubmitted (take (a .n) (a .a))) (room-as (list-form encodeSubmitted (take (a .n) (a .a))) (c .before .before .before .pre)))
-
-write-submissions-requires : tie.Need-write-submissions-requires
-write-submissions-requires c κs = let a = (c .before .before .before .before .before .before .before .args) in let l : length (a .a) ≡ 16 = search needs in
-    let q = ap (be 1) (count-cut 16 (a .n) ((c .before .before .before .before .before .at-most) .result) (a .a) l ((c .before .before .before .before .before .at-most) .ensures)) in
-    room-next (room-as (list-form encodeSubmitted (take (a .n) (a .a))) (c .before .before .before .before .before .before .before .pre)) (puts-as q ((c .before .before .before .put-byte) .ensures))
-
-same-length : tie.Need-same-length
-same-length c = search needs
-
 returns : tie.Need-returns
-returns c = let a = (c .before .before .before .before .before .before .before .before .before .before .args) in let l : length (a .a) ≡ 16 = search needs in
-    let q = ap (be 1) (count-cut 16 (a .n) ((c .before .before .before .before .before .before .before .before .at-most) .result) (a .a) l ((c .before .before .before .before .before .before .before .before .at-most) .ensures)) in
-    let f = list-form encodeSubmitted (take (a .n) (a .a)) in
-    puts-as f (puts-join (room-as f (c .before .before .before .before .before .before .before .before .before .before .pre)) (puts-as q ((c .before .before .before .before .before .before .put-byte) .ensures)) ((c .before .before .write-submissions) .ensures))
+returns c =
+    let the-args = c .before .before .before .before .before .before .before .before .before .before .args in
+    let the-at-most = c .before .before .before .before .before .before .before .before .at-most in
+    let the-append-byte = c .before .before .before .before .before .before .append-byte in
+    let the-append-submissions = c .before .before .append-submissions in
+    let l : length (the-args .a) ≡ 16 = search needs in
+    let q = ap (be 1) (count-cut 16 (the-args .n) (the-at-most .result) (the-args .a) l (the-at-most .ensures)) in
+    fits-as (list-form encodeSubmitted (take (the-args .n) (the-args .a))) (fits-join (fits-as q (the-append-byte .ensures)) (the-append-submissions .ensures))
 
 pub write-retained-spec : {M : Type 1} → statement M
 write-retained-spec =
     tie.close
     (tie.spec
-    at-most-requires
-    cast-put-byte
-    put-byte-requires
-    write-submissions-requires
-    same-length
-    returns)
+    (λ c κs. search needs) (λ c. search needs) (λ c κs. search needs) (λ c κs. search needs) (λ c. search needs) returns)

@@ -1,4 +1,4 @@
-use Rattle.answers.specs.Fits.{fits-as}
+use Rattle.append.specs.Fits.{fits-as}
 use Rattle.text.proofs.Decimal.{rest-taken}
 use native.Mathlib.Omega.{arith}
 use mathlib.Core.Path.{_≡_, refl, sym, ap, _∙_, subst}
@@ -10,7 +10,7 @@ use Rattle.text.proofs.append_decimal.Statement.{statement}
 use Rattle.text.proofs.append_decimal.Tie as tie
 use Rattle.text.proofs.append_decimal.Reads as reads
 use Rattle.text.proofs.append_decimal.Lts as lts
-use Rattle.answers.proofs.part.append_bytes.Reads as append-bytes-reads
+use Rattle.append.proofs.append_bytes.Reads as append-bytes-reads
 use Rattle.text.proofs.spell.Reads as spell-reads
 
 spell-requires : tie.Need-spell-requires

@@ -1,4 +1,4 @@
-use Rattle.answers.specs.Fits.{fits-join}
+use Rattle.append.specs.Fits.{fits-join}
 use Rattle.text.specs.Numbers.{hexLine}
 use native.Mathlib.Omega.{arith}
 use mathlib.Core.Path.{_≡_, refl, sym, ap, _∙_, subst}
@@ -10,7 +10,7 @@ use Rattle.text.proofs.append_hex_line.Statement.{statement}
 use Rattle.text.proofs.append_hex_line.Tie as tie
 use Rattle.text.proofs.append_hex_line.Reads as reads
 use Rattle.text.proofs.append_hex_line.Lts as lts
-use Rattle.answers.proofs.part.append_bytes.Reads as append-bytes-reads
+use Rattle.append.proofs.append_bytes.Reads as append-bytes-reads
 use Rattle.text.proofs.append_hex.Reads as append-hex-reads
 
 append-bytes-requires : tie.Need-append-bytes-requires

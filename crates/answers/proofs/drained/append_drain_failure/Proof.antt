@@ -1,4 +1,4 @@
-use Rattle.answers.specs.Fits.{within-as}
+use Rattle.append.specs.Fits.{within-as}
 use Rattle.answers.specs.Drain.{stageNumber, failed-parts}
 use mathlib.Core.Path.{ap, _∙_}
 use borrow.Author.Needs.{needs}

@@ -1,4 +1,4 @@
-use Rattle.answers.specs.Fits.{fits-join}
+use Rattle.append.specs.Fits.{fits-join}
 use Rattle.answers.specs.Drain.{failure-most}
 use borrow.Author.Needs.{needs}
 use Rattle.answers.proofs.drained.append_failure.Statement.{statement}

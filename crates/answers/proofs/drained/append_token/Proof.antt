@@ -1,4 +1,4 @@
-use Rattle.answers.specs.Fits.{fits-join, fits-as}
+use Rattle.append.specs.Fits.{fits-join, fits-as}
 use Rattle.answers.specs.Forms.{token-no, token-of}
 use borrow.Author.Needs.{needs}
 use Rattle.answers.proofs.drained.append_token.Statement.{statement}

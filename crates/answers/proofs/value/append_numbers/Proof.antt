@@ -1,5 +1,5 @@
 use Rattle.wire.specs.Wire.{be, encMany}
-use Rattle.answers.specs.Fits.{Fits, each-start, each-more, each-done}
+use Rattle.append.specs.Fits.{Fits, each-start, each-more, each-done}
 use borrow.Author.Needs.{needs}
 use native.Mathlib.Omega.{arith}
 use mathlib.Core.Path.{_≡_, refl}

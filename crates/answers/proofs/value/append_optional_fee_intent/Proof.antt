@@ -1,7 +1,7 @@
 use borrow.Author.Tests.{not-true, not-false}
 use Rattle.spend.specs.Forms.{encodeFeeIntent}
 use Rattle.entry_write.specs.Laws.{opt-no, opt-yes}
-use Rattle.answers.specs.Fits.{fits-join, fits-as}
+use Rattle.append.specs.Fits.{fits-join, fits-as}
 use borrow.Author.Needs.{needs}
 use Rattle.answers.proofs.value.append_optional_fee_intent.Statement.{statement}
 use Rattle.answers.proofs.value.append_optional_fee_intent.Tie as tie

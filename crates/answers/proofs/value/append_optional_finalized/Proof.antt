@@ -1,6 +1,6 @@
 use borrow.Author.Tests.{not-true, not-false}
 use Rattle.entry_write.specs.Laws.{opt-no, opt-yes}
-use Rattle.answers.specs.Fits.{fits-join, fits-as}
+use Rattle.append.specs.Fits.{fits-join, fits-as}
 use Rattle.answers.specs.Forms.{encodeFinal}
 use borrow.Author.Needs.{needs}
 use Rattle.answers.proofs.value.append_optional_finalized.Statement.{statement}

@@ -1,5 +1,5 @@
 use Rattle.lists.specs.Laws.{take-cut}
-use Rattle.answers.specs.Fits.{Fits, fits-join, fits-as, fits-none}
+use Rattle.append.specs.Fits.{Fits, fits-join, fits-as, fits-none}
 use Rattle.book_text.specs.Coins.{amountFrom, amountOf, isCoin, partsText, coinOr, coinOrBytes, coinText, parentOf, puzzleOf, coin-short, coin-long, coin-room, coin-is, read-is}
 use native.Mathlib.Nat.{sub-zero}
 use native.Mathlib.Omega.{arith}

@@ -1,4 +1,4 @@
-use Rattle.answers.specs.Fits.{Fits, fits-join, fits-as, fits-none, each-start, each-more}
+use Rattle.append.specs.Fits.{Fits, fits-join, fits-as, fits-none, each-start, each-more}
 use Rattle.book_text.specs.Bundles.{outputText, runText, spendText, bundleText, variantOr, variantText, variant-no, variant-yes, run-no, run-yes}
 use native.Mathlib.Omega.{arith}
 use mathlib.Core.Path.{_≡_, refl, sym, ap, _∙_, subst}
@@ -10,7 +10,7 @@ use Rattle.book_text.proofs.bundle.append_output.Statement.{statement}
 use Rattle.book_text.proofs.bundle.append_output.Tie as tie
 use Rattle.book_text.proofs.bundle.append_output.Reads as reads
 use Rattle.book_text.proofs.bundle.append_output.Lts as lts
-use Rattle.answers.proofs.part.append_bytes.Reads as append-bytes-reads
+use Rattle.append.proofs.append_bytes.Reads as append-bytes-reads
 use Rattle.text.proofs.append_decimal.Reads as append-decimal-reads
 use Rattle.text.proofs.append_hex_line.Reads as append-hex-line-reads
 use Rattle.text.proofs.append_number_line.Reads as append-number-line-reads

@@ -1,4 +1,4 @@
-use Rattle.answers.specs.Fits.{Fits, fits-join, fits-as, fits-none, each-start, each-more}
+use Rattle.append.specs.Fits.{Fits, fits-join, fits-as, fits-none, each-start, each-more}
 use Rattle.book_text.specs.Bundles.{outputText, runText, spendText, bundleText, variantOr, variantText, variant-no, variant-yes, run-no, run-yes}
 use Rattle.text.specs.Each.{eachFrom, nth-start, nth-more, nth-done}
 use borrow.Author.Needs.{needs}

@@ -1,4 +1,4 @@
-use Rattle.answers.specs.Fits.{Fits, fits-join, fits-as, fits-none, each-start, each-more}
+use Rattle.append.specs.Fits.{Fits, fits-join, fits-as, fits-none, each-start, each-more}
 use Rattle.book_text.specs.Coins.{amountFrom, amountOf, isCoin, partsText, coinOr, coinOrBytes, coinText, parentOf, puzzleOf, amount-turn, amount-done, coin-short, coin-long, coin-room}
 use native.Mathlib.Nat.{sub-zero}
 use Rattle.text.specs.Ascii.{ascii}

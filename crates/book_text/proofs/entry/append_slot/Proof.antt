@@ -1,4 +1,4 @@
-use Rattle.answers.specs.Fits.{Fits, fits-join, fits-as, fits-none, each-start, each-more}
+use Rattle.append.specs.Fits.{Fits, fits-join, fits-as, fits-none, each-start, each-more}
 use Rattle.book_text.specs.Entries.{attemptText, slotOr, slotText, slotsText, factsText, entryText, headingText, submissionText, deliveryText, tokenOr, tokenText, tokensText, idAfterSpace, noneOf, idsText, slot-no, slot-yes, token-no, token-yes, none-empty, none-some}
 use Rattle.text.specs.Ascii.{ascii}
 use Rattle.text.specs.Numbers.{decimal, numberLine, hexLine}
@@ -12,7 +12,7 @@ use Rattle.book_text.proofs.entry.append_slot.Statement.{statement}
 use Rattle.book_text.proofs.entry.append_slot.Tie as tie
 use Rattle.book_text.proofs.entry.append_slot.Reads as reads
 use Rattle.book_text.proofs.entry.append_slot.Lts as lts
-use Rattle.answers.proofs.part.append_bytes.Reads as append-bytes-reads
+use Rattle.append.proofs.append_bytes.Reads as append-bytes-reads
 use Rattle.book_text.proofs.entry.append_attempt.Reads as append-attempt-reads
 
 append-bytes-requires : tie.Need-append-bytes-requires

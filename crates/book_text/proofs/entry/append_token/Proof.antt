@@ -1,4 +1,4 @@
-use Rattle.answers.specs.Fits.{Fits, fits-join, fits-as, fits-none, each-start, each-more}
+use Rattle.append.specs.Fits.{Fits, fits-join, fits-as, fits-none, each-start, each-more}
 use Rattle.book_text.specs.Entries.{attemptText, slotOr, slotText, slotsText, factsText, entryText, headingText, submissionText, deliveryText, tokenOr, tokenText, tokensText, idAfterSpace, noneOf, idsText, slot-no, slot-yes, token-no, token-yes, none-empty, none-some}
 use Rattle.text.specs.Ascii.{ascii}
 use Rattle.text.specs.Numbers.{decimal, numberLine, hexLine}
@@ -12,7 +12,7 @@ use Rattle.book_text.proofs.entry.append_token.Statement.{statement}
 use Rattle.book_text.proofs.entry.append_token.Tie as tie
 use Rattle.book_text.proofs.entry.append_token.Reads as reads
 use Rattle.book_text.proofs.entry.append_token.Lts as lts
-use Rattle.answers.proofs.part.append_bytes.Reads as append-bytes-reads
+use Rattle.append.proofs.append_bytes.Reads as append-bytes-reads
 use Rattle.text.proofs.append_decimal.Reads as append-decimal-reads
 use Rattle.text.proofs.append_number_line.Reads as append-number-line-reads
 

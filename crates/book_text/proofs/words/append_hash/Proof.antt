@@ -1,4 +1,4 @@
-use Rattle.answers.specs.Fits.{Fits, fits-join, fits-as, fits-none, each-start, each-more}
+use Rattle.append.specs.Fits.{Fits, fits-join, fits-as, fits-none, each-start, each-more}
 use Rattle.book_text.specs.Words.{goalText, triggerText, chainText, resolutionText, feeIntentText, feeKindText, heightText, idText, hashText, hashOr, hash-no, hash-yes}
 use Rattle.text.specs.Ascii.{ascii}
 use Rattle.text.specs.Numbers.{decimal, numberLine, hexLine}
@@ -12,7 +12,7 @@ use Rattle.book_text.proofs.words.append_hash.Statement.{statement}
 use Rattle.book_text.proofs.words.append_hash.Tie as tie
 use Rattle.book_text.proofs.words.append_hash.Reads as reads
 use Rattle.book_text.proofs.words.append_hash.Lts as lts
-use Rattle.answers.proofs.part.append_bytes.Reads as append-bytes-reads
+use Rattle.append.proofs.append_bytes.Reads as append-bytes-reads
 use Rattle.text.proofs.append_hex_line.Reads as append-hex-line-reads
 
 append-bytes-requires : tie.Need-append-bytes-requires
