@@ -1,5 +1,5 @@
 // The archive reader: any bytes give a book, or refusal 13 with its place.
-mod section;
+pub mod section;
 
 use book_data::BookData;
 use book_data::Ids16;

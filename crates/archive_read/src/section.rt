@@ -55,7 +55,7 @@ pub fn read_numbers(s: &[u8], at: &mut usize) -> Numbers
 }
 
 // One more than n where a mark is set.
-fn marked(n: usize, mark: bool) -> usize
+pub fn marked(n: usize, mark: bool) -> usize
     requires { ⌜ n < 32 ⌝ }
     ensures { λ r. ⌜ r ≡ n + cond mark 1 0 ⌝ }
 {
