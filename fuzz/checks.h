@@ -131,10 +131,10 @@ static int foretell_queue(const struct given *g) {
 }
 
 static int foretell_rebroadcast(const struct given *g) {
-    if (g->kind > 3) {
-        return 3;
+    if (many_ids(g)) {
+        return 2;
     }
-    return many_ids(g) ? 2 : -1;
+    return g->kind > 3 ? 3 : -1;
 }
 
 static int foretell_retained(const struct given *g) {
@@ -190,10 +190,10 @@ static int foretell_rolled_back(const struct given *g) {
 }
 
 static int foretell_reconcile(const struct given *g) {
-    if (g->kind > 1) {
-        return 3;
+    if (!is_coin_list(&g->one) || !is_coin_ids(&g->two) || many_ids(g)) {
+        return 2;
     }
-    return is_coin_list(&g->one) && is_coin_ids(&g->two) && !many_ids(g) ? -1 : 2;
+    return g->kind > 1 ? 3 : -1;
 }
 
 /* ---- the answer and the book of an accepted call; each says how many bytes its answer has */

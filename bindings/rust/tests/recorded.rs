@@ -537,7 +537,7 @@ fn lists() -> Vec<(String, Vec<u8>, Vec<u8>)> {
 #[test]
 fn the_recorded_lists() {
     let lists = lists();
-    assert!(lists.len() >= 31, "{} lists", lists.len());
+    assert!(lists.len() >= 27, "{} lists", lists.len());
     for (name, script, output) in lists {
         let player = play(&script);
         let same = player.out.iter().zip(&output).take_while(|(a, b)| a == b).count();

@@ -8,6 +8,7 @@ use mathlib.Core.List.{List, []}
 use mathlib.Core.Option.{Option, none, some}
 use native.Mathlib.Omega.{arith}
 use lib.Dec.{eqb}
+use lib.ListN.{length}
 use Rattle.lists.specs.Laws.{or-false}
 use Rattle.wire.specs.Wire.{overlay}
 use Rattle.book_data.specs.Model.{Book, view}
@@ -22,7 +23,8 @@ use Rattle.rules.specs.Rule.{DrainedSubmission, Outcome, ended, undone, stopped
 use Rattle.rules.specs.Steps.{runBook}
 use Rattle.boundary.specs.Held.{bookBytes, heldIn}
 use Rattle.boundary.specs.Settle.{Left, settled}
-use Rattle.answer_laws.specs.Kind.{kindOf, isDrain, asksRoom}
+use Rattle.answer_laws.specs.Kind.{Kind, kindOf, isDrain, asksRoom}
+use Rattle.replies.specs.Values.{bytesBy}
 use Rattle.answer_laws.specs.Turned.{TurnedAway, turned-away}
 use Rattle.boundary_laws.specs.Fits.{formOf}
 use Rattle.boundary_laws.specs.Lent.{held-holds, Wrote, wrote, short, written-as}
@@ -50,13 +52,14 @@ pub data Ended (d : List ℕ) : Function → Returned → Type 0 where
   open-ended : (token id : ℕ) {n : ℕ} {d′ : List ℕ} → OpenDid d token id n d′ → Ended d (Open token id) (back n d′)
   read-ended : (archive : List ℕ) (place : ℕ) {n : ℕ} {d′ : List ℕ} {p : ℕ} → ReadDid d archive place n d′ p → Ended d (Read archive place) (counted n d′ [] p)
 
--- the new book m and the bytes s of the answer
-pub data Says (d : List ℕ) : Function → Book → List ℕ → Type 0 where
+-- the new book m, the bytes s of the answer, and the number n that then stands in the lent one: the length of a coin list or an archive that
+-- was written, else the old one
+pub data Says (d : List ℕ) : Function → Book → List ℕ → ℕ → Type 0 where
   call-says : (c : CCall) (k : Call) (m : Book) {m′ : Book} {xs : List DrainedSubmission} {v : Value}
       → heldIn d ≡ some m → callOf c ≡ asks k → runBook (rules encodeModel k) m ≡ ended m′ xs v
-      → Says d (OnBook c) m′ (formOf (kindOf k) xs v)
-  open-says : (token id : ℕ) → Says d (Open token id) (opened token id) []
-  read-says : (archive : List ℕ) (place : ℕ) (b : BookData) → readArchive archive ≡ book b → Says d (Read archive place) (view b) []
+      → Says d (OnBook c) m′ (formOf (kindOf k) xs v) (cond (asksRoom (kindOf k)) (length (formOf (kindOf k) xs v)) (lent c .count))
+  open-says : (token id : ℕ) → Says d (Open token id) (opened token id) [] 0
+  read-says : (archive : List ℕ) (place : ℕ) (b : BookData) → readArchive archive ≡ book b → Says d (Read archive place) (view b) [] place
 
 -- the drain that runs out of tokens, and the book that it leaves
 pub data Stops (d : List ℕ) : Function → Book → Type 0 where
@@ -66,7 +69,8 @@ pub data Stops (d : List ℕ) : Function → Book → Type 0 where
 -- what a function leaves in the lent memory
 pub data Demand1 (f : Function) (d : List ℕ) (r : Returned) : Type 0 where
   -- 0: the new book, the answer, and the old bytes behind them
-  new-book : (m : Book) (s : List ℕ) → Says d f m s → r .number ≡ 0 → r .book ≡ overlay (bookBytes m) d → r .answer ≡ overlay s (lentTo f .answer) → Demand1 f d r
+  new-book : (m : Book) (s : List ℕ) (n : ℕ) → Says d f m s n → r .number ≡ 0 → r .book ≡ overlay (bookBytes m) d → r .answer ≡ overlay s (lentTo f .answer) → r .count ≡ n
+      → Demand1 f d r
   -- every other number: every lent byte stays
   old-bytes : (r .number ≡ 0 → ⊥) → r .book ≡ d → r .answer ≡ lentTo f .answer → r .count ≡ lentTo f .count → Demand1 f d r
   -- 11: the book alone
@@ -75,11 +79,25 @@ pub data Demand1 (f : Function) (d : List ℕ) (r : Returned) : Type 0 where
   no-archive : (archive : List ℕ) (place : ℕ) → f ≡ Read archive place → readArchive archive ≡ broken (r .count) → r .number ≡ 13 → r .book ≡ d → r .answer ≡ lentTo f .answer → Demand1 f d r
 
 -- ---- calls
+tells : (k : Kind) (xs : List DrainedSubmission) (v : Value) (n : ℕ) → cond (asksRoom k && eqb 0 0) (length (bytesBy v)) n ≡ cond (asksRoom k) (length (formOf k xs v)) n
+tells Kind.nothing xs v n = refl
+tells Kind.status xs v n = refl
+tells Kind.flag xs v n = refl
+tells Kind.height xs v n = refl
+tells Kind.ids xs v n = refl
+tells Kind.attempt xs v n = refl
+tells Kind.feeIntent xs v n = refl
+tells Kind.final xs v n = refl
+tells Kind.drained xs v n = refl
+tells (Kind.inputCoins room) xs v n = refl
+tells (Kind.absentOutputs room) xs v n = refl
+tells (Kind.archive room) xs v n = refl
+
 module _ (d : List ℕ) (c : CCall) (k : Call) (m : Book) (e : heldIn d ≡ some m) (q : callOf c ≡ asks k) where
   ended-as : (x : Book) (xs : List DrainedSubmission) (v : Value) → runBook (rules encodeModel k) m ≡ ended x xs v
       → (t : Bool) (l : Left) → Wrote 0 x (formOf (kindOf k) xs v) d (lent c .answer) t l
       → Demand1 (OnBook c) d (counted (l .number) (l .book) (l .answer) (cond (asksRoom (kindOf k) && eqb (l .number) 0) (lengthBy (lent c .count) (ended x xs v)) (lent c .count)))
-  ended-as x xs v p true l (wrote h) = new-book x (formOf (kindOf k) xs v) (call-says c k m e q p) refl refl refl
+  ended-as x xs v p true l (wrote h) = new-book x (formOf (kindOf k) xs v) _ (call-says c k m e q p) refl refl refl (tells (kindOf k) xs v (lent c .count))
   ended-as x xs v p false l short = old-bytes (λ z. omega arith) refl refl (go (asksRoom (kindOf k)))
     where
       go : (t : Bool) → cond (t && eqb 12 0) (lengthBy (lent c .count) (ended x xs v)) (lent c .count) ≡ lent c .count
@@ -114,10 +132,10 @@ held-as d c (no-book e) = old-bytes (λ z. omega arith) refl refl refl
 held-as d c (one-book m e h) = told-as d c m e (callOf c) refl
 
 -- ---- opening and reading
-put-as : (f : Function) (d : List ℕ) (m : Book) (k : ℕ) → lentTo f ≡ record { answer = []; count = k } → Says d f m [] → {n : ℕ} {d′ : List ℕ}
+put-as : (f : Function) (d : List ℕ) (m : Book) (k : ℕ) → lentTo f ≡ record { answer = []; count = k } → Says d f m [] k → {n : ℕ} {d′ : List ℕ}
     → (t : Bool) (l : Left) → Wrote 0 m [] d [] t l → n ≡ l .number → d′ ≡ l .book → Demand1 f d (counted n d′ [] k)
 unfolding overlay
-put-as f d m k e s true l (wrote h) a b = new-book m [] s a b (ap (λ (x : Lent). overlay [] (x .answer)) (sym e))
+put-as f d m k e s true l (wrote h) a b = new-book m [] k s a b (ap (λ (x : Lent). overlay [] (x .answer)) (sym e)) refl
 put-as f d m k e s false l short a b = old-bytes (λ z. omega arith) b (ap (λ (x : Lent). x .answer) (sym e)) (ap (λ (x : Lent). x .count) (sym e))
 
 read-as : (d archive : List ℕ) (place : ℕ) (x : ArchiveRead) → readArchive archive ≡ x → {n : ℕ} {d′ : List ℕ} {p : ℕ} → GivesPlace (readInto x d place) n d′ p
