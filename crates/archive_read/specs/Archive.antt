@@ -1,7 +1,7 @@
 -- What the reader of an archive answers.
 use Prim.Native.Nat.{ℕ, zero, _-_, _≤_, _<_}
 use mathlib.Core.Path.{_≡_, refl, sym, ap, _∙_, subst}
-use mathlib.Core.Bool.{Bool, true, false}
+use mathlib.Core.Bool.{Bool, true, false, cond}
 use mathlib.Core.List.{List, [], map}
 use borrow.Author.Tests.{lt-leb, le-leb, lt-ltb, le-ltb}
 use native.Mathlib.Omega.{arith}
@@ -20,6 +20,7 @@ use Rattle.book_data.specs.declared.PendingDelivery.{PendingDelivery}
 use Rattle.book_data.specs.declared.Ids16.{Ids16}
 use Rattle.book_data.specs.declared.Ids64.{Ids64}
 use Rattle.book_data.specs.declared.BookData.{BookData}
+use Rattle.archive_form.specs.Answer as answer
 use Rattle.archive_form.specs.Parse.{parseNumbers, parseDelivery, parseRetired, parseHeight, parseReplayed, parseModel, parseWhole, readArchive, archiveRead, ArchiveRead, book, broken}
 use Rattle.archive_read.specs.Sections.{ReadsRetained}
 use Rattle.archive_read.specs.declared.ReadArchive.{ReadArchive}
@@ -40,6 +41,19 @@ zeroBook = back (record {
 abbrev pub archiveAnswer : ArchiveRead → ReadArchive
 archiveAnswer (book b) = record { ok = true; place = 0; book = b }
 archiveAnswer (broken e) = record { ok = false; place = e; book = zeroBook }
+
+-- paper 01's number and values of what is returned: the book; or 13, with its place
+abbrev pub answerOf : ReadArchive → answer.ReadAnswer
+answerOf r = cond (r .ok) (answer.read (r .book)) (answer.refused 13 (r .place))
+
+-- what the reader promises
+pub record Answered (x : ArchiveRead) (r : ReadArchive) : Type 0 where
+  pub number : answerOf r ≡ answer.readAnswer x
+  pub value : r ≡ archiveAnswer x
+
+pub answered : (x : ArchiveRead) {r : ReadArchive} → r ≡ archiveAnswer x → Answered x r
+answered (book b) e = record { number = ap answerOf e; value = e }
+answered (broken k) e = record { number = ap answerOf e; value = e }
 
 -- b is a model that was read, in its cells
 pub record ReadsBook (s : List ℕ) (c : ℕ) (b : BookData) (e : ℕ) : Type 0 where

@@ -15,7 +15,7 @@ use spend_read::part::read_height;
 ghost use mathlib.Core.Path.{_≡_};
 ghost use mathlib.Core.Bool.{true, false};
 ghost use Rattle.archive_form.specs.Parse.{readArchive};
-ghost use Rattle.archive_read.specs.Archive.{ReadsBook, zeroBook, archiveAnswer};
+ghost use Rattle.archive_read.specs.Archive.{ReadsBook, zeroBook, Answered};
 
 // `place` is that of a refusal; with a book it is 0. With a refusal the book is zero.
 pub struct ReadArchive {
@@ -97,7 +97,7 @@ fn read_book(s: &[u8], at: &mut usize) -> BookData
 }
 
 pub fn read_archive(s: &[u8]) -> ReadArchive
-    ensures { λ r. ⌜ r ≡ archiveAnswer (readArchive (now (s .entry))) ⌝ }
+    ensures { λ r. ⌜ Answered (readArchive (now (s .entry))) r ⌝ }
 {
     let mut at: usize = 0;
     let book = read_book(s, &mut at);

@@ -18,7 +18,7 @@ read-archive-requires : tie.Need-read-archive-requires
 read-archive-requires c κs = search needs
 
 returns : tie.Need-returns
-returns c = nothing-held (c .read-archive .ensures)
+returns c = nothing-held (c .read-archive .ensures .value)
 
 pub absent-spec : {M : Type 1} → statement M
 absent-spec =

@@ -46,7 +46,7 @@ returns-3 c =
     let each-within = c .before .before .each-within in
     let if1 = c .before .before .before .before .before .if1 in
     let h = has-long (read-number .result) (args .d .now) _ (has .ensures) (if2 .left) in
-    held-read (args .d .now) (read-archive .result) (each-within .ensures) (read-number .ensures) (if1 .left) h (read-archive .ensures)
+    held-read (args .d .now) (read-archive .result) (each-within .ensures) (read-number .ensures) (if1 .left) h (read-archive .ensures .value)
 
 pub held-spec : {M : Type 1} → statement M
 held-spec =

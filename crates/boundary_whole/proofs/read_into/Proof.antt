@@ -7,7 +7,7 @@ read-archive-requires : tie.Need-read-archive-requires
 read-archive-requires c κs = search needs
 
 returns : tie.Need-returns
-returns c = read-broken _ _ _ _ (c .before .read-archive .ensures) (c .if1 .taken)
+returns c = read-broken _ _ _ _ (c .before .read-archive .ensures .value) (c .if1 .taken)
 
 put-back-requires : tie.Need-put-back-requires
 put-back-requires c κs = search needs
@@ -16,7 +16,7 @@ same-length : tie.Need-same-length
 same-length c = search needs
 
 returns-2 : tie.Need-returns-2
-returns-2 c = read-whole _ _ _ _ (c .before .before .before .before .before .read-archive .ensures) (c .before .before .before .before .if1 .left) (c .before .before .put-back .ensures)
+returns-2 c = read-whole _ _ _ _ (c .before .before .before .before .before .read-archive .ensures .value) (c .before .before .before .before .if1 .left) (c .before .before .put-back .ensures)
 
 pub read-into-spec : {M : Type 1} → statement M
 read-into-spec =
