@@ -1,3 +1,4 @@
+-- The opened book, put back.
 use Rattle.boundary_whole.specs.Whole.{opened-given}
 use borrow.Author.Needs.{needs}
 use Rattle.boundary_whole.proofs.open_into.Statement.{statement}

@@ -1,3 +1,4 @@
+-- Not an archive: 13 with its place. Else its book, put back.
 use Rattle.boundary_whole.specs.Whole.{read-broken, read-whole}
 use borrow.Author.Needs.{needs}
 use Rattle.boundary_whole.proofs.read_into.Statement.{statement}

@@ -1,3 +1,4 @@
+-- No book: 1. No room: 12. Else the archive, and its length.
 use borrow.Author.Tests.{not-true, not-false}
 use Rattle.boundary_whole.specs.Whole.{write-absent, write-short, write-whole}
 use borrow.Author.Needs.{needs}

@@ -1,3 +1,4 @@
+-- The answer's number, and the book put back.
 use mathlib.Core.Path.{ap, _∙_}
 use Rattle.boundary.specs.Settle.{gives-book-as, finish-done, written}
 use Rattle.book_data.specs.Model.{view}
@@ -17,7 +18,10 @@ same-length : tie.Need-same-length
 same-length c = search needs
 
 returns : tie.Need-returns
-returns c = gives-book-as (ap (λ (n : ℕ). written n (view (c .before .before .before .before .before .before .before .args .r .book)) [] (c .before .before .before .before .before .before .before .args .book .now) []) (c .before .before .before .before .refusal-number .ensures) ∙ finish-done (c .before .before .before .before .before .before .before .args .r .answer) (c .before .before .before .before .before .before .before .args .r .book) (c .before .before .before .before .before .before .before .args .book .now) []) (c .before .before .put-back .ensures)
+returns c = let s = c .before .before .before .before .before .before .before .args in
+    gives-book-as
+    (ap (λ (n : ℕ). written n (view (s .r .book)) [] (s .book .now) []) (c .before .before .before .before .refusal-number .ensures) ∙ finish-done (s .r .answer) (s .r .book) (s .book .now) [])
+    (c .before .before .put-back .ensures)
 
 pub settle-done-spec : {M : Type 1} → statement M
 settle-done-spec =

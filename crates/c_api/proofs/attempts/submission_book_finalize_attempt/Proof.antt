@@ -1,3 +1,4 @@
+-- One law of specs/Arguments for each way out, in the order of the checks.
 use Rattle.c_api.specs.Arguments.{finalize-absent, source-bad, joined-bad, finalize-done}
 use borrow.Author.Tests.{not-true, not-false}
 use borrow.Author.Needs.{needs}

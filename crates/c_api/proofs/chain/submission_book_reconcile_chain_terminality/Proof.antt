@@ -1,3 +1,4 @@
+-- One law of specs/Arguments for each way out, in the order of the checks.
 use borrow.Author.Tests.{not-true, not-false}
 use Rattle.c_api.specs.Arguments.{lists-are, report-absent, report-unlisted, report-bad, report-done}
 use borrow.Author.Needs.{needs}

@@ -1,3 +1,4 @@
+-- One law of specs/Arguments for each way out, in the order of the checks.
 use borrow.Author.Tests.{not-true, not-false}
 use Rattle.archive_form.specs.Parse.{parseTrigger}
 use Rattle.boundary.specs.Arguments.{byte-bad, byte-got}

@@ -1,3 +1,4 @@
+-- The contract of `write_from` is the function's.
 use Rattle.c_api.specs.Functions.{write-did}
 use borrow.Author.Needs.{needs}
 use Rattle.c_api.proofs.whole.submission_book_write.Statement.{statement}
