@@ -5,10 +5,10 @@ use cursor::FAR;
 use cursor::read_number;
 use wire_bytes::read::has;
 ghost use mathlib.Core.Path.{_≡_};
-ghost use mathlib.Core.Bool.{false};
 ghost use Prim.Native.Nat.{_<_};
 ghost use Rattle.book_data.specs.Typed.{Every, U8};
 ghost use Rattle.boundary.specs.Held.{HeldAnswer};
+ghost use Rattle.boundary_read.specs.Part.{PartAnswer};
 
 fn within(x: u8) -> bool
     ensures { λ _. ⌜ x < 256 ⌝ }
@@ -27,27 +27,37 @@ fn each_within(s: &[u8])
     }
 }
 
-// No bytes are no archive.
-fn absent(d: &[u8]) -> ReadArchive
-    ensures { λ r. ⌜ r .ok ≡ false ⌝ }
-{
-    read_archive(&d[0..0])
+// Where the archive stands in the lent bytes.
+struct Part {
+    start: usize,
+    stop: usize,
 }
 
-// The reader's own answer is handed on: a struct of its own would cost the stack two more books in every call.
-pub fn held(d: &[u8]) -> ReadArchive
-    ensures { λ r. ⌜ HeldAnswer (now (d .entry)) r ⌝ }
+fn part_of(d: &[u8]) -> Part
+    ensures { λ r. ⌜ PartAnswer (now (d .entry)) (r .start) (r .stop) ⌝ }
 {
     let mut at: usize = 0;
     let length = read_number(d, &mut at) as usize;
     if FAR <= at {
-        return absent(d);
+        return Part { start: 0, stop: 0 };
     }
     let room = has(d, at, length);
     if !room {
-        return absent(d);
+        return Part { start: 0, stop: 0 };
     }
+    Part {
+        start: at,
+        stop: at + length,
+    }
+}
+
+// The reader's own answer is handed on, from one place: a second one, or a struct of its own, would cost every call a copy of the book.
+pub fn held(d: &[u8]) -> ReadArchive
+    ensures { λ r. ⌜ HeldAnswer (now (d .entry)) r ⌝ }
+{
     each_within(d);
-    let end = at + length;
-    read_archive(&d[at..end])
+    let p = part_of(d);
+    let start = p.start;
+    let stop = p.stop;
+    read_archive(&d[start..stop])
 }
