@@ -10,7 +10,6 @@ use book_change::remove_submitted;
 use book_change::retire;
 use book_data::BookData;
 use book_data::Token;
-use book_sound::is_sound;
 use replies::StatusReply;
 use replies::SubmissionAttemptStatus;
 ghost use Prim.Native.Nat.{_<_};
@@ -21,18 +20,8 @@ ghost use Rattle.book_data.specs.Model.{view};
 ghost use Rattle.book_data.specs.Sound.{soundb};
 ghost use Rattle.rules.specs.Steps.{runBook};
 ghost use Rattle.rules.specs.Calls.AbandonAttempt.{abandonLive, abandonAttempt};
-ghost use Rattle.replies.specs.Reply.{outcomeOf, statusReply};
+ghost use Rattle.replies.specs.Reply.{statusReply};
 ghost use Rattle.attempt_answers.specs.Live.{at};
-
-pub fn abandon_attempt(b: BookData, t: Token) -> StatusReply
-    ensures { λ r. ⌜ r ≡ statusReply b (outcomeOf b (abandonAttempt (t .0))) ⌝ }
-{
-    let sound = is_sound(b);
-    if !sound {
-        return status_refused(b, 1);
-    }
-    abandon_attempt_sound(b, t)
-}
 
 pub fn abandon_attempt_sound(b: BookData, t: Token) -> StatusReply
     requires { ⌜ soundb b ≡ true ⌝ }

@@ -9,7 +9,6 @@ use book_change::unqueue;
 use book_data::BookData;
 use book_data::SubmittedTx;
 use book_data::Token;
-use book_sound::is_sound;
 use lists::same32;
 use replies::StatusReply;
 use replies::SubmissionAttemptStatus;
@@ -28,18 +27,8 @@ ghost use Rattle.rules.specs.Steps.{withEntry, withSlots, runBook};
 ghost use Rattle.rules.specs.Steps.Entry.{revised};
 ghost use Rattle.rules.specs.Steps.Slots.{slotsAside};
 ghost use Rattle.rules.specs.Calls.AcknowledgeAttempt.{acknowledgeLive, acknowledgeAttempt};
-ghost use Rattle.replies.specs.Reply.{outcomeOf, statusReply};
+ghost use Rattle.replies.specs.Reply.{statusReply};
 ghost use Rattle.attempt_answers.specs.Live.{at};
-
-pub fn acknowledge_attempt(b: BookData, t: Token) -> StatusReply
-    ensures { λ r. ⌜ r ≡ statusReply b (outcomeOf b (acknowledgeAttempt (t .0))) ⌝ }
-{
-    let sound = is_sound(b);
-    if !sound {
-        return status_refused(b, 1);
-    }
-    acknowledge_attempt_sound(b, t)
-}
 
 pub fn acknowledge_attempt_sound(b: BookData, t: Token) -> StatusReply
     requires { ⌜ soundb b ≡ true ⌝ }

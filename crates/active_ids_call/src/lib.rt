@@ -1,13 +1,11 @@
 // `active_ids`: the ids of the Active submissions, in their order. Nothing changes.
 use book_data::BookData;
 use book_data::Ids16;
-use book_sound::is_sound;
 use ids::empty16;
 use ids::push16;
 use ids::widened;
 use replies::CallAnswer;
 use replies::IdsReply;
-use replies::refused_ids;
 use submitted::entry::active_entry;
 ghost use mathlib.Core.Path.{_≡_};
 ghost use mathlib.Core.Bool.{true};
@@ -15,7 +13,7 @@ ghost use Rattle.book_data.specs.Model.{view, ids16};
 ghost use Rattle.book_data.specs.Sound.{soundb};
 ghost use Rattle.rules.specs.Steps.{runBook};
 ghost use Rattle.rules.specs.Calls.ActiveIds.{activeIds};
-ghost use Rattle.replies.specs.Reply.{outcomeOf, idsReply};
+ghost use Rattle.replies.specs.Reply.{idsReply};
 ghost use Rattle.book_cells.specs.Normal.{Normal};
 ghost use Rattle.active_ids_call.specs.Active.{activeIn};
 
@@ -39,16 +37,6 @@ fn active_in(b: BookData) -> Ids16
         }
     }
     out
-}
-
-pub fn active_ids(b: BookData) -> IdsReply
-    ensures { λ r. ⌜ r ≡ idsReply b (outcomeOf b activeIds) ⌝ }
-{
-    let sound = is_sound(b);
-    if !sound {
-        return refused_ids(b, 1);
-    }
-    active_ids_sound(b)
 }
 
 pub fn active_ids_sound(b: BookData) -> IdsReply

@@ -6,7 +6,6 @@ use book_cells::submitted_at;
 use book_data::BookData;
 use book_data::OptionalAttempt;
 use book_data::Token;
-use book_sound::is_sound;
 use replies::AttemptReply;
 use replies::CallAnswer;
 use slots::filled;
@@ -16,21 +15,7 @@ ghost use Rattle.book_data.specs.Model.{view};
 ghost use Rattle.book_data.specs.Sound.{soundb};
 ghost use Rattle.rules.specs.Steps.{runBook};
 ghost use Rattle.rules.specs.Calls.Attempt.{attempt as attemptRule};
-ghost use Rattle.replies.specs.Reply.{outcomeOf, attemptReply};
-
-pub fn attempt(b: BookData, t: Token) -> AttemptReply
-    ensures { λ r. ⌜ r ≡ attemptReply b (outcomeOf b (attemptRule (t .0))) ⌝ }
-{
-    let sound = is_sound(b);
-    if !sound {
-        return AttemptReply {
-            answer: CallAnswer::Refused(1),
-            attempt: OptionalAttempt::zero(),
-            book: b,
-        };
-    }
-    attempt_sound(b, t)
-}
+ghost use Rattle.replies.specs.Reply.{attemptReply};
 
 pub fn attempt_sound(b: BookData, t: Token) -> AttemptReply
     requires { ⌜ soundb b ≡ true ⌝ }

@@ -25,11 +25,10 @@ use Rattle.rules.specs.Opened.{opened}
 use Rattle.rules.specs.Rule.{Outcome, issuedBy}
 use Rattle.rules.specs.Steps.{runBook}
 use Rattle.rule_laws.specs.Sound.Run.{sound-opened}
-use Rattle.sound_steps.specs.Door.{door-open}
 use Rattle.typed_laws.specs.Theorems.{within-opened}
 use Rattle.ledger.specs.Tidy.{Chained}
 use Rattle.submission.specs.Book.{outcome}
-use Rattle.submission.specs.Calls.{last-link}
+use Rattle.submission.specs.Calls.{last-link, outcome-after}
 use Rattle.demands.specs.Demand3.{Demand3, demand-3, programBook, tokensAt, issuedAt}
 use Rattle.boundary.specs.Held.{bookBytes, heldIn}
 use Rattle.boundary.specs.Settle.{Left, written-fits}
@@ -74,13 +73,6 @@ module _ (o i : ℕ) (d : List ℕ) where
     -- the answer of every drain of the list that is not refused
     pub drained : (before : List CCall) (a : List ℕ) (rest : List CCall) → cs ≡ before ++ CCall.Drain a ∷ rest
         → (qs : List Returned) (r : Returned) (ss : List Returned) → rs ≡ qs ++ r ∷ ss → length qs ≡ length before → r .number ≡ 0 → DrainTold before cs a r
-
--- the outcome of a call on the program's book is the rules'
-outcome-by : (o i : ℕ) (cs : List Call) (c : Call) → outcome (programBook o i cs) c ≡ runBook (rules encodeModel c) (bookAfter encodeModel cs (opened o i))
-unfolding outcome
-outcome-by o i cs c =
-    let l = last-link o i cs in
-    door-open (programBook o i cs .parts) (rules encodeModel c) (l .sound) ∙ ap (runBook (rules encodeModel c)) (l .book)
 
 -- ---- the theorem: `submission_book_open` on memory of any content and at least 30 bytes, and then any list of calls
 pub library : (o i : ℕ) → U64 o → U64 i → (d : List ℕ) → 30 ≤ length d → {n : ℕ} {d₁ : List ℕ} → OpenDid d o i n d₁
@@ -130,6 +122,6 @@ library o i to ti d room {n} {d₁} g {cs} {rs} {e} t ran =
         told before a r x = record {
           rest = x .rest;
           heard = x .heard;
-          bytes = x .bytes ∙ ap (λ (w : Outcome Book Value). overlay (drainForm (issuedBy w) (valueBy w)) a) (sym (outcome-by o i (callsFrom o i d before) Call.Drain));
+          bytes = x .bytes ∙ ap (λ (w : Outcome Book Value). overlay (drainForm (issuedBy w) (valueBy w)) a) (sym (outcome-after o i (callsFrom o i d before) Call.Drain));
           predecessors = demand .behind11 (callsFrom o i d before) (x .rest) (x .heard);
         }

@@ -4,7 +4,6 @@ use book_change::clear_pending;
 use book_change::set_epoch;
 use book_data::BookData;
 use book_data::Ids16;
-use book_sound::is_sound;
 use ids::rising16;
 use replay::clear;
 use replies::CallAnswer;
@@ -19,7 +18,7 @@ ghost use Rattle.book_data.specs.Model.{view, ids16};
 ghost use Rattle.book_data.specs.Sound.{idOf, soundb};
 ghost use Rattle.rules.specs.Steps.{runBook};
 ghost use Rattle.rules.specs.Calls.ClearLocalArtifacts.{clearLocalArtifacts};
-ghost use Rattle.replies.specs.Reply.{outcomeOf, doneReply};
+ghost use Rattle.replies.specs.Reply.{doneReply};
 ghost use Rattle.book_cells.specs.Normal.{Normal};
 
 // The ids of all submissions, rising.
@@ -29,16 +28,6 @@ fn all_to_remove(b: BookData) -> Ids16
 {
     let held = submitted_ids(b);
     rising16(held)
-}
-
-pub fn clear_local_artifacts(b: BookData) -> DoneReply
-    ensures { λ r. ⌜ r ≡ doneReply b (outcomeOf b clearLocalArtifacts) ⌝ }
-{
-    let sound = is_sound(b);
-    if !sound {
-        return refused_done(b, 1);
-    }
-    clear_local_artifacts_sound(b)
 }
 
 pub fn clear_local_artifacts_sound(b: BookData) -> DoneReply

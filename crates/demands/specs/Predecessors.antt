@@ -18,7 +18,6 @@ use Rattle.rules.specs.Steps.{runBook}
 use Rattle.submitted.specs.Drained.{tokenOf, tokenBack, drainedBack, zeroDrained}
 use Rattle.submitted.specs.declared.DrainedSubmission.{DrainedSubmission}
 use Rattle.drain_answers.specs.DrainReply.{drainedBy}
-use Rattle.sound_steps.specs.Door.{door-open}
 use Rattle.replies.specs.Reply.{answerOf}
 use Rattle.replies.specs.declared.CallAnswer.the-variants.{Done}
 use Rattle.ledger.specs.Tidy.{Issue, lastTo, grown, Chained}
@@ -26,7 +25,7 @@ use Rattle.submission.specs.declared.SubmissionBook.{SubmissionBook}
 use Rattle.submission.specs.declared.DrainAnswer.{DrainAnswer}
 use Rattle.submission.specs.Answers.{drainAnswer}
 use Rattle.submission.specs.Book.{outcome}
-use Rattle.submission.specs.Calls.{after, openedBook, last-link}
+use Rattle.submission.specs.Calls.{after, openedBook, outcome-after}
 
 -- the submissions in the answer
 abbrev pub handedOut : DrainAnswer → List DrainedSubmission
@@ -52,10 +51,8 @@ issued-is c b = refl
 
 pub issued-by : (token id : ℕ) (before : List Call) (c : Call)
     → issuedBy (outcome (after before (openedBook token id)) c) ≡ issuedBook encodeModel c (bookAfter encodeModel before (opened token id))
-unfolding outcome
 issued-by token id before c =
-    let l = last-link token id before in
-    ap issuedBy (door-open (after before (openedBook token id) .parts) (rules encodeModel c) (l .sound) ∙ ap (runBook (rules encodeModel c)) (l .book))
+    ap issuedBy (outcome-after token id before c)
     ∙ issued-is c (bookAfter encodeModel before (opened token id))
 
 token-of : (t : Option ℕ) → tokenOf (tokenBack t) ≡ t

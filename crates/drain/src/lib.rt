@@ -12,7 +12,6 @@ use book_data::Ids16;
 use book_data::OptionalId;
 use book_data::PendingDelivery;
 use book_data::SubmissionId;
-use book_sound::is_sound;
 use drain_answers::DrainFailureCause;
 use drain_answers::DrainReply;
 use drain_answers::SubmissionDrainFailure;
@@ -38,14 +37,13 @@ ghost use Prim.Native.Nat.{_≤_, _<_};
 ghost use lib.ListN.{length, getD};
 ghost use Rattle.lists.specs.Lists.{pushNew};
 ghost use Rattle.book_data.specs.Zero.{zeroSubmitted};
-ghost use Rattle.book_data.specs.Model.{view, back, list16, ids16};
+ghost use Rattle.book_data.specs.Model.{view, back, list16};
 ghost use Rattle.book_data.specs.Sound.{idOf, soundb};
 ghost use Rattle.rules.specs.Parts.{intentOf};
 ghost use Rattle.rules.specs.Rule.{retire as retired};
 ghost use Rattle.rules.specs.Steps.{removeBook, noteBook, runBook};
 ghost use Rattle.rules.specs.Calls.Plan.{blank};
 ghost use Rattle.rules.specs.Calls.Drain.{isOneOf, drain as drainRules};
-ghost use Rattle.replies.specs.Reply.{outcomeOf};
 ghost use Rattle.drain_answers.specs.DrainReply.{drainReply};
 ghost use Rattle.book_cells.specs.Normal.{Normal};
 ghost use Rattle.plan.specs.Plan.{knownPlan, unknownPlan};
@@ -383,14 +381,4 @@ fn finished(book: BookData, a: DrainAnswers) -> DrainReply
         failures: failures,
         book: book,
     }
-}
-
-pub fn drain(b: BookData) -> DrainReply
-    ensures { λ r. ⌜ r ≡ drainReply b (outcomeOf b drainRules) ⌝ }
-{
-    let sound = is_sound(b);
-    if !sound {
-        return refused(1, b);
-    }
-    drain_sound(b)
 }

@@ -8,7 +8,6 @@ use book_cells::submitted_at;
 use book_data::BookData;
 use book_data::SubmissionFeeIntent;
 use book_data::Token;
-use book_sound::is_sound;
 use replies::CallAnswer;
 use replies::FeeIntentReply;
 use submitted::entry::open_fee_intent;
@@ -21,7 +20,7 @@ ghost use mathlib.Core.Option.{none};
 ghost use Rattle.rules.specs.Rule.{undone};
 ghost use Rattle.rules.specs.Steps.{runBook};
 ghost use Rattle.rules.specs.Calls.FeeIntentForAttempt.{feeIntentForAttempt};
-ghost use Rattle.replies.specs.Reply.{outcomeOf, feeIntentReply};
+ghost use Rattle.replies.specs.Reply.{feeIntentReply};
 ghost use Rattle.book_cells.specs.Normal.{Normal};
 ghost use Rattle.attempt_answers.specs.Live.{inactive};
 
@@ -50,16 +49,6 @@ fn fee_intent_inactive(b: BookData, place: AttemptPlace) -> FeeIntentReply
         fee_intent: SubmissionFeeIntent::zero(),
         book: b,
     }
-}
-
-pub fn fee_intent_for_attempt(b: BookData, t: Token) -> FeeIntentReply
-    ensures { λ r. ⌜ r ≡ feeIntentReply b (outcomeOf b (feeIntentForAttempt (t .0))) ⌝ }
-{
-    let sound = is_sound(b);
-    if !sound {
-        return fee_intent_refused(b, 1);
-    }
-    fee_intent_for_attempt_sound(b, t)
 }
 
 pub fn fee_intent_for_attempt_sound(b: BookData, t: Token) -> FeeIntentReply

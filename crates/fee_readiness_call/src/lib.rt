@@ -3,11 +3,9 @@ use book_cells::submitted_at;
 use book_data::BookData;
 use book_data::DeliveryTrigger;
 use book_data::SubmittedTx;
-use book_sound::is_sound;
 use offering::Offered;
 use offering::goal_for;
 use offering::offer;
-use offering::refused;
 use offering::settled;
 use replies::DoneReply;
 use submitted::entry::active_entry;
@@ -19,7 +17,7 @@ ghost use Rattle.book_data.specs.Sound.{soundb};
 ghost use Rattle.rules.specs.Call.{noValue};
 ghost use Rattle.rules.specs.Steps.{runBook};
 ghost use Rattle.rules.specs.Calls.QueueFeeReadiness.{queueFeeReadiness};
-ghost use Rattle.replies.specs.Reply.{outcomeOf, doneReply};
+ghost use Rattle.replies.specs.Reply.{doneReply};
 ghost use Rattle.offering.specs.Ends.{Ends};
 ghost use Rattle.fee_readiness_call.specs.Readiness.{readyOne};
 
@@ -62,16 +60,6 @@ fn offer_all_ready(b: BookData) -> Offered
         full: false,
         book: out,
     }
-}
-
-pub fn queue_fee_readiness(b: BookData) -> DoneReply
-    ensures { λ r. ⌜ r ≡ doneReply b (outcomeOf b queueFeeReadiness) ⌝ }
-{
-    let sound = is_sound(b);
-    if !sound {
-        return refused(b, 1);
-    }
-    queue_fee_readiness_sound(b)
 }
 
 pub fn queue_fee_readiness_sound(b: BookData) -> DoneReply

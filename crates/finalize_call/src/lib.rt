@@ -10,7 +10,6 @@ use book_data::SubmissionDeliveryGoal;
 use book_data::SubmittedEntry;
 use book_data::SubmittedTx;
 use book_data::Token;
-use book_sound::is_sound;
 use book_sound::is_sound_bundle;
 use fingerprints::variant_fingerprint;
 use lists::same32;
@@ -42,7 +41,7 @@ ghost use Rattle.rules.specs.Steps.{withEntry, runBook};
 ghost use Rattle.rules.specs.Steps.Entry.{revised};
 ghost use Rattle.rules.specs.Calls.Finalized.{unusedFee, currentFinal, attachedFinal};
 ghost use Rattle.rules.specs.Calls.FinalizeAttempt.{isJoined, isNoSource, soundSource, finalizeLive, finalizeAttempt};
-ghost use Rattle.replies.specs.Reply.{outcomeOf, finalizeReply};
+ghost use Rattle.replies.specs.Reply.{finalizeReply};
 ghost use Rattle.replies.specs.Values.{sourceOf, finalOf, zeroFinal};
 ghost use Rattle.book_cells.specs.Normal.{Normal};
 ghost use Rattle.attempt_answers.specs.Live.{inactive, at};
@@ -83,7 +82,7 @@ fn is_sound_source(source: SubmissionFeeSource, joined: SpendBundle) -> bool
 }
 
 // ---- answers
-fn zero_finalized() -> FinalizedSubmission
+pub fn zero_finalized() -> FinalizedSubmission
     ensures { λ r. ⌜ r ≡ zeroFinal ⌝ }
 {
     FinalizedSubmission {
@@ -264,21 +263,6 @@ fn decided(s: SubmittedTx, last: FinalizedSubmission) -> Decision
 }
 
 // ---- the call
-pub fn finalize_attempt(
-    b: BookData,
-    t: Token,
-    source: SubmissionFeeSource,
-    joined: SpendBundle,
-) -> FinalizeReply
-    ensures { λ r. ⌜ r ≡ finalizeReply b (outcomeOf b (finalizeAttempt (t .0) (sourceOf source) joined)) ⌝ }
-{
-    let sound = is_sound(b);
-    if !sound {
-        return finalize_refused(b, 1);
-    }
-    finalize_attempt_sound(b, t, source, joined)
-}
-
 pub fn finalize_attempt_sound(
     b: BookData,
     t: Token,

@@ -5,7 +5,6 @@ use book_cells::submitted_at;
 use book_data::BookData;
 use book_data::DeliveryTrigger;
 use book_data::SubmissionId;
-use book_sound::is_sound;
 use offering::Offered;
 use offering::goal_for;
 use offering::offer;
@@ -19,7 +18,7 @@ ghost use Rattle.book_data.specs.Sound.{soundb};
 ghost use Rattle.rules.specs.Call.{noValue};
 ghost use Rattle.rules.specs.Steps.{runBook};
 ghost use Rattle.rules.specs.Calls.QueueRebroadcastEpoch.{rebroadcast as rebroadcastAll, queueRebroadcastEpoch};
-ghost use Rattle.replies.specs.Reply.{outcomeOf, doneReply};
+ghost use Rattle.replies.specs.Reply.{doneReply};
 ghost use Rattle.offering.specs.Ends.{Ends};
 ghost use Rattle.rebroadcast_call.specs.Rebroadcast.{rebroadcastOne};
 
@@ -59,16 +58,6 @@ fn rebroadcast(b: BookData, ids: &[u64], trigger: DeliveryTrigger) -> Offered
         full: false,
         book: out,
     }
-}
-
-pub fn queue_rebroadcast_epoch(b: BookData, ids: &[u64], trigger: DeliveryTrigger) -> DoneReply
-    ensures { λ r. ⌜ r ≡ doneReply b (outcomeOf b (queueRebroadcastEpoch (now (ids .entry)) trigger)) ⌝ }
-{
-    let sound = is_sound(b);
-    if !sound {
-        return refused(b, 1);
-    }
-    queue_rebroadcast_epoch_sound(b, ids, trigger)
 }
 
 pub fn queue_rebroadcast_epoch_sound(

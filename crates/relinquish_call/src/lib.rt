@@ -6,7 +6,6 @@ use book_cells::AttemptPlace;
 use book_cells::find_attempt;
 use book_data::BookData;
 use book_data::Token;
-use book_sound::is_sound;
 use replies::StatusReply;
 use replies::SubmissionAttemptStatus;
 ghost use mathlib.Core.Bool.{true};
@@ -15,18 +14,8 @@ ghost use Rattle.book_data.specs.Model.{view};
 ghost use Rattle.book_data.specs.Sound.{soundb};
 ghost use Rattle.rules.specs.Steps.{runBook};
 ghost use Rattle.rules.specs.Calls.RelinquishCompletedAttempt.{relinquishCompletedAttempt};
-ghost use Rattle.replies.specs.Reply.{outcomeOf, statusReply};
+ghost use Rattle.replies.specs.Reply.{statusReply};
 ghost use Rattle.relinquish_call.specs.Relinquishing.{isSetAside};
-
-pub fn relinquish_completed_attempt(b: BookData, t: Token) -> StatusReply
-    ensures { λ r. ⌜ r ≡ statusReply b (outcomeOf b (relinquishCompletedAttempt (t .0))) ⌝ }
-{
-    let sound = is_sound(b);
-    if !sound {
-        return status_refused(b, 1);
-    }
-    relinquish_completed_attempt_sound(b, t)
-}
 
 pub fn relinquish_completed_attempt_sound(b: BookData, t: Token) -> StatusReply
     requires { ⌜ soundb b ≡ true ⌝ }

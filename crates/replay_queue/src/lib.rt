@@ -11,7 +11,6 @@ use book_data::DeliveryTrigger;
 use book_data::Ids16;
 use book_data::SubmissionDeliveryGoal;
 use book_data::SubmissionId;
-use book_sound::is_sound;
 use ids::among16;
 use ids::keep16;
 use offering::Offered;
@@ -31,7 +30,7 @@ ghost use Rattle.rules.specs.Rule.{reopen as opened};
 ghost use Rattle.rules.specs.Steps.{reviseBook, replayBook, runBook};
 ghost use Rattle.rules.specs.Calls.CollectRollbackReplayIds.{offerAgain, collectRollbackReplayIds};
 ghost use Rattle.ids.specs.Ids.{withoutIds};
-ghost use Rattle.replies.specs.Reply.{outcomeOf, doneReply};
+ghost use Rattle.replies.specs.Reply.{doneReply};
 ghost use Rattle.offering.specs.Ends.{Reached, Ends};
 ghost use Rattle.replay_queue.specs.Marking.{markOne};
 ghost use Rattle.replay_queue.specs.Collecting.{markAll, namedIn};
@@ -134,16 +133,6 @@ fn unmarked(b: BookData, named: Ids16) -> Ids16
     let epoch = b.replay_epoch;
     let old = epoch.replayed_submission_ids;
     keep16(named, old)
-}
-
-pub fn collect_rollback_replay_ids(b: BookData, ids: &[u64]) -> DoneReply
-    ensures { λ r. ⌜ r ≡ doneReply b (outcomeOf b (collectRollbackReplayIds (now (ids .entry)))) ⌝ }
-{
-    let sound = is_sound(b);
-    if !sound {
-        return refused(b, 1);
-    }
-    collect_rollback_replay_ids_sound(b, ids)
 }
 
 pub fn collect_rollback_replay_ids_sound(b: BookData, ids: &[u64]) -> DoneReply

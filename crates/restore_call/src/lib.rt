@@ -1,10 +1,8 @@
 // `restore_runtime`: every live attempt is set aside.
 use book_data::BookData;
 use book_data::SubmittedTx;
-use book_sound::is_sound;
 use replies::CallAnswer;
 use replies::DoneReply;
-use replies::refused_done;
 use slots::stopped;
 ghost use mathlib.Core.Path.{_≡_};
 ghost use mathlib.Core.Bool.{true};
@@ -13,7 +11,7 @@ ghost use Rattle.book_data.specs.Sound.{soundb};
 ghost use Rattle.rules.specs.Steps.{runBook, withSlots};
 ghost use Rattle.rules.specs.Steps.Slots.{slotsAside};
 ghost use Rattle.rules.specs.Calls.RestoreRuntime.{restoreRuntime};
-ghost use Rattle.replies.specs.Reply.{outcomeOf, doneReply};
+ghost use Rattle.replies.specs.Reply.{doneReply};
 
 // The live attempt of the submission, if any, is set aside.
 fn set_aside(t: SubmittedTx) -> SubmittedTx
@@ -24,16 +22,6 @@ fn set_aside(t: SubmittedTx) -> SubmittedTx
     let mut out = t;
     out.slots = next;
     out
-}
-
-pub fn restore_runtime(b: BookData) -> DoneReply
-    ensures { λ r. ⌜ r ≡ doneReply b (outcomeOf b restoreRuntime) ⌝ }
-{
-    let sound = is_sound(b);
-    if !sound {
-        return refused_done(b, 1);
-    }
-    restore_runtime_sound(b)
 }
 
 pub fn restore_runtime_sound(b: BookData) -> DoneReply

@@ -2,7 +2,6 @@
 use book_cells::submitted_ids;
 use book_data::BookData;
 use book_data::Ids16;
-use book_sound::is_sound;
 use ids::among16;
 use ids::rising16;
 use ids::widened;
@@ -16,7 +15,7 @@ ghost use Rattle.book_data.specs.Model.{view, ids16};
 ghost use Rattle.book_data.specs.Sound.{soundb};
 ghost use Rattle.rules.specs.Steps.{runBook};
 ghost use Rattle.rules.specs.Calls.RetainSubmitted.{toRemove, retainSubmitted};
-ghost use Rattle.replies.specs.Reply.{outcomeOf, idsReply};
+ghost use Rattle.replies.specs.Reply.{idsReply};
 ghost use Rattle.book_cells.specs.Normal.{Normal};
 
 // The ids of the submissions that are among those of a list, rising.
@@ -27,16 +26,6 @@ fn to_remove(b: BookData, ids: &[u64]) -> Ids16
     let held = submitted_ids(b);
     let gone = among16(held, ids);
     rising16(gone)
-}
-
-pub fn retain_submitted(b: BookData, ids: &[u64]) -> IdsReply
-    ensures { λ r. ⌜ r ≡ idsReply b (outcomeOf b (retainSubmitted (now (ids .entry)))) ⌝ }
-{
-    let sound = is_sound(b);
-    if !sound {
-        return refused_ids(b, 1);
-    }
-    retain_submitted_sound(b, ids)
 }
 
 pub fn retain_submitted_sound(b: BookData, ids: &[u64]) -> IdsReply

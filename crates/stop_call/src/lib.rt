@@ -2,14 +2,12 @@
 use attempt_answers::live_place;
 use attempt_answers::status_done;
 use attempt_answers::status_inactive;
-use attempt_answers::status_refused;
 use book_cells::Place;
 use book_cells::find_attempt;
 use book_cells::submitted_at;
 use book_change::store_submitted;
 use book_data::BookData;
 use book_data::Token;
-use book_sound::is_sound;
 use replies::StatusReply;
 use replies::SubmissionAttemptStatus;
 use slots::stop_lent;
@@ -21,18 +19,8 @@ ghost use Rattle.book_data.specs.Model.{view};
 ghost use Rattle.book_data.specs.Sound.{soundb};
 ghost use Rattle.rules.specs.Steps.{runBook};
 ghost use Rattle.rules.specs.Calls.StopAttempt.{stopLive, stopAttempt};
-ghost use Rattle.replies.specs.Reply.{outcomeOf, statusReply};
+ghost use Rattle.replies.specs.Reply.{statusReply};
 ghost use Rattle.attempt_answers.specs.Live.{at};
-
-pub fn stop_attempt(b: BookData, t: Token) -> StatusReply
-    ensures { λ r. ⌜ r ≡ statusReply b (outcomeOf b (stopAttempt (t .0))) ⌝ }
-{
-    let sound = is_sound(b);
-    if !sound {
-        return status_refused(b, 1);
-    }
-    stop_attempt_sound(b, t)
-}
 
 pub fn stop_attempt_sound(b: BookData, t: Token) -> StatusReply
     requires { ⌜ soundb b ≡ true ⌝ }

@@ -1,5 +1,7 @@
 -- What each method answers: the rules of its call behind the door, in the method's answer struct, beside the next book.
-use Rattle.rules.specs.Call.{Call}
+use Rattle.book_data.specs.Model.{Book}
+use Rattle.rules.specs.Call.{Call, Value}
+use Rattle.rules.specs.Rule.{Outcome}
 use Rattle.replies.specs.Reply.{doneReply, statusReply, idsReply, flagReply, heightReply, attemptReply, feeIntentReply, finalizeReply, writtenReply}
 use Rattle.replies.specs.declared.DoneReply.{DoneReply}
 use Rattle.submission.specs.declared.DoneAnswer.{DoneAnswer}
@@ -56,33 +58,64 @@ writtenFrom r = record { answer = r .answer; length = r .length; book = bookOf (
 abbrev pub drainFrom : DrainReply → DrainAnswer
 drainFrom r = record { answer = r .answer; «submission_count» = r .«submission_count»; submissions = r .submissions; «failure_count» = r .«failure_count»; failures = r .failures; book = bookOf (r .book) }
 
+-- ---- the answer that an outcome gives
+abbrev pub doneGiven : SubmissionBook → Outcome Book Value → DoneAnswer
+doneGiven s o = doneFrom (doneReply (s .parts) o)
+
+abbrev pub statusGiven : SubmissionBook → Outcome Book Value → StatusAnswer
+statusGiven s o = statusFrom (statusReply (s .parts) o)
+
+abbrev pub idsGiven : SubmissionBook → Outcome Book Value → IdsAnswer
+idsGiven s o = idsFrom (idsReply (s .parts) o)
+
+abbrev pub flagGiven : SubmissionBook → Outcome Book Value → FlagAnswer
+flagGiven s o = flagFrom (flagReply (s .parts) o)
+
+abbrev pub heightGiven : SubmissionBook → Outcome Book Value → HeightAnswer
+heightGiven s o = heightFrom (heightReply (s .parts) o)
+
+abbrev pub attemptGiven : SubmissionBook → Outcome Book Value → AttemptAnswer
+attemptGiven s o = attemptFrom (attemptReply (s .parts) o)
+
+abbrev pub feeIntentGiven : SubmissionBook → Outcome Book Value → FeeIntentAnswer
+feeIntentGiven s o = feeIntentFrom (feeIntentReply (s .parts) o)
+
+abbrev pub finalizeGiven : SubmissionBook → Outcome Book Value → FinalizeAnswer
+finalizeGiven s o = finalizeFrom (finalizeReply (s .parts) o)
+
+abbrev pub writtenGiven : SubmissionBook → Outcome Book Value → WrittenAnswer
+writtenGiven s o = writtenFrom (writtenReply (s .parts) o)
+
+abbrev pub drainGiven : SubmissionBook → Outcome Book Value → DrainAnswer
+drainGiven s o = drainFrom (drainReply (s .parts) o)
+
 -- ---- the answer to a call
 abbrev pub doneAnswer : SubmissionBook → Call → DoneAnswer
-doneAnswer s c = doneFrom (doneReply (s .parts) (outcome s c))
+doneAnswer s c = doneGiven s (outcome s c)
 
 abbrev pub statusAnswer : SubmissionBook → Call → StatusAnswer
-statusAnswer s c = statusFrom (statusReply (s .parts) (outcome s c))
+statusAnswer s c = statusGiven s (outcome s c)
 
 abbrev pub idsAnswer : SubmissionBook → Call → IdsAnswer
-idsAnswer s c = idsFrom (idsReply (s .parts) (outcome s c))
+idsAnswer s c = idsGiven s (outcome s c)
 
 abbrev pub flagAnswer : SubmissionBook → Call → FlagAnswer
-flagAnswer s c = flagFrom (flagReply (s .parts) (outcome s c))
+flagAnswer s c = flagGiven s (outcome s c)
 
 abbrev pub heightAnswer : SubmissionBook → Call → HeightAnswer
-heightAnswer s c = heightFrom (heightReply (s .parts) (outcome s c))
+heightAnswer s c = heightGiven s (outcome s c)
 
 abbrev pub attemptAnswer : SubmissionBook → Call → AttemptAnswer
-attemptAnswer s c = attemptFrom (attemptReply (s .parts) (outcome s c))
+attemptAnswer s c = attemptGiven s (outcome s c)
 
 abbrev pub feeIntentAnswer : SubmissionBook → Call → FeeIntentAnswer
-feeIntentAnswer s c = feeIntentFrom (feeIntentReply (s .parts) (outcome s c))
+feeIntentAnswer s c = feeIntentGiven s (outcome s c)
 
 abbrev pub finalizeAnswer : SubmissionBook → Call → FinalizeAnswer
-finalizeAnswer s c = finalizeFrom (finalizeReply (s .parts) (outcome s c))
+finalizeAnswer s c = finalizeGiven s (outcome s c)
 
 abbrev pub writtenAnswer : SubmissionBook → Call → WrittenAnswer
-writtenAnswer s c = writtenFrom (writtenReply (s .parts) (outcome s c))
+writtenAnswer s c = writtenGiven s (outcome s c)
 
 abbrev pub drainAnswer : SubmissionBook → Call → DrainAnswer
-drainAnswer s c = drainFrom (drainReply (s .parts) (outcome s c))
+drainAnswer s c = drainGiven s (outcome s c)

@@ -16,9 +16,9 @@ use Rattle.rule_laws.specs.Sound.Run.{SoundBook, sound-call, sound-opened}
 use Rattle.ledger.specs.Theorem.{Accounted, ledger-theorem}
 use Rattle.replies.specs.Reply.{outcomeOf, bookLeft}
 use Rattle.sound_steps.specs.Holds.{Holds, holds-view, holds-soundb}
-use Rattle.sound_steps.specs.Door.{door-open}
 use Rattle.submission.specs.declared.SubmissionBook.{SubmissionBook}
 use Rattle.submission.specs.Book.{bookOf, outcome, next}
+use Rattle.submission.specs.Door.{sound-open, door-open}
 use Rattle.submission.specs.Answers.{doneAnswer, statusAnswer, idsAnswer, flagAnswer, heightAnswer, attemptAnswer, feeIntentAnswer, finalizeAnswer, writtenAnswer, drainAnswer}
 
 -- the book in the answer of every method is `next` of its call
@@ -79,7 +79,7 @@ answers (c ∷ cs) s = answered (outcome s c) ∷ answers cs (next s c)
 module _ (s : SubmissionBook) (m : Book) (h : Holds (s .parts) m) where
   outcome-is : (c : Call) → outcome s c ≡ runBook (rules encodeModel c) m
   unfolding outcome
-  outcome-is c = door-open (s .parts) (rules encodeModel c) (holds-soundb h) ∙ ap (runBook (rules encodeModel c)) (holds-view h)
+  outcome-is c = door-open (s .parts) (rules encodeModel c) (sound-open (s .parts) (holds-soundb h)) ∙ ap (runBook (rules encodeModel c)) (holds-view h)
 
   next-holds : (c : Call) → Holds (next s c .parts) (callBook encodeModel c m)
   unfolding next callBook
@@ -111,6 +111,12 @@ openedBook token id = bookOf (back (opened token id))
 
 opened-holds : (token id : ℕ) → Holds (openedBook token id .parts) (opened token id)
 opened-holds token id = record { cells = refl; sound = sound-opened token id }
+
+-- the outcome of a call on the book that a list of calls left
+pub outcome-after : (token id : ℕ) (calls : List Call) (c : Call)
+    → outcome (after calls (openedBook token id)) c ≡ runBook (rules encodeModel c) (bookAfter encodeModel calls (opened token id))
+outcome-after token id calls c =
+    outcome-is (after calls (openedBook token id)) (bookAfter encodeModel calls (opened token id)) (after-holds calls (openedBook token id) (opened token id) (opened-holds token id)) c
 
 -- what holds of the program's book and answers after a list of calls
 pub record Linked (token id : ℕ) (calls : List Call) : Type 0 where

@@ -1,3 +1,4 @@
 pub mod Book
+pub mod Door
 pub mod Answers
 pub mod Calls

@@ -1,4 +1,6 @@
 // `SubmissionBook` by value, one method a call: self in, the next book back beside the answer. No method asks anything of its input.
+mod refused;
+
 ghost use mathlib.Core.Path.{_≡_};
 ghost use lib.ListN.{length};
 ghost use Rattle.book_data.specs.Model.{back};
@@ -6,6 +8,7 @@ ghost use Rattle.rules.specs.Call.{AbandonAttempt, AbsentOutputsForIds, Acknowl
 ghost use Rattle.rules.specs.Opened.{opened};
 ghost use Rattle.replies.specs.Values.{sourceOf};
 ghost use Rattle.submission.specs.Book.{bookOf, bufferAfter};
+ghost use Rattle.submission.specs.Door.{doorNumber};
 ghost use Rattle.submission.specs.Answers.{doneAnswer, statusAnswer, idsAnswer, flagAnswer, heightAnswer, attemptAnswer, feeIntentAnswer, finalizeAnswer, writtenAnswer, drainAnswer, doneFrom, statusFrom, idsFrom, flagFrom, heightFrom, attemptFrom, feeIntentFrom, finalizeFrom, writtenFrom, drainFrom};
 use book_data::BookData;
 use book_data::DeliveryTrigger;
@@ -19,6 +22,17 @@ use book_data::SubmissionDeliveryGoal;
 use book_data::SubmissionFeeIntent;
 use book_data::SubmissionId;
 use book_data::Token;
+use book_sound::is_sound;
+use crate::refused::attempt_refused;
+use crate::refused::done_refused;
+use crate::refused::drain_refused;
+use crate::refused::fee_intent_refused;
+use crate::refused::finalize_refused;
+use crate::refused::flag_refused;
+use crate::refused::height_refused;
+use crate::refused::ids_refused;
+use crate::refused::status_refused;
+use crate::refused::written_refused;
 use drain_answers::DrainReply;
 use drain_answers::SubmissionDrainFailure;
 use replies::AttemptReply;
@@ -239,6 +253,18 @@ fn drain_answer(r: DrainReply) -> DrainAnswer
     }
 }
 
+// ---- the door
+// Every call is refused here or not at all before its rules: a number of paper 01, or 0.
+fn door(b: BookData) -> u8
+    ensures { λ r. ⌜ r ≡ doorNumber b ⌝ }
+{
+    let sound = is_sound(b);
+    if !sound {
+        return 1;
+    }
+    0
+}
+
 impl SubmissionBook {
     // Any next token and any next submission id; never refused.
     pub fn open(token: Token, id: SubmissionId) -> SubmissionBook
@@ -251,21 +277,33 @@ impl SubmissionBook {
     pub fn queue(self, d: PendingDelivery) -> DoneAnswer
         ensures { λ r. ⌜ r ≡ doneAnswer self (Queue d) ⌝ }
     {
-        let r = queue_calls::queue(self.parts, d);
+        let refusal = door(self.parts);
+        if refusal != 0 {
+            return done_refused(self, refusal);
+        }
+        let r = queue_calls::queue_sound(self.parts, d);
         done_answer(r)
     }
 
     pub fn queue_rebroadcast_epoch(self, ids: &[u64], trigger: DeliveryTrigger) -> DoneAnswer
         ensures { λ r. ⌜ r ≡ doneAnswer self (QueueRebroadcastEpoch (now (ids .entry)) trigger) ⌝ }
     {
-        let r = rebroadcast_call::queue_rebroadcast_epoch(self.parts, ids, trigger);
+        let refusal = door(self.parts);
+        if refusal != 0 {
+            return done_refused(self, refusal);
+        }
+        let r = rebroadcast_call::queue_rebroadcast_epoch_sound(self.parts, ids, trigger);
         done_answer(r)
     }
 
     pub fn queue_fee_readiness(self) -> DoneAnswer
         ensures { λ r. ⌜ r ≡ doneAnswer self QueueFeeReadiness ⌝ }
     {
-        let r = fee_readiness_call::queue_fee_readiness(self.parts);
+        let refusal = door(self.parts);
+        if refusal != 0 {
+            return done_refused(self, refusal);
+        }
+        let r = fee_readiness_call::queue_fee_readiness_sound(self.parts);
         done_answer(r)
     }
 
@@ -277,14 +315,22 @@ impl SubmissionBook {
     ) -> DoneAnswer
         ensures { λ r. ⌜ r ≡ doneAnswer self (QueueRetainedDelivery (id .0) trigger goal) ⌝ }
     {
-        let r = queue_calls::queue_retained_delivery(self.parts, id, trigger, goal);
+        let refusal = door(self.parts);
+        if refusal != 0 {
+            return done_refused(self, refusal);
+        }
+        let r = queue_calls::queue_retained_delivery_sound(self.parts, id, trigger, goal);
         done_answer(r)
     }
 
     pub fn drain(self) -> DrainAnswer
         ensures { λ r. ⌜ r ≡ drainAnswer self Drain ⌝ }
     {
-        let r = drain::drain(self.parts);
+        let refusal = door(self.parts);
+        if refusal != 0 {
+            return drain_refused(self, refusal);
+        }
+        let r = drain::drain_sound(self.parts);
         drain_answer(r)
     }
 
@@ -296,98 +342,154 @@ impl SubmissionBook {
     ) -> FinalizeAnswer
         ensures { λ r. ⌜ r ≡ finalizeAnswer self (FinalizeAttempt (token .0) (sourceOf source) joined) ⌝ }
     {
-        let r = finalize_call::finalize_attempt(self.parts, token, source, joined);
+        let refusal = door(self.parts);
+        if refusal != 0 {
+            return finalize_refused(self, refusal);
+        }
+        let r = finalize_call::finalize_attempt_sound(self.parts, token, source, joined);
         finalize_answer(r)
     }
 
     pub fn fee_intent_for_attempt(self, token: Token) -> FeeIntentAnswer
         ensures { λ r. ⌜ r ≡ feeIntentAnswer self (FeeIntentForAttempt (token .0)) ⌝ }
     {
-        let r = fee_intent_call::fee_intent_for_attempt(self.parts, token);
+        let refusal = door(self.parts);
+        if refusal != 0 {
+            return fee_intent_refused(self, refusal);
+        }
+        let r = fee_intent_call::fee_intent_for_attempt_sound(self.parts, token);
         fee_intent_answer(r)
     }
 
     pub fn acknowledge_attempt(self, token: Token) -> StatusAnswer
         ensures { λ r. ⌜ r ≡ statusAnswer self (AcknowledgeAttempt (token .0)) ⌝ }
     {
-        let r = acknowledge_call::acknowledge_attempt(self.parts, token);
+        let refusal = door(self.parts);
+        if refusal != 0 {
+            return status_refused(self, refusal);
+        }
+        let r = acknowledge_call::acknowledge_attempt_sound(self.parts, token);
         status_answer(r)
     }
 
     pub fn stop_attempt(self, token: Token) -> StatusAnswer
         ensures { λ r. ⌜ r ≡ statusAnswer self (StopAttempt (token .0)) ⌝ }
     {
-        let r = stop_call::stop_attempt(self.parts, token);
+        let refusal = door(self.parts);
+        if refusal != 0 {
+            return status_refused(self, refusal);
+        }
+        let r = stop_call::stop_attempt_sound(self.parts, token);
         status_answer(r)
     }
 
     pub fn abandon_attempt(self, token: Token) -> StatusAnswer
         ensures { λ r. ⌜ r ≡ statusAnswer self (AbandonAttempt (token .0)) ⌝ }
     {
-        let r = abandon_call::abandon_attempt(self.parts, token);
+        let refusal = door(self.parts);
+        if refusal != 0 {
+            return status_refused(self, refusal);
+        }
+        let r = abandon_call::abandon_attempt_sound(self.parts, token);
         status_answer(r)
     }
 
     pub fn relinquish_completed_attempt(self, token: Token) -> StatusAnswer
         ensures { λ r. ⌜ r ≡ statusAnswer self (RelinquishCompletedAttempt (token .0)) ⌝ }
     {
-        let r = relinquish_call::relinquish_completed_attempt(self.parts, token);
+        let refusal = door(self.parts);
+        if refusal != 0 {
+            return status_refused(self, refusal);
+        }
+        let r = relinquish_call::relinquish_completed_attempt_sound(self.parts, token);
         status_answer(r)
     }
 
     pub fn attempt(self, token: Token) -> AttemptAnswer
         ensures { λ r. ⌜ r ≡ attemptAnswer self (Attempt (token .0)) ⌝ }
     {
-        let r = attempt_call::attempt(self.parts, token);
+        let refusal = door(self.parts);
+        if refusal != 0 {
+            return attempt_refused(self, refusal);
+        }
+        let r = attempt_call::attempt_sound(self.parts, token);
         attempt_answer(r)
     }
 
     pub fn retain_submitted(self, ids: &[u64]) -> IdsAnswer
         ensures { λ r. ⌜ r ≡ idsAnswer self (RetainSubmitted (now (ids .entry))) ⌝ }
     {
-        let r = retain_call::retain_submitted(self.parts, ids);
+        let refusal = door(self.parts);
+        if refusal != 0 {
+            return ids_refused(self, refusal);
+        }
+        let r = retain_call::retain_submitted_sound(self.parts, ids);
         ids_answer(r)
     }
 
     pub fn emit_retirement(self, id: SubmissionId) -> DoneAnswer
         ensures { λ r. ⌜ r ≡ doneAnswer self (EmitRetirement (id .0)) ⌝ }
     {
-        let r = replay_calls::emit_retirement(self.parts, id);
+        let refusal = door(self.parts);
+        if refusal != 0 {
+            return done_refused(self, refusal);
+        }
+        let r = replay_calls::emit_retirement_sound(self.parts, id);
         done_answer(r)
     }
 
     pub fn drain_retirements(self) -> IdsAnswer
         ensures { λ r. ⌜ r ≡ idsAnswer self DrainRetirements ⌝ }
     {
-        let r = replay_calls::drain_retirements(self.parts);
+        let refusal = door(self.parts);
+        if refusal != 0 {
+            return ids_refused(self, refusal);
+        }
+        let r = replay_calls::drain_retirements_sound(self.parts);
         ids_answer(r)
     }
 
     pub fn active_ids(self) -> IdsAnswer
         ensures { λ r. ⌜ r ≡ idsAnswer self ActiveIds ⌝ }
     {
-        let r = active_ids_call::active_ids(self.parts);
+        let refusal = door(self.parts);
+        if refusal != 0 {
+            return ids_refused(self, refusal);
+        }
+        let r = active_ids_call::active_ids_sound(self.parts);
         ids_answer(r)
     }
 
     pub fn begin_replay(self, height: Height) -> FlagAnswer
         ensures { λ r. ⌜ r ≡ flagAnswer self (BeginReplay height) ⌝ }
     {
-        let r = replay_calls::begin_replay(self.parts, height);
+        let refusal = door(self.parts);
+        if refusal != 0 {
+            return flag_refused(self, refusal);
+        }
+        let r = replay_calls::begin_replay_sound(self.parts, height);
         flag_answer(r)
     }
 
     pub fn finish_replay_if_advanced(self, height: Height) -> DoneAnswer
         ensures { λ r. ⌜ r ≡ doneAnswer self (FinishReplayIfAdvanced height) ⌝ }
     {
-        let r = replay_calls::finish_replay_if_advanced(self.parts, height);
+        let refusal = door(self.parts);
+        if refusal != 0 {
+            return done_refused(self, refusal);
+        }
+        let r = replay_calls::finish_replay_if_advanced_sound(self.parts, height);
         done_answer(r)
     }
 
     pub fn replay_rollback_height(self) -> HeightAnswer
         ensures { λ r. ⌜ r ≡ heightAnswer self ReplayRollbackHeight ⌝ }
     {
-        let r = replay_calls::replay_rollback_height(self.parts);
+        let refusal = door(self.parts);
+        if refusal != 0 {
+            return height_refused(self, refusal);
+        }
+        let r = replay_calls::replay_rollback_height_sound(self.parts);
         height_answer(r)
     }
 
@@ -400,7 +502,11 @@ impl SubmissionBook {
     ) -> DoneAnswer
         ensures { λ r. ⌜ r ≡ doneAnswer self (ReconcileChainTerminality (now (observed .entry)) (now (spent .entry)) reorg (now («rolled_back» .entry))) ⌝ }
     {
-        let r = chain_calls::reconcile_chain_terminality(
+        let refusal = door(self.parts);
+        if refusal != 0 {
+            return done_refused(self, refusal);
+        }
+        let r = chain_calls::reconcile_chain_terminality_sound(
             self.parts,
             observed,
             spent,
@@ -413,49 +519,77 @@ impl SubmissionBook {
     pub fn causally_rolled_back_ids(self, absent: &[u8], inputs: &[u8]) -> IdsAnswer
         ensures { λ r. ⌜ r ≡ idsAnswer self (CausallyRolledBackIds (now (absent .entry)) (now (inputs .entry))) ⌝ }
     {
-        let r = chain_calls::causally_rolled_back_ids(self.parts, absent, inputs);
+        let refusal = door(self.parts);
+        if refusal != 0 {
+            return ids_refused(self, refusal);
+        }
+        let r = chain_calls::causally_rolled_back_ids_sound(self.parts, absent, inputs);
         ids_answer(r)
     }
 
     pub fn collect_rollback_replay_ids(self, ids: &[u64]) -> DoneAnswer
         ensures { λ r. ⌜ r ≡ doneAnswer self (CollectRollbackReplayIds (now (ids .entry))) ⌝ }
     {
-        let r = replay_queue::collect_rollback_replay_ids(self.parts, ids);
+        let refusal = door(self.parts);
+        if refusal != 0 {
+            return done_refused(self, refusal);
+        }
+        let r = replay_queue::collect_rollback_replay_ids_sound(self.parts, ids);
         done_answer(r)
     }
 
     pub fn clear_local_artifacts(self) -> DoneAnswer
         ensures { λ r. ⌜ r ≡ doneAnswer self ClearLocalArtifacts ⌝ }
     {
-        let r = clear_call::clear_local_artifacts(self.parts);
+        let refusal = door(self.parts);
+        if refusal != 0 {
+            return done_refused(self, refusal);
+        }
+        let r = clear_call::clear_local_artifacts_sound(self.parts);
         done_answer(r)
     }
 
     pub fn restore_runtime(self) -> DoneAnswer
         ensures { λ r. ⌜ r ≡ doneAnswer self RestoreRuntime ⌝ }
     {
-        let r = restore_call::restore_runtime(self.parts);
+        let refusal = door(self.parts);
+        if refusal != 0 {
+            return done_refused(self, refusal);
+        }
+        let r = restore_call::restore_runtime_sound(self.parts);
         done_answer(r)
     }
 
     pub fn reconciliation_input_coins(self, outputs: &[u8], out: &mut [u8]) -> WrittenAnswer
         ensures { λ r. ⌜ (r ≡ writtenAnswer self (ReconciliationInputCoins (now (outputs .entry)) (length (now (out .entry))))) × (now (out .exit) ≡ bufferAfter self (ReconciliationInputCoins (now (outputs .entry)) (length (now (out .entry)))) (now (out .entry))) ⌝ }
     {
-        let r = coin_calls::reconciliation_input_coins(self.parts, outputs, out);
+        let refusal = door(self.parts);
+        if refusal != 0 {
+            return written_refused(self, refusal);
+        }
+        let r = coin_calls::reconciliation_input_coins_sound(self.parts, outputs, out);
         written_answer(r)
     }
 
     pub fn absent_outputs_for_ids(self, ids: &[u64], absent: &[u8], out: &mut [u8]) -> WrittenAnswer
         ensures { λ r. ⌜ (r ≡ writtenAnswer self (AbsentOutputsForIds (now (ids .entry)) (now (absent .entry)) (length (now (out .entry))))) × (now (out .exit) ≡ bufferAfter self (AbsentOutputsForIds (now (ids .entry)) (now (absent .entry)) (length (now (out .entry)))) (now (out .entry))) ⌝ }
     {
-        let r = coin_calls::absent_outputs_for_ids(self.parts, ids, absent, out);
+        let refusal = door(self.parts);
+        if refusal != 0 {
+            return written_refused(self, refusal);
+        }
+        let r = coin_calls::absent_outputs_for_ids_sound(self.parts, ids, absent, out);
         written_answer(r)
     }
 
     pub fn write_archive(self, out: &mut [u8]) -> WrittenAnswer
         ensures { λ r. ⌜ (r ≡ writtenAnswer self (WriteArchive (length (now (out .entry))))) × (now (out .exit) ≡ bufferAfter self (WriteArchive (length (now (out .entry)))) (now (out .entry))) ⌝ }
     {
-        let r = coin_calls::write_archive(self.parts, out);
+        let refusal = door(self.parts);
+        if refusal != 0 {
+            return written_refused(self, refusal);
+        }
+        let r = coin_calls::write_archive_sound(self.parts, out);
         written_answer(r)
     }
 }

@@ -1,0 +1,60 @@
+-- The door of every call: the number by which a book is refused before the rules of the call are looked at, and what each number says of them.
+use Prim.Native.Nat.{ℕ}
+use mathlib.Core.Bool.{Bool, true, false, cond}
+use mathlib.Core.Path.{_≡_, refl, ap, sym, _∙_}
+use borrow.Author.Tests.{eqb-false}
+use Rattle.book_data.specs.declared.BookData.{BookData}
+use Rattle.book_data.specs.Model.{Book, view}
+use Rattle.book_data.specs.Sound.{soundb}
+use Rattle.archive_form.specs.Encode.{encodeModel}
+use Rattle.rules.specs.Call.{Call, Value}
+use Rattle.rules.specs.Calls.{rules}
+use Rattle.rules.specs.Rule.{Rule, Outcome, undone}
+use Rattle.rules.specs.Steps.{runBook}
+use Rattle.replies.specs.Reply.{outcomeOf}
+use Rattle.submission.specs.declared.SubmissionBook.{SubmissionBook}
+use Rattle.submission.specs.Book.{outcome}
+
+abbrev numberBy : Bool → ℕ
+numberBy true = 0
+numberBy false = 1
+
+-- 0, the door is open; 1, the book is not sound
+abbrev pub doorNumber : BookData → ℕ
+doorNumber b = numberBy (soundb b)
+
+abbrev behind : Rule Value → Book → Bool → Outcome Book Value
+behind r m t = cond t (runBook r m) (undone 1)
+
+sound-by : (t : Bool) → numberBy t ≡ 0 → t ≡ true
+sound-by true e = refl
+sound-by false e = absurd (eqb-false 1 0 refl e)
+
+shut-by : (r : Rule Value) (m : Book) (t : Bool) → (numberBy t ≡ 0 → ⊥) → behind r m t ≡ undone (numberBy t)
+shut-by r m true h = absurd (h refl)
+shut-by r m false h = refl
+
+module _ (b : BookData) where
+  pub sound-open : soundb b ≡ true → doorNumber b ≡ 0
+  sound-open e = ap numberBy e
+
+  pub open-sound : doorNumber b ≡ 0 → soundb b ≡ true
+  open-sound e = sound-by (soundb b) e
+
+  pub door-open : (r : Rule Value) → doorNumber b ≡ 0 → outcomeOf b r ≡ runBook r (view b)
+  unfolding outcomeOf
+  door-open r e = ap (behind r (view b)) (open-sound e)
+
+  pub door-shut : (r : Rule Value) → (doorNumber b ≡ 0 → ⊥) → outcomeOf b r ≡ undone (doorNumber b)
+  unfolding outcomeOf
+  door-shut r h = shut-by r (view b) (soundb b) h
+
+-- an answer x of any kind, f of an outcome, to a call behind the door that told n
+module _ (s : SubmissionBook) (c : Call) {n : ℕ} (told : n ≡ doorNumber (s .parts)) {A : Type 0} (f : Outcome Book Value → A) {x : A} where
+  pub refused : (n ≡ 0 → ⊥) → x ≡ f (undone n) → x ≡ f (outcome s c)
+  unfolding outcome
+  refused h e = e ∙ ap (λ (k : ℕ). f (undone k)) told ∙ ap f (sym (door-shut (s .parts) (rules encodeModel c) (λ q. h (told ∙ q))))
+
+  pub passed : n ≡ 0 → x ≡ f (runBook (rules encodeModel c) (view (s .parts))) → x ≡ f (outcome s c)
+  unfolding outcome
+  passed h e = e ∙ ap f (sym (door-open (s .parts) (rules encodeModel c) (sym told ∙ h)))

@@ -1,0 +1,130 @@
+// What a call that is refused at the door answers, one function a kind of answer: the number, nothing beside it, the book as it was.
+ghost use mathlib.Core.Path.{_≡_};
+ghost use Rattle.rules.specs.Rule.{undone};
+ghost use Rattle.submission.specs.Answers.{doneGiven, statusGiven, idsGiven, flagGiven, heightGiven, attemptGiven, feeIntentGiven, finalizeGiven, writtenGiven, drainGiven};
+use book_data::OptionalAttempt;
+use book_data::OptionalHeight;
+use book_data::SubmissionFeeIntent;
+use crate::AttemptAnswer;
+use crate::DoneAnswer;
+use crate::DrainAnswer;
+use crate::FeeIntentAnswer;
+use crate::FinalizeAnswer;
+use crate::FlagAnswer;
+use crate::HeightAnswer;
+use crate::IdsAnswer;
+use crate::StatusAnswer;
+use crate::SubmissionBook;
+use crate::WrittenAnswer;
+use drain_answers::SubmissionDrainFailure;
+use finalize_call::zero_finalized;
+use ids::empty64;
+use replies::CallAnswer;
+use replies::SubmissionAttemptStatus;
+use submitted::DrainedSubmission;
+
+pub fn done_refused(book: SubmissionBook, n: u8) -> DoneAnswer
+    ensures { λ r. ⌜ r ≡ doneGiven book (undone n) ⌝ }
+{
+    DoneAnswer {
+        answer: CallAnswer::Refused(n),
+        book,
+    }
+}
+
+pub fn status_refused(book: SubmissionBook, n: u8) -> StatusAnswer
+    ensures { λ r. ⌜ r ≡ statusGiven book (undone n) ⌝ }
+{
+    StatusAnswer {
+        answer: CallAnswer::Refused(n),
+        status: SubmissionAttemptStatus::Stale,
+        book,
+    }
+}
+
+pub fn ids_refused(book: SubmissionBook, n: u8) -> IdsAnswer
+    ensures { λ r. ⌜ r ≡ idsGiven book (undone n) ⌝ }
+{
+    IdsAnswer {
+        answer: CallAnswer::Refused(n),
+        ids: empty64(),
+        book,
+    }
+}
+
+pub fn flag_refused(book: SubmissionBook, n: u8) -> FlagAnswer
+    ensures { λ r. ⌜ r ≡ flagGiven book (undone n) ⌝ }
+{
+    FlagAnswer {
+        answer: CallAnswer::Refused(n),
+        flag: false,
+        book,
+    }
+}
+
+pub fn height_refused(book: SubmissionBook, n: u8) -> HeightAnswer
+    ensures { λ r. ⌜ r ≡ heightGiven book (undone n) ⌝ }
+{
+    HeightAnswer {
+        answer: CallAnswer::Refused(n),
+        height: OptionalHeight::NoHeight,
+        book,
+    }
+}
+
+pub fn attempt_refused(book: SubmissionBook, n: u8) -> AttemptAnswer
+    ensures { λ r. ⌜ r ≡ attemptGiven book (undone n) ⌝ }
+{
+    AttemptAnswer {
+        answer: CallAnswer::Refused(n),
+        attempt: OptionalAttempt::zero(),
+        book,
+    }
+}
+
+pub fn fee_intent_refused(book: SubmissionBook, n: u8) -> FeeIntentAnswer
+    ensures { λ r. ⌜ r ≡ feeIntentGiven book (undone n) ⌝ }
+{
+    FeeIntentAnswer {
+        answer: CallAnswer::Refused(n),
+        present: false,
+        fee_intent: SubmissionFeeIntent::zero(),
+        book,
+    }
+}
+
+pub fn finalize_refused(book: SubmissionBook, n: u8) -> FinalizeAnswer
+    ensures { λ r. ⌜ r ≡ finalizeGiven book (undone n) ⌝ }
+{
+    FinalizeAnswer {
+        answer: CallAnswer::Refused(n),
+        present: false,
+        finalized: zero_finalized(),
+        book,
+    }
+}
+
+pub fn written_refused(book: SubmissionBook, n: u8) -> WrittenAnswer
+    ensures { λ r. ⌜ r ≡ writtenGiven book (undone n) ⌝ }
+{
+    WrittenAnswer {
+        answer: CallAnswer::Refused(n),
+        length: 0,
+        book,
+    }
+}
+
+pub fn drain_refused(book: SubmissionBook, n: u8) -> DrainAnswer
+    ensures { λ r. ⌜ r ≡ drainGiven book (undone n) ⌝ }
+{
+    let x = DrainedSubmission::zero();
+    let f = SubmissionDrainFailure::zero();
+    DrainAnswer {
+        answer: CallAnswer::Refused(n),
+        submission_count: 0,
+        submissions: [x; 16],
+        failure_count: 0,
+        failures: [f; 16],
+        book,
+    }
+}
