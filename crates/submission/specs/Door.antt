@@ -1,8 +1,10 @@
 -- The door of every call: the number by which a book is refused before the rules of the call are looked at, and what each number says of them.
 use Prim.Native.Nat.{ℕ}
 use mathlib.Core.Bool.{Bool, true, false, cond}
+use mathlib.Core.List.{List}
 use mathlib.Core.Path.{_≡_, refl, ap, sym, _∙_}
 use borrow.Author.Tests.{eqb-false}
+use Rattle.wire.specs.Wire.{overlay}
 use Rattle.book_data.specs.declared.BookData.{BookData}
 use Rattle.book_data.specs.Model.{Book, view}
 use Rattle.book_data.specs.Sound.{soundb}
@@ -11,9 +13,11 @@ use Rattle.rules.specs.Call.{Call, Value}
 use Rattle.rules.specs.Calls.{rules}
 use Rattle.rules.specs.Rule.{Rule, Outcome, undone}
 use Rattle.rules.specs.Steps.{runBook}
-use Rattle.replies.specs.Reply.{outcomeOf}
+use Rattle.replies.specs.Reply.{outcomeOf, bufferLeft}
 use Rattle.submission.specs.declared.SubmissionBook.{SubmissionBook}
-use Rattle.submission.specs.Book.{outcome}
+use Rattle.submission.specs.declared.WrittenAnswer.{WrittenAnswer}
+use Rattle.submission.specs.Book.{outcome, bufferAfter}
+use Rattle.submission.specs.Answers.{writtenGiven, writtenAnswer}
 
 abbrev numberBy : Bool → ℕ
 numberBy true = 0
@@ -38,6 +42,9 @@ module _ (b : BookData) where
   pub sound-open : soundb b ≡ true → doorNumber b ≡ 0
   sound-open e = ap numberBy e
 
+  pub unsound-shut : soundb b ≡ false → doorNumber b ≡ 1
+  unsound-shut e = ap numberBy e
+
   pub open-sound : doorNumber b ≡ 0 → soundb b ≡ true
   open-sound e = sound-by (soundb b) e
 
@@ -58,3 +65,14 @@ module _ (s : SubmissionBook) (c : Call) {n : ℕ} (told : n ≡ doorNumber (s .
   pub passed : n ≡ 0 → x ≡ f (runBook (rules encodeModel c) (view (s .parts))) → x ≡ f (outcome s c)
   unfolding outcome
   passed h e = e ∙ ap f (sym (door-open (s .parts) (rules encodeModel c) (sym told ∙ h)))
+
+-- the same of a call that is lent a buffer, d before it and d′ behind it
+module _ (s : SubmissionBook) (c : Call) {n : ℕ} (told : n ≡ doorNumber (s .parts)) (d : List ℕ) {x : WrittenAnswer} where
+  pub written-refused : (n ≡ 0 → ⊥) → x ≡ writtenGiven s (undone n) → (x ≡ writtenAnswer s c) × (d ≡ bufferAfter s c d)
+  unfolding bufferAfter overlay
+  written-refused h e = (refused s c told (writtenGiven s) h e, refused s c told (bufferLeft d) h refl)
+
+  pub written-passed : {d′ : List ℕ} → n ≡ 0 → x ≡ writtenGiven s (runBook (rules encodeModel c) (view (s .parts)))
+      → d′ ≡ bufferLeft d (runBook (rules encodeModel c) (view (s .parts))) → (x ≡ writtenAnswer s c) × (d′ ≡ bufferAfter s c d)
+  unfolding bufferAfter
+  written-passed h e q = (passed s c told (writtenGiven s) h e, passed s c told (bufferLeft d) h q)

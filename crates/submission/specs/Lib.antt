@@ -1,4 +1,4 @@
 pub mod Book
-pub mod Door
 pub mod Answers
+pub mod Door
 pub mod Calls

@@ -2,6 +2,7 @@
 ghost use mathlib.Core.Path.{_≡_};
 ghost use Rattle.rules.specs.Rule.{undone};
 ghost use Rattle.submission.specs.Answers.{doneGiven, statusGiven, idsGiven, flagGiven, heightGiven, attemptGiven, feeIntentGiven, finalizeGiven, writtenGiven, drainGiven};
+use book_data::Ids64;
 use book_data::OptionalAttempt;
 use book_data::OptionalHeight;
 use book_data::SubmissionFeeIntent;
@@ -18,7 +19,6 @@ use crate::SubmissionBook;
 use crate::WrittenAnswer;
 use drain_answers::SubmissionDrainFailure;
 use finalize_call::zero_finalized;
-use ids::empty64;
 use replies::CallAnswer;
 use replies::SubmissionAttemptStatus;
 use submitted::DrainedSubmission;
@@ -45,9 +45,13 @@ pub fn status_refused(book: SubmissionBook, n: u8) -> StatusAnswer
 pub fn ids_refused(book: SubmissionBook, n: u8) -> IdsAnswer
     ensures { λ r. ⌜ r ≡ idsGiven book (undone n) ⌝ }
 {
+    let ids = Ids64 {
+        count: 0,
+        items: [0; 64],
+    };
     IdsAnswer {
         answer: CallAnswer::Refused(n),
-        ids: empty64(),
+        ids,
         book,
     }
 }

@@ -1,13 +1,22 @@
+-- The door's number tells which: the refusal by it, or what the call for a sound book answers.
 use borrow.Author.Needs.{needs}
-use mathlib.Core.Path.{ap, _∙_}
-use Rattle.submission.specs.Book.{outcome}
-use Rattle.submission.specs.Answers.{drainFrom}
+use mathlib.Core.Path.{sym, ap, _∙_}
+use Rattle.rules.specs.Calls.{rules}
+use Rattle.submission.specs.Answers.{drainFrom, drainGiven}
+use Rattle.submission.specs.Door.{open-sound, refused, passed}
 use Rattle.submission.proofs.SubmissionBook.drain.Statement.{statement}
 use Rattle.submission.proofs.SubmissionBook.drain.Tie as tie
 
 returns : tie.Need-returns
-unfolding outcome
-returns c = c .drain-answer .ensures ∙ ap drainFrom (c .before .drain .ensures)
+returns c = let a = c .before .before .before .args in refused (a .self) _ (c .before .before .door .ensures) (drainGiven (a .self)) (c .before .if1 .taken) (c .drain-refused .ensures)
+
+drain-sound-requires : tie.Need-drain-sound-requires
+drain-sound-requires c κs = open-sound (c .before .before .args .self .parts) (sym (c .before .door .ensures) ∙ c .if1 .left)
+
+returns-2 : tie.Need-returns-2
+unfolding rules
+returns-2 c = let a = c .before .before .before .before .args in
+    passed (a .self) _ (c .before .before .before .door .ensures) (drainGiven (a .self)) (c .before .before .if1 .left) (c .drain-answer .ensures ∙ ap drainFrom (c .before .drain-sound .ensures))
 
 pub drain-spec : {M : Type 1} → statement M
-drain-spec = tie.close (tie.spec (λ c κs. search needs) (λ c κs. search needs) returns)
+drain-spec = tie.close (tie.spec (λ c κs. search needs) (λ c κs. search needs) returns drain-sound-requires (λ c κs. search needs) returns-2)

@@ -1,13 +1,22 @@
+-- The door's number tells which: the refusal by it, or what the call for a sound book answers.
 use borrow.Author.Needs.{needs}
-use mathlib.Core.Path.{ap, _∙_}
-use Rattle.submission.specs.Book.{outcome}
-use Rattle.submission.specs.Answers.{finalizeFrom}
+use mathlib.Core.Path.{sym, ap, _∙_}
+use Rattle.rules.specs.Calls.{rules}
+use Rattle.submission.specs.Answers.{finalizeFrom, finalizeGiven}
+use Rattle.submission.specs.Door.{open-sound, refused, passed}
 use Rattle.submission.proofs.SubmissionBook.finalize_attempt.Statement.{statement}
 use Rattle.submission.proofs.SubmissionBook.finalize_attempt.Tie as tie
 
 returns : tie.Need-returns
-unfolding outcome
-returns c = c .finalize-answer .ensures ∙ ap finalizeFrom (c .before .finalize-attempt .ensures)
+returns c = let a = c .before .before .before .args in refused (a .self) _ (c .before .before .door .ensures) (finalizeGiven (a .self)) (c .before .if1 .taken) (c .finalize-refused .ensures)
+
+finalize-attempt-sound-requires : tie.Need-finalize-attempt-sound-requires
+finalize-attempt-sound-requires c κs = open-sound (c .before .before .args .self .parts) (sym (c .before .door .ensures) ∙ c .if1 .left)
+
+returns-2 : tie.Need-returns-2
+unfolding rules
+returns-2 c = let a = c .before .before .before .before .args in
+    passed (a .self) _ (c .before .before .before .door .ensures) (finalizeGiven (a .self)) (c .before .before .if1 .left) (c .finalize-answer .ensures ∙ ap finalizeFrom (c .before .finalize-attempt-sound .ensures))
 
 pub finalize-attempt-spec : {M : Type 1} → statement M
-finalize-attempt-spec = tie.close (tie.spec (λ c κs. search needs) (λ c κs. search needs) returns)
+finalize-attempt-spec = tie.close (tie.spec (λ c κs. search needs) (λ c κs. search needs) returns finalize-attempt-sound-requires (λ c κs. search needs) returns-2)

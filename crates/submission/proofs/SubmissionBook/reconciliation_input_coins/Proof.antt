@@ -1,13 +1,22 @@
+-- The door's number tells which: the refusal by it, or what the call for a sound book answers.
 use borrow.Author.Needs.{needs}
-use mathlib.Core.Path.{ap, _∙_}
-use Rattle.submission.specs.Book.{outcome, bufferAfter}
+use mathlib.Core.Path.{sym, ap, _∙_}
+use Rattle.rules.specs.Calls.{rules}
 use Rattle.submission.specs.Answers.{writtenFrom}
+use Rattle.submission.specs.Door.{open-sound, written-refused, written-passed}
 use Rattle.submission.proofs.SubmissionBook.reconciliation_input_coins.Statement.{statement}
 use Rattle.submission.proofs.SubmissionBook.reconciliation_input_coins.Tie as tie
 
 returns : tie.Need-returns
-unfolding outcome bufferAfter
-returns c = (c .written-answer .ensures ∙ ap writtenFrom (c .before .before .before .reconciliation-input-coins .ensures .0), c .before .before .before .reconciliation-input-coins .ensures .1)
+returns c = let a = c .before .before .before .before .before .args in written-refused (a .self) _ (c .before .before .door .ensures) (a .out .now) (c .before .if1 .taken) (c .written-refused .ensures)
+
+reconciliation-input-coins-sound-requires : tie.Need-reconciliation-input-coins-sound-requires
+reconciliation-input-coins-sound-requires c κs = open-sound (c .before .before .before .before .before .args .self .parts) (sym (c .before .before .door .ensures) ∙ c .before .if1 .left)
+
+returns-2 : tie.Need-returns-2
+unfolding rules
+returns-2 c = let a = c .before .before .before .before .before .before .before .before .before .args in let w = c .before .before .before .reconciliation-input-coins-sound .ensures in
+    written-passed (a .self) _ (c .before .before .before .before .before .before .door .ensures) (a .out .now) (c .before .before .before .before .before .if1 .left) (c .written-answer .ensures ∙ ap writtenFrom (w .0)) (w .1)
 
 pub reconciliation-input-coins-spec : {M : Type 1} → statement M
-reconciliation-input-coins-spec = tie.close (tie.spec (λ c κs. search needs) (λ c κs. search needs) (λ c. search needs) returns)
+reconciliation-input-coins-spec = tie.close (tie.spec (λ c κs. search needs) (λ c κs. search needs) returns reconciliation-input-coins-sound-requires (λ c κs. search needs) (λ c. search needs) returns-2)

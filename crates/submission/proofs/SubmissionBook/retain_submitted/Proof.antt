@@ -1,13 +1,22 @@
+-- The door's number tells which: the refusal by it, or what the call for a sound book answers.
 use borrow.Author.Needs.{needs}
-use mathlib.Core.Path.{ap, _∙_}
-use Rattle.submission.specs.Book.{outcome}
-use Rattle.submission.specs.Answers.{idsFrom}
+use mathlib.Core.Path.{sym, ap, _∙_}
+use Rattle.rules.specs.Calls.{rules}
+use Rattle.submission.specs.Answers.{idsFrom, idsGiven}
+use Rattle.submission.specs.Door.{open-sound, refused, passed}
 use Rattle.submission.proofs.SubmissionBook.retain_submitted.Statement.{statement}
 use Rattle.submission.proofs.SubmissionBook.retain_submitted.Tie as tie
 
 returns : tie.Need-returns
-unfolding outcome
-returns c = c .ids-answer .ensures ∙ ap idsFrom (c .before .retain-submitted .ensures)
+returns c = let a = c .before .before .before .before .args in refused (a .self) _ (c .before .before .door .ensures) (idsGiven (a .self)) (c .before .if1 .taken) (c .ids-refused .ensures)
+
+retain-submitted-sound-requires : tie.Need-retain-submitted-sound-requires
+retain-submitted-sound-requires c κs = open-sound (c .before .before .before .args .self .parts) (sym (c .before .door .ensures) ∙ c .if1 .left)
+
+returns-2 : tie.Need-returns-2
+unfolding rules
+returns-2 c = let a = c .before .before .before .before .before .args in
+    passed (a .self) _ (c .before .before .before .door .ensures) (idsGiven (a .self)) (c .before .before .if1 .left) (c .ids-answer .ensures ∙ ap idsFrom (c .before .retain-submitted-sound .ensures))
 
 pub retain-submitted-spec : {M : Type 1} → statement M
-retain-submitted-spec = tie.close (tie.spec (λ c κs. search needs) (λ c κs. search needs) returns)
+retain-submitted-spec = tie.close (tie.spec (λ c κs. search needs) (λ c κs. search needs) returns retain-submitted-sound-requires (λ c κs. search needs) returns-2)
