@@ -20,10 +20,8 @@ use Rattle.book_data.specs.Typed.{Every, U64}
 use Rattle.archive_form.specs.Encode.{encodeModel}
 use Rattle.rules.specs.Books.{bookAfter}
 use Rattle.rules.specs.Call.{Call, Value}
-use Rattle.rules.specs.Calls.{rules}
 use Rattle.rules.specs.Opened.{opened}
 use Rattle.rules.specs.Rule.{Outcome, issuedBy}
-use Rattle.rules.specs.Steps.{runBook}
 use Rattle.rule_laws.specs.Sound.Run.{sound-opened}
 use Rattle.typed_laws.specs.Theorems.{within-opened}
 use Rattle.ledger.specs.Tidy.{Chained}

@@ -14,7 +14,7 @@ use Rattle.rules.specs.Rule.{Outcome, ended, undone, stopped, Answer, answered,
 use Rattle.rules.specs.Steps.{runBook}
 use Rattle.rule_laws.specs.Sound.Run.{SoundBook, sound-call, sound-opened}
 use Rattle.ledger.specs.Theorem.{Accounted, ledger-theorem}
-use Rattle.replies.specs.Reply.{outcomeOf, bookLeft}
+use Rattle.replies.specs.Reply.{bookLeft}
 use Rattle.sound_steps.specs.Holds.{Holds, holds-view, holds-soundb}
 use Rattle.submission.specs.declared.SubmissionBook.{SubmissionBook}
 use Rattle.submission.specs.Book.{bookOf, outcome, next}

@@ -10,6 +10,16 @@ ghost use Rattle.replies.specs.Values.{sourceOf};
 ghost use Rattle.submission.specs.Book.{bookOf, bufferAfter};
 ghost use Rattle.submission.specs.Door.{doorNumber};
 ghost use Rattle.submission.specs.Answers.{doneAnswer, statusAnswer, idsAnswer, flagAnswer, heightAnswer, attemptAnswer, feeIntentAnswer, finalizeAnswer, writtenAnswer, drainAnswer, doneFrom, statusFrom, idsFrom, flagFrom, heightFrom, attemptFrom, feeIntentFrom, finalizeFrom, writtenFrom, drainFrom};
+use crate::refused::attempt_refused;
+use crate::refused::done_refused;
+use crate::refused::drain_refused;
+use crate::refused::fee_intent_refused;
+use crate::refused::finalize_refused;
+use crate::refused::flag_refused;
+use crate::refused::height_refused;
+use crate::refused::ids_refused;
+use crate::refused::status_refused;
+use crate::refused::written_refused;
 use book_data::BookData;
 use book_data::DeliveryTrigger;
 use book_data::Height;
@@ -23,16 +33,6 @@ use book_data::SubmissionFeeIntent;
 use book_data::SubmissionId;
 use book_data::Token;
 use book_sound::is_sound;
-use crate::refused::attempt_refused;
-use crate::refused::done_refused;
-use crate::refused::drain_refused;
-use crate::refused::fee_intent_refused;
-use crate::refused::finalize_refused;
-use crate::refused::flag_refused;
-use crate::refused::height_refused;
-use crate::refused::ids_refused;
-use crate::refused::status_refused;
-use crate::refused::written_refused;
 use drain_answers::DrainReply;
 use drain_answers::SubmissionDrainFailure;
 use replies::AttemptReply;
@@ -253,8 +253,7 @@ fn drain_answer(r: DrainReply) -> DrainAnswer
     }
 }
 
-// ---- the door
-// Every call is refused here or not at all before its rules: a number of paper 01, or 0.
+// The door of every call: the number by which the book is refused, or 0.
 fn door(b: BookData) -> u8
     ensures { λ r. ⌜ r ≡ doorNumber b ⌝ }
 {
