@@ -25,21 +25,21 @@ use Rattle.book_cells.specs.Normal.{sound-normal}
 use Rattle.book_change.specs.Changes.{withEpochOf}
 use Rattle.book_change.specs.ChangeLaws.{epoch-normal}
 
-module _ (b : BookData) (h : Height) where
+module _ (b : BookData) where
   -- the epoch held stays, or one begins
-  abbrev by : Bool → Begun
-  by t = cond t (record { started = false; epoch = b .«replay_epoch» }) (record { started = true; epoch = epoch (At h) [] })
+  abbrev by : Height → Bool → Begun
+  by h t = cond t (record { started = false; epoch = b .«replay_epoch» }) (record { started = true; epoch = epoch (At h) [] })
 
   -- the reply with the epoch put into the book
   abbrev replyOf : Begun → FlagReply
   replyOf y = record { answer = Done; flag = y .started; book = back (withEpochOf (y .epoch .«rollback_height») (replayedOf (y .epoch)) (view b)) }
 
-  module _ {x : Begun} (e : x ≡ begun (b .«replay_epoch») h) where
+  module _ (h : Height) {x : Begun} (e : x ≡ begun (b .«replay_epoch») h) where
     pub begun-normal : soundb b ≡ true → Epoch.Normal (x .epoch)
     unfolding begun
     begun-normal s = rw e (go (isAt (b .«replay_epoch» .«rollback_height») (h .0)))
       where
-        go : (t : Bool) → Epoch.Normal (by t .epoch)
+        go : (t : Bool) → Epoch.Normal (by h t .epoch)
         go true = epoch-normal b (sound-normal b s)
         go false = normal-epoch (At h) [] (omega arith)
 
@@ -50,6 +50,6 @@ module _ (b : BookData) (h : Height) where
         ap {B = FlagReply} (λ (o : BookData). record { answer = Done; flag = x .started; book = o }) f
         ∙ ap replyOf e ∙ go (isAt (b .«replay_epoch» .«rollback_height») (h .0))
       where
-        go : (t : Bool) → replyOf (by t) ≡ flagReply b (runBook (cond t (done (flag false)) (act (note (beginEpoch h)) (done (flag true)))) (view b))
+        go : (t : Bool) → replyOf (by h t) ≡ flagReply b (runBook (cond t (done (flag false)) (act (note (beginEpoch h)) (done (flag true)))) (view b))
         go true = refl
         go false = refl

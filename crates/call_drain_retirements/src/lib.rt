@@ -15,8 +15,8 @@ pub fn drain_retirements_sound(b: BookData) -> IdsReply
     requires { ⌜ soundb b ≡ true ⌝ }
     ensures { λ r. ⌜ r ≡ idsReply b (runBook drainRetirements (view b)) ⌝ }
 {
-    let held = b.retired_submission_ids;
     let drained = clear_retired(b);
+    let held = b.retired_submission_ids;
     IdsReply {
         answer: CallAnswer::Done,
         ids: held,

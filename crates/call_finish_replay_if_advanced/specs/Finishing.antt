@@ -24,7 +24,7 @@ use Rattle.book_cells.specs.Normal.{sound-normal}
 use Rattle.book_change.specs.Changes.{withEpochOf}
 use Rattle.book_change.specs.ChangeLaws.{epoch-normal}
 
-module _ (b : BookData) (h : Height) where
+module _ (b : BookData) where
   -- the epoch ends, or the one held stays
   abbrev by : Bool → ReplayEpoch
   by t = cond t (epoch NoHeight []) (b .«replay_epoch»)
@@ -33,7 +33,7 @@ module _ (b : BookData) (h : Height) where
   abbrev replyOf : ReplayEpoch → DoneReply
   replyOf y = record { answer = Done; book = back (withEpochOf (y .«rollback_height») (replayedOf y) (view b)) }
 
-  module _ {x : ReplayEpoch} (e : x ≡ finished (b .«replay_epoch») h) where
+  module _ (h : Height) {x : ReplayEpoch} (e : x ≡ finished (b .«replay_epoch») h) where
     pub finished-normal : soundb b ≡ true → Epoch.Normal x
     unfolding finished
     finished-normal s = rw e (go (isBefore (b .«replay_epoch» .«rollback_height») (h .0)))

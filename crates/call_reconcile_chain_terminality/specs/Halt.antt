@@ -133,6 +133,7 @@ module _ (i : ℕ) (c : SubmissionChainTerminality) (b : BookData) (sound : soun
   still = holds-sound b sound .sound
 
   retired-by : (r : Retired) → r ≡ retiring i (haltedBook i c (view b)) → Judged (halt i c) k b r
+  unfolding retiring
   retired-by r e = record { kept = fits; over = λ q. halt-over i c (view b) (room q) }
     where
       short : Fits (haltedBook i c (view b))

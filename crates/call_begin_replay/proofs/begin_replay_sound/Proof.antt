@@ -7,7 +7,7 @@ use Rattle.call_begin_replay.proofs.begin_replay_sound.Tie as tie
 
 set-epoch-requires : tie.Need-set-epoch-requires
 set-epoch-requires c κs = let a = c .before .before .before .args in let s = c .before .before .before .pre in
-    (sound-normal (a .b) s, begun-normal (a .b) (a .h) (c .before .begin .ensures) s)
+    (sound-normal (a .b) s, begun-normal (a .b) _ (c .before .begin .ensures) s)
 
 returns : tie.Need-returns
 returns c = let a = c .before .before .before .before .args in

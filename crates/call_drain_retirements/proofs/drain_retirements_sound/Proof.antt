@@ -5,10 +5,10 @@ use Rattle.call_drain_retirements.proofs.drain_retirements_sound.Statem
 use Rattle.call_drain_retirements.proofs.drain_retirements_sound.Tie as tie
 
 clear-retired-requires : tie.Need-clear-retired-requires
-clear-retired-requires c κs = sound-normal (c .before .args .b) (c .before .pre)
+clear-retired-requires c κs = sound-normal (c .args .b) (c .pre)
 
 returns : tie.Need-returns
-returns c = drain-is (c .before .before .args .b) (c .before .before .pre) (c .clear-retired .ensures)
+returns c = drain-is (c .before .before .args .b) (c .before .before .pre) (c .before .clear-retired .ensures)
 
 pub drain-retirements-sound-spec : {M : Type 1} → statement M
 drain-retirements-sound-spec = tie.close (tie.spec clear-retired-requires returns)

@@ -7,7 +7,7 @@ use Rattle.call_finish_replay_if_advanced.proofs.finish_replay_if_advan
 
 set-epoch-requires : tie.Need-set-epoch-requires
 set-epoch-requires c κs = let a = c .before .before .args in let s = c .before .before .pre in
-    (sound-normal (a .b) s, finished-normal (a .b) (a .h) (c .finish-if-advanced .ensures) s)
+    (sound-normal (a .b) s, finished-normal (a .b) _ (c .finish-if-advanced .ensures) s)
 
 returns : tie.Need-returns
 returns c = let a = c .before .before .before .args in
