@@ -1,10 +1,11 @@
+-- Whether a further retirement is a 65th is what the list with the id answers.
 use Rattle.ids.specs.declared.Pushed64.{Pushed64}
 use Rattle.ids.specs.Ids.{pushed64}
 use Rattle.plan.specs.Plan.{removalPlan}
 use mathlib.Core.Path.{sym, ap, _∙_}
 use borrow.Author.Needs.{needs}
-use Rattle.plan.proofs.removal.Statement.{statement}
-use Rattle.plan.proofs.removal.Tie as tie
+use Rattle.plan_candidate.proofs.removal.Statement.{statement}
+use Rattle.plan_candidate.proofs.removal.Tie as tie
 
 returns : tie.Need-returns
 unfolding removalPlan pushed64

@@ -1,8 +1,9 @@
+-- The test of the goal decides between the plan that delivers and the one that only stores.
 use Rattle.plan.specs.Plan.{metPlan}
 use mathlib.Core.Path.{sym, _∙_}
 use borrow.Author.Needs.{needs}
-use Rattle.plan.proofs.met.Statement.{statement}
-use Rattle.plan.proofs.met.Tie as tie
+use Rattle.plan_candidate.proofs.met.Statement.{statement}
+use Rattle.plan_candidate.proofs.met.Tie as tie
 
 returns : tie.Need-returns
 unfolding metPlan

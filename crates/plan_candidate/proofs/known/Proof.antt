@@ -1,10 +1,10 @@
+-- The cause that the tests tell is the rules' miss, and decides between the two plans.
 use Rattle.book_data.specs.Model.{list16, list64}
-use Rattle.plan.specs.Plan.{causeIn}
-use Rattle.plan.specs.PlanLaws.{known-none, known-some}
+use Rattle.plan_candidate.specs.Known.{causeIn, known-none, known-some}
 use mathlib.Core.Path.{sym, ap, _∙_}
 use borrow.Author.Needs.{needs}
-use Rattle.plan.proofs.known.Statement.{statement}
-use Rattle.plan.proofs.known.Tie as tie
+use Rattle.plan_candidate.proofs.known.Statement.{statement}
+use Rattle.plan_candidate.proofs.known.Tie as tie
 
 returns : tie.Need-returns
 returns c =

@@ -1,8 +1,9 @@
+-- The new submission is the rules' new entry with empty slots, delivered under the next id.
 use Rattle.plan.specs.Plan.{retainPlan}
 use mathlib.Core.Path.{sym}
 use borrow.Author.Needs.{needs}
-use Rattle.plan.proofs.retain.Statement.{statement}
-use Rattle.plan.proofs.retain.Tie as tie
+use Rattle.plan_candidate.proofs.retain.Statement.{statement}
+use Rattle.plan_candidate.proofs.retain.Tie as tie
 
 returns : tie.Need-returns
 unfolding retainPlan

@@ -1,9 +1,10 @@
+-- One answer for each way out of the tests, which are those of the rules.
 use borrow.Author.Tests.{not-true, not-false}
 use Rattle.rules.specs.Calls.Plan.{wanted}
 use mathlib.Core.Path.{refl, sym, _∙_}
 use borrow.Author.Needs.{needs}
-use Rattle.plan.proofs.should_emit.Statement.{statement}
-use Rattle.plan.proofs.should_emit.Tie as tie
+use Rattle.plan_candidate.proofs.should_emit.Statement.{statement}
+use Rattle.plan_candidate.proofs.should_emit.Tie as tie
 
 returns : tie.Need-returns
 unfolding wanted
