@@ -6,7 +6,6 @@ use native.Mathlib.Omega.{arith}
 use Rattle.book_data.specs.declared.BookData.{BookData}
 use Rattle.book_data.specs.declared.Height.{Height}
 use Rattle.book_data.specs.declared.OptionalHeight.the-variants.{At}
-use Rattle.book_data.specs.declared.ReplayEpoch.{ReplayEpoch}
 use Rattle.book_data.specs.Model.{view, back}
 use Rattle.book_data.specs.Sound.{soundb}
 use Rattle.rules.specs.Call.{flag}

@@ -15,7 +15,7 @@ use Rattle.book_data.specs.declared.BookData.{BookData}
 use Rattle.archive_form.specs.Encode.{encodeModel, encodeBook}
 use Rattle.archive.specs.declared.Wrote.{Wrote}
 use Rattle.archive.specs.declared.Wrote.the-variants.{Unsound, Short, Bytes}
-use Rattle.archive.specs.Answer.{WriteAnswer, refused, wrote, answerOf, writeAnswer, leftIn}
+use Rattle.archive.specs.Answer.{refused, wrote, answerOf, writeAnswer, leftIn}
 use Rattle.rules.specs.Rule.{undone, run}
 use Rattle.rules.specs.Steps.{runBook}
 use Rattle.rules.specs.Calls.Common.{writing}

@@ -39,10 +39,15 @@ loop-again c =
     let l = t .before .loop in
     let v = l .inv in
     let s = t .before .before .before .before .before in
-    let b = s .args .t2 in
-    (search needs, v .1, v .2, omega (arith, v .3, short-of q), omega (arith, v .4, q .few),
-    collecting-turn (v .5) (counted-step (b .submitted) (b .«submitted_count») (l .i) _ (t .loop-test .taken) (omega (arith, v .1, v .2))) q
-    (omega (arith, v .3, v .1, t .loop-test .taken, s .pre .1, short-of q)))
+    let b = s .args .t2 in (
+      search needs,
+      v .1,
+      v .2,
+      omega (arith, v .3, short-of q),
+      omega (arith, v .4, q .few),
+      collecting-turn (v .5) (counted-step (b .submitted) (b .«submitted_count») (l .i) _ (t .loop-test .taken) (omega (arith, v .1, v .2))) q
+          (omega (arith, v .3, v .1, t .loop-test .taken, s .pre .1, short-of q)),
+    )
 
 same-length : tie.Need-same-length Inv-loop μ-loop
 same-length c = c .before .loop .inv .5 .put .long

@@ -25,9 +25,12 @@ abbrev μ-loop : tie.MeasureT-loop
 μ-loop b absent inputs n out₀ i₀ out i = n - i
 
 loop-holds : tie.Need-loop-holds Inv-loop μ-loop
-loop-holds c = let s = c .before .before .before in let a = s .args in let n = sound-normal (a .b) (s .pre) in
-    (search needs, sizes (a .b) n .submitted, submitted-are (a .b) n .count,
-    collect-start idOf (isRolledBack (coinsIn (a .absent .now)) (idsIn (a .inputs .now))) (view (a .b) .submitted) (c .empty16 .ensures))
+loop-holds c = let s = c .before .before .before in let a = s .args in let n = sound-normal (a .b) (s .pre) in (
+  search needs,
+  sizes (a .b) n .submitted,
+  submitted-are (a .b) n .count,
+  collect-start idOf (isRolledBack (coinsIn (a .absent .now)) (idsIn (a .inputs .now))) (view (a .b) .submitted) (c .empty16 .ensures),
+)
 
 submitted-at-requires : tie.Need-submitted-at-requires Inv-loop μ-loop
 submitted-at-requires c κs = let s = c .before .before .before .before .before in
@@ -45,11 +48,14 @@ loop-again c =
     let l = t .before .loop in
     let v = l .inv in
     let a = t .before .before .before .before .before .args in
-    let ts = view (a .b) .submitted in
-    (search needs, v .1, v .2,
-    collect-keep idOf (isRolledBack (coinsIn (a .absent .now)) (idsIn (a .inputs .now))) ts (v .3)
-    (rest-step ts (l .i) zeroSubmitted (omega (arith, v .2, t .loop-test .taken)) ∙ ap (λ (t : SubmittedTx). t ∷ drop (l .i + 1) ts) (sym (at .submitted-at .ensures)))
-    (sym (f .rolled-back .ensures) ∙ c .before .before .if1 .taken) (c .push16 .ensures))
+    let ts = view (a .b) .submitted in (
+      search needs,
+      v .1,
+      v .2,
+      collect-keep idOf (isRolledBack (coinsIn (a .absent .now)) (idsIn (a .inputs .now))) ts (v .3)
+          (rest-step ts (l .i) zeroSubmitted (omega (arith, v .2, t .loop-test .taken)) ∙ ap (λ (t : SubmittedTx). t ∷ drop (l .i + 1) ts) (sym (at .submitted-at .ensures)))
+          (sym (f .rolled-back .ensures) ∙ c .before .before .if1 .taken) (c .push16 .ensures),
+    )
 
 loop-again-2 : tie.Need-loop-again-2 Inv-loop μ-loop
 loop-again-2 c =
@@ -59,11 +65,14 @@ loop-again-2 c =
     let l = t .before .loop in
     let v = l .inv in
     let a = t .before .before .before .before .before .args in
-    let ts = view (a .b) .submitted in
-    (search needs, v .1, v .2,
-    collect-skip idOf (isRolledBack (coinsIn (a .absent .now)) (idsIn (a .inputs .now))) ts (v .3)
-    (rest-step ts (l .i) zeroSubmitted (omega (arith, v .2, t .loop-test .taken)) ∙ ap (λ (t : SubmittedTx). t ∷ drop (l .i + 1) ts) (sym (at .submitted-at .ensures)))
-    (sym (f .rolled-back .ensures) ∙ c .if1 .left))
+    let ts = view (a .b) .submitted in (
+      search needs,
+      v .1,
+      v .2,
+      collect-skip idOf (isRolledBack (coinsIn (a .absent .now)) (idsIn (a .inputs .now))) ts (v .3)
+          (rest-step ts (l .i) zeroSubmitted (omega (arith, v .2, t .loop-test .taken)) ∙ ap (λ (t : SubmittedTx). t ∷ drop (l .i + 1) ts) (sym (at .submitted-at .ensures)))
+          (sym (f .rolled-back .ensures) ∙ c .if1 .left),
+    )
 
 returns : tie.Need-returns Inv-loop μ-loop
 returns c = let l = c .before .loop in let v = l .inv in let a = c .before .before .before .before .before .args in let ts = view (a .b) .submitted in

@@ -1,5 +1,5 @@
 -- The rules are those of the offer and an end of the turn, so what `offer` ends with is settled.
-use mathlib.Core.Path.{_≡_, _∙_}
+use mathlib.Core.Path.{_∙_}
 use Rattle.book_data.specs.Model.{view}
 use Rattle.rules.specs.Call.{noValue}
 use Rattle.rules.specs.Steps.{runBook}

@@ -46,9 +46,12 @@ loop-again c =
     let j = c .before .before in
     let v = j .before .before .before .loop .inv in
     let a = j .before .before .before .before .before .before .before .args in
-    let y = j .judge .ensures .kept (c .before .if2 .left) in
-    (search needs, v .1 ∙ sym (y .count), y .sound,
-    left-turn (coinsIn (a .observed .now)) (idsIn (a .spent .now)) (a .reorg) (a .rolled-back .now) (v .3) (j .judge .result) (omega (arith, v .1, j .before .if1 .taken)) (j .judge .ensures) (c .before .if2 .left))
+    let y = j .judge .ensures .kept (c .before .if2 .left) in (
+      search needs,
+      v .1 ∙ sym (y .count),
+      y .sound,
+      left-turn (coinsIn (a .observed .now)) (idsIn (a .spent .now)) (a .reorg) (a .rolled-back .now) (v .3) (j .judge .result) (omega (arith, v .1, j .before .if1 .taken)) (j .judge .ensures) (c .before .if2 .left),
+    )
 
 returns-2 : tie.Need-returns-2 Inv-loop μ-loop
 returns-2 c = let l = c .before .before .loop in let v = l .inv in let a = c .before .before .before .before .before .before .args in

@@ -36,9 +36,13 @@ gather-inputs-requires : tie.Need-gather-inputs-requires Inv-loop μ-loop
 gather-inputs-requires c κs = let v = c .before .before .loop .inv in omega (arith, v .3, v .1, c .before .loop-test .taken)
 
 loop-again : tie.Need-loop-again Inv-loop μ-loop
-loop-again c = let l = c .before .before .before .loop in let v = l .inv in let b = c .before .before .before .before .before .before .args .t1 in
-    (search needs, v .1, v .2, omega (arith, v .3, c .gather-inputs .ensures .few),
-    gathering-turn (v .4) (counted-step (b .submitted) (b .«submitted_count») (l .i) _ (c .before .before .loop-test .taken) (omega (arith, v .1, v .2))) (c .gather-inputs .ensures))
+loop-again c = let l = c .before .before .before .loop in let v = l .inv in let b = c .before .before .before .before .before .before .args .t1 in (
+  search needs,
+  v .1,
+  v .2,
+  omega (arith, v .3, c .gather-inputs .ensures .few),
+  gathering-turn (v .4) (counted-step (b .submitted) (b .«submitted_count») (l .i) _ (c .before .before .loop-test .taken) (omega (arith, v .1, v .2))) (c .gather-inputs .ensures),
+)
 
 returns : tie.Need-returns Inv-loop μ-loop
 unfolding view

@@ -22,14 +22,16 @@ unfolding missOf
 returns-3 c =
     let v = c .before .before .before .before .before .before in
     let fee = v .before .before .same-fee-intent in
-    rw (sym (fee .ensures) ∙ not-false (fee .result) (v .before .if1 .left), sym (v .validate .ensures) ∙ not-false (v .validate .result) (c .before .before .before .before .before .if2 .left), sym (c .before .same32 .ensures) ∙ not-true (c .before .same32 .result) (c .if3 .taken)) refl
+    let valid = sym (v .validate .ensures) ∙ not-false (v .validate .result) (c .before .before .before .before .before .if2 .left) in
+    rw (sym (fee .ensures) ∙ not-false (fee .result) (v .before .if1 .left), valid, sym (c .before .same32 .ensures) ∙ not-true (c .before .same32 .result) (c .if3 .taken)) refl
 
 returns-4 : tie.Need-returns-4
 unfolding missOf
 returns-4 c =
     let v = c .before .before .before .before .before .before in
     let fee = v .before .before .same-fee-intent in
-    rw (sym (fee .ensures) ∙ not-false (fee .result) (v .before .if1 .left), sym (v .validate .ensures) ∙ not-false (v .validate .result) (c .before .before .before .before .before .if2 .left), sym (c .before .same32 .ensures) ∙ not-false (c .before .same32 .result) (c .if3 .left)) refl
+    let valid = sym (v .validate .ensures) ∙ not-false (v .validate .result) (c .before .before .before .before .before .if2 .left) in
+    rw (sym (fee .ensures) ∙ not-false (fee .result) (v .before .if1 .left), valid, sym (c .before .same32 .ensures) ∙ not-false (c .before .same32 .result) (c .if3 .left)) refl
 
 pub miss-of-spec : {M : Type 1} → statement M
 miss-of-spec =

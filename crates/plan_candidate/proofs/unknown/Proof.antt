@@ -28,8 +28,13 @@ returns-4 : tie.Need-returns-4
 unfolding unknownPlan
 returns-4 c =
     let r = c .before .before .before .before .before .before .before in
-    rw (sym (r .before .before .has16 .ensures) ∙ r .before .if1 .left, sym (r .is-readable-bundle .ensures) ∙ not-false (r .is-readable-bundle .result) (c .before .before .before .before .before .before .if2 .left),
-    ne-eqb _ _ (c .before .before .before .before .if3 .left), eq-eqb (r .before .before .before .before .before .before .args .place .count) 16 (omega (arith, c .before .before .if4 .taken)), sym (c .before .zero .ensures)) (c .failing .ensures)
+    rw (
+      sym (r .before .before .has16 .ensures) ∙ r .before .if1 .left,
+      sym (r .is-readable-bundle .ensures) ∙ not-false (r .is-readable-bundle .result) (c .before .before .before .before .before .before .if2 .left),
+      ne-eqb _ _ (c .before .before .before .before .if3 .left),
+      eq-eqb (r .before .before .before .before .before .before .args .place .count) 16 (omega (arith, c .before .before .if4 .taken)),
+      sym (c .before .zero .ensures),
+    ) (c .failing .ensures)
 
 retain-requires : tie.Need-retain-requires
 retain-requires c κs =
@@ -40,8 +45,12 @@ returns-5 : tie.Need-returns-5
 unfolding unknownPlan
 returns-5 c =
     let r = c .before .before .before .before .before .before in
-    rw (sym (r .before .before .has16 .ensures) ∙ r .before .if1 .left, sym (r .is-readable-bundle .ensures) ∙ not-false (r .is-readable-bundle .result) (c .before .before .before .before .before .if2 .left),
-    ne-eqb _ _ (c .before .before .before .if3 .left), ne-eqb _ _ (c .before .if4 .left)) (c .retain .ensures)
+    rw (
+      sym (r .before .before .has16 .ensures) ∙ r .before .if1 .left,
+      sym (r .is-readable-bundle .ensures) ∙ not-false (r .is-readable-bundle .result) (c .before .before .before .before .before .if2 .left),
+      ne-eqb _ _ (c .before .before .before .if3 .left),
+      ne-eqb _ _ (c .before .if4 .left),
+    ) (c .retain .ensures)
 
 pub unknown-spec : {M : Type 1} → statement M
 unknown-spec =
