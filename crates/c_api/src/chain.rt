@@ -2,8 +2,8 @@
 use boundary_read::held;
 use boundary_replies::settle_ids;
 use boundary_write::settle_done;
-use chain_calls::causally_rolled_back_ids_sound;
-use chain_calls::reconcile_chain_terminality_sound;
+use call_causally_rolled_back_ids::causally_rolled_back_ids_sound;
+use call_reconcile_chain_terminality::reconcile_chain_terminality_sound;
 use coin_string::is_coin_list;
 use coin_string::is_id_list;
 ghost use Rattle.c_api.specs.Functions.{CCall, Did, answered, back};

@@ -6,11 +6,11 @@ use boundary_replies::settle_flag;
 use boundary_replies::settle_height;
 use boundary_replies::settle_ids;
 use boundary_write::settle_done;
-use replay_calls::begin_replay_sound;
-use replay_calls::drain_retirements_sound;
-use replay_calls::emit_retirement_sound;
-use replay_calls::finish_replay_if_advanced_sound;
-use replay_calls::replay_rollback_height_sound;
+use call_begin_replay::begin_replay_sound;
+use call_drain_retirements::drain_retirements_sound;
+use call_emit_retirement::emit_retirement_sound;
+use call_finish_replay_if_advanced::finish_replay_if_advanced_sound;
+use call_replay_rollback_height::replay_rollback_height_sound;
 ghost use Rattle.c_api.specs.Functions.{CCall, Did, answered, back};
 
 #[no_mangle]

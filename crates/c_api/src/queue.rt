@@ -2,11 +2,11 @@
 use book_data::SubmissionId;
 use boundary_read::held;
 use boundary_write::settle_done;
+use call_queue::queue_sound;
+use call_queue_retained_delivery::queue_retained_delivery_sound;
 use cursor::FAR;
 use entry_read::delivery::read_delivery;
 use fee_readiness_call::queue_fee_readiness_sound;
-use queue_calls::queue_retained_delivery_sound;
-use queue_calls::queue_sound;
 use rebroadcast_call::queue_rebroadcast_epoch_sound;
 use replay_queue::collect_rollback_replay_ids_sound;
 use spend_read::kind::read_goal;

@@ -9,7 +9,7 @@ ghost use Rattle.coin_string.specs.CoinIds.{idsIn};
 ghost use Rattle.coin_string.specs.CoinList.{coinsIn};
 ghost use Rattle.bundle_coins.specs.Laws.{outputAt};
 ghost use Rattle.rules.specs.Doors.{among};
-ghost use Rattle.rules.specs.Parts.{isInputSpent};
+ghost use Rattle.rules.specs.Parts.{isInputSpent, isLanded};
 ghost use Rattle.rules.specs.Calls.ReconcileChainTerminality.{outputObserved, inputSpent};
 ghost use Rattle.rules.specs.Calls.CausallyRolledBackIds.{outerInputIds, rolledBack};
 ghost use Rattle.chain_tests.specs.Made.{spendMakes, bundleMakes};
@@ -127,6 +127,16 @@ fn outer_inputs_live(b: SpendBundle, inputs: &[u8]) -> bool
         i += 1;
     }
     true
+}
+
+pub fn is_landed(c: SubmissionChainTerminality) -> bool
+    ensures { λ r. ⌜ r ≡ isLanded c ⌝ }
+{
+    match c {
+        SubmissionChainTerminality::Active => false,
+        SubmissionChainTerminality::InputSpent => false,
+        SubmissionChainTerminality::Landed => true,
+    }
 }
 
 fn is_input_spent(c: SubmissionChainTerminality) -> bool

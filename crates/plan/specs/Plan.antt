@@ -21,21 +21,15 @@ use Rattle.rules.specs.Steps.Entry.{revised, newEntry}
 use Rattle.rules.specs.Steps.Slots.{issueAttempt, slotsIssued, taken, handed}
 use Rattle.rules.specs.Calls.Plan.{missOf, wanted, last64}
 use Rattle.submitted.specs.Drained.{drainedBack, zeroDrained}
-use Rattle.drain_answers.specs.Failures.{causeOf, causeBack, zeroFailure}
+use Rattle.drain_answers.specs.Failures.{causeBack, zeroFailure}
 use Rattle.drain_answers.specs.declared.DrainFailureCause.{DrainFailureCause}
 use Rattle.drain_answers.specs.declared.DrainFailureCause.the-variants.{IdCollides, OutputsUnreadable, IdsExhausted}
 use Rattle.drain_answers.specs.declared.SubmissionDrainFailure.{SubmissionDrainFailure}
-use Rattle.plan.specs.declared.OptionalCause.{OptionalCause}
-use Rattle.plan.specs.declared.OptionalCause.the-variants.{NoCause, Of}
 use Rattle.plan.specs.declared.PlanAction.the-variants.{Failed, Removed, Stored, Issued}
 use Rattle.plan.specs.declared.PlanAnswer.{PlanAnswer}
 use Rattle.plan.specs.declared.PlanAnswer.the-variants.{Full, Exhausted, Planned}
 use Rattle.plan.specs.declared.SubmittedPlace.{SubmittedPlace}
 use Rattle.plan.specs.declared.SubmissionPlanDelta.{SubmissionPlanDelta}
-
-abbrev pub causeIn : OptionalCause → Option Cause
-causeIn NoCause = none
-causeIn (Of c) = some (causeOf c)
 
 abbrev pub noPlace : SubmittedPlace
 noPlace = record { index = 0; count = 0; «next_id» = record { 0 = 0 }; «next_token» = record { 0 = 0 } }

@@ -16,7 +16,7 @@ use Rattle.book_change.specs.Changes.{retiring}
 use Rattle.book_change.specs.declared.Retired.{Retired}
 use Rattle.sound_steps.specs.Holds.{Holds, holds-sound, holds-view, holds-normal, holds-soundb, holds-step, holds-quiet}
 use Rattle.sound_steps.specs.Acts.{act-silent}
-use Rattle.replay_calls.specs.RetireLaws.{retire-limit, retire-book, run-full, run-retired}
+use Rattle.sound_steps.specs.RetireLaws.{retire-limit, retire-book, run-full, run-retired}
 use Rattle.retained_answers.specs.Withdrawal.{Withdrawal}
 
 -- ---- one id

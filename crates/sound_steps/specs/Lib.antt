@@ -1,4 +1,5 @@
 pub mod Holds
 pub mod Acts
 pub mod Room
+pub mod RetireLaws
 pub mod Door

@@ -280,7 +280,7 @@ impl SubmissionBook {
         if refusal != 0 {
             return done_refused(self, refusal);
         }
-        let r = queue_calls::queue_sound(self.parts, d);
+        let r = call_queue::queue_sound(self.parts, d);
         done_answer(r)
     }
 
@@ -318,7 +318,7 @@ impl SubmissionBook {
         if refusal != 0 {
             return done_refused(self, refusal);
         }
-        let r = queue_calls::queue_retained_delivery_sound(self.parts, id, trigger, goal);
+        let r = call_queue_retained_delivery::queue_retained_delivery_sound(self.parts, id, trigger, goal);
         done_answer(r)
     }
 
@@ -433,7 +433,7 @@ impl SubmissionBook {
         if refusal != 0 {
             return done_refused(self, refusal);
         }
-        let r = replay_calls::emit_retirement_sound(self.parts, id);
+        let r = call_emit_retirement::emit_retirement_sound(self.parts, id);
         done_answer(r)
     }
 
@@ -444,7 +444,7 @@ impl SubmissionBook {
         if refusal != 0 {
             return ids_refused(self, refusal);
         }
-        let r = replay_calls::drain_retirements_sound(self.parts);
+        let r = call_drain_retirements::drain_retirements_sound(self.parts);
         ids_answer(r)
     }
 
@@ -466,7 +466,7 @@ impl SubmissionBook {
         if refusal != 0 {
             return flag_refused(self, refusal);
         }
-        let r = replay_calls::begin_replay_sound(self.parts, height);
+        let r = call_begin_replay::begin_replay_sound(self.parts, height);
         flag_answer(r)
     }
 
@@ -477,7 +477,7 @@ impl SubmissionBook {
         if refusal != 0 {
             return done_refused(self, refusal);
         }
-        let r = replay_calls::finish_replay_if_advanced_sound(self.parts, height);
+        let r = call_finish_replay_if_advanced::finish_replay_if_advanced_sound(self.parts, height);
         done_answer(r)
     }
 
@@ -488,7 +488,7 @@ impl SubmissionBook {
         if refusal != 0 {
             return height_refused(self, refusal);
         }
-        let r = replay_calls::replay_rollback_height_sound(self.parts);
+        let r = call_replay_rollback_height::replay_rollback_height_sound(self.parts);
         height_answer(r)
     }
 
@@ -505,7 +505,7 @@ impl SubmissionBook {
         if refusal != 0 {
             return done_refused(self, refusal);
         }
-        let r = chain_calls::reconcile_chain_terminality_sound(
+        let r = call_reconcile_chain_terminality::reconcile_chain_terminality_sound(
             self.parts,
             observed,
             spent,
@@ -522,7 +522,7 @@ impl SubmissionBook {
         if refusal != 0 {
             return ids_refused(self, refusal);
         }
-        let r = chain_calls::causally_rolled_back_ids_sound(self.parts, absent, inputs);
+        let r = call_causally_rolled_back_ids::causally_rolled_back_ids_sound(self.parts, absent, inputs);
         ids_answer(r)
     }
 
@@ -566,7 +566,7 @@ impl SubmissionBook {
         if refusal != 0 {
             return written_refused(self, refusal);
         }
-        let r = coin_calls::reconciliation_input_coins_sound(self.parts, outputs, out);
+        let r = call_reconciliation_input_coins::reconciliation_input_coins_sound(self.parts, outputs, out);
         written_answer(r)
     }
 
@@ -577,7 +577,7 @@ impl SubmissionBook {
         if refusal != 0 {
             return written_refused(self, refusal);
         }
-        let r = coin_calls::absent_outputs_for_ids_sound(self.parts, ids, absent, out);
+        let r = call_absent_outputs_for_ids::absent_outputs_for_ids_sound(self.parts, ids, absent, out);
         written_answer(r)
     }
 
@@ -588,7 +588,7 @@ impl SubmissionBook {
         if refusal != 0 {
             return written_refused(self, refusal);
         }
-        let r = coin_calls::write_archive_sound(self.parts, out);
+        let r = call_write_archive::write_archive_sound(self.parts, out);
         written_answer(r)
     }
 }

@@ -14,7 +14,8 @@ returns c = rw (sym (c .before .before .has16 .ensures) ∙ c .before .if1 .take
 
 returns-2 : tie.Need-returns-2
 unfolding deliverPlan
-returns-2 c = rw (sym (c .before .before .before .before .has16 .ensures) ∙ c .before .before .before .if1 .left, eq-eqb (c .before .before .before .before .before .before .before .args .place .«next_token» .0) last64 (omega (arith, c .before .if2 .taken))) (c .storing2 .ensures)
+returns-2 c = let h = c .before .before .before .before in
+    rw (sym (h .has16 .ensures) ∙ c .before .before .before .if1 .left, eq-eqb (h .before .before .before .args .place .«next_token» .0) last64 (omega (arith, c .before .if2 .taken))) (c .storing2 .ensures)
 
 issue-requires : tie.Need-issue-requires
 issue-requires c κs = omega (arith, c .if2 .left)

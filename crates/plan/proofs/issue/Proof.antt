@@ -1,3 +1,4 @@
+-- The plan is put together from what its parts answer, by one law.
 use Rattle.plan.specs.PlanLaws.{issue-is}
 use borrow.Author.Needs.{needs}
 use Rattle.plan.proofs.issue.Statement.{statement}
@@ -6,7 +7,8 @@ use Rattle.plan.proofs.issue.Tie as tie
 returns : tie.Need-returns
 returns c =
     let a = c .before .before .before .before .before .before .before .before .before .before .args in
-    issue-is (a .place) (a .t) (a .goal) (c .before .before .before .before .before .current-variant-fingerprint .ensures) (c .before .before .issued .ensures) (c .before .before .before .before .taken .ensures) (c .before .before .before .handed .ensures) (c .zero .ensures)
+    issue-is (a .place) (a .t) (a .goal) (c .before .before .before .before .before .current-variant-fingerprint .ensures)
+    (c .before .before .issued .ensures) (c .before .before .before .before .taken .ensures) (c .before .before .before .handed .ensures) (c .zero .ensures)
 
 pub issue-spec : {M : Type 1} → statement M
 issue-spec =

@@ -1,0 +1,25 @@
+// `drain_retirements`: the retired ids are handed out, and the book forgets them.
+ghost use mathlib.Core.Path.{_≡_};
+ghost use mathlib.Core.Bool.{true};
+ghost use Rattle.book_data.specs.Model.{view};
+ghost use Rattle.book_data.specs.Sound.{soundb};
+ghost use Rattle.rules.specs.Steps.{runBook};
+ghost use Rattle.rules.specs.Calls.DrainRetirements.{drainRetirements};
+ghost use Rattle.replies.specs.Reply.{idsReply};
+use book_change::clear_retired;
+use book_data::BookData;
+use replies::CallAnswer;
+use replies::IdsReply;
+
+pub fn drain_retirements_sound(b: BookData) -> IdsReply
+    requires { ⌜ soundb b ≡ true ⌝ }
+    ensures { λ r. ⌜ r ≡ idsReply b (runBook drainRetirements (view b)) ⌝ }
+{
+    let drained = clear_retired(b);
+    let held = b.retired_submission_ids;
+    IdsReply {
+        answer: CallAnswer::Done,
+        ids: held,
+        book: drained,
+    }
+}

@@ -1,0 +1,30 @@
+// `emit_retirement`: the id is retired, once.
+ghost use mathlib.Core.Path.{_≡_};
+ghost use mathlib.Core.Bool.{true};
+ghost use Rattle.book_data.specs.Model.{view};
+ghost use Rattle.book_data.specs.Sound.{soundb};
+ghost use Rattle.rules.specs.Steps.{runBook};
+ghost use Rattle.rules.specs.Calls.EmitRetirement.{emitRetirement};
+ghost use Rattle.replies.specs.Reply.{doneReply};
+use book_change::retire;
+use book_data::BookData;
+use book_data::SubmissionId;
+use replies::CallAnswer;
+use replies::DoneReply;
+use replies::refused_done;
+
+// Refused 10, and the book as it came, where the retirement would be a 65th.
+pub fn emit_retirement_sound(b: BookData, id: SubmissionId) -> DoneReply
+    requires { ⌜ soundb b ≡ true ⌝ }
+    ensures { λ r. ⌜ r ≡ doneReply b (runBook (emitRetirement (id .0)) (view b)) ⌝ }
+{
+    let next = retire(b, id);
+    if next.full {
+        return refused_done(b, 10);
+    }
+    let retired = next.book;
+    DoneReply {
+        answer: CallAnswer::Done,
+        book: retired,
+    }
+}

@@ -1,0 +1,27 @@
+// `queue`: a delivery is put into the queue.
+use book_data::BookData;
+use book_data::PendingDelivery;
+use book_sound::is_sound_delivery;
+use offering::enqueue;
+use offering::refused;
+use offering::settled;
+use replies::DoneReply;
+ghost use mathlib.Core.Bool.{true};
+ghost use mathlib.Core.Path.{_≡_};
+ghost use Rattle.book_data.specs.Model.{view};
+ghost use Rattle.book_data.specs.Sound.{soundb};
+ghost use Rattle.rules.specs.Steps.{runBook};
+ghost use Rattle.rules.specs.Calls.Queue.{queue as queueOf};
+ghost use Rattle.replies.specs.Reply.{doneReply};
+
+// Refused 3 where the delivery is out of range or damaged.
+pub fn queue_sound(b: BookData, d: PendingDelivery) -> DoneReply
+    requires { ⌜ soundb b ≡ true ⌝ }
+    ensures { λ r. ⌜ r ≡ doneReply b (runBook (queueOf d) (view b)) ⌝ }
+{
+    let sound = is_sound_delivery(d);
+    if !sound {
+        return refused(b, 3);
+    }
+    settled(b, enqueue(b, d))
+}

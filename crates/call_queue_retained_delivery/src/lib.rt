@@ -1,0 +1,27 @@
+// `queue_retained_delivery`: a retained submission is offered again.
+use book_data::BookData;
+use book_data::DeliveryTrigger;
+use book_data::SubmissionDeliveryGoal;
+use book_data::SubmissionId;
+use offering::offer;
+use offering::settled;
+use replies::DoneReply;
+ghost use mathlib.Core.Bool.{true};
+ghost use mathlib.Core.Path.{_≡_};
+ghost use Rattle.book_data.specs.Model.{view};
+ghost use Rattle.book_data.specs.Sound.{soundb};
+ghost use Rattle.rules.specs.Steps.{runBook};
+ghost use Rattle.rules.specs.Calls.QueueRetainedDelivery.{queueRetainedDelivery};
+ghost use Rattle.replies.specs.Reply.{doneReply};
+
+pub fn queue_retained_delivery_sound(
+    b: BookData,
+    id: SubmissionId,
+    trigger: DeliveryTrigger,
+    goal: SubmissionDeliveryGoal,
+) -> DoneReply
+    requires { ⌜ soundb b ≡ true ⌝ }
+    ensures { λ r. ⌜ r ≡ doneReply b (runBook (queueRetainedDelivery (id .0) trigger goal) (view b)) ⌝ }
+{
+    settled(b, offer(b, id, trigger, goal))
+}

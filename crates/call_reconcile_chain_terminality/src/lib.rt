@@ -1,0 +1,180 @@
+// `reconcile_chain_terminality`: each submission in turn is Landed, InputSpent, Active again, or as it was.
+ghost use mathlib.Core.Path.{_≡_};
+ghost use mathlib.Core.Bool.{true};
+ghost use Prim.Native.Nat.{_<_};
+ghost use lib.ListN.{length, getD};
+ghost use Rattle.coin_string.specs.CoinIds.{idsIn};
+ghost use Rattle.coin_string.specs.CoinList.{coinsIn};
+ghost use Rattle.book_data.specs.Zero.{zeroSubmitted};
+ghost use Rattle.book_data.specs.Model.{view, back};
+ghost use Rattle.book_data.specs.Sound.{idOf, soundb};
+ghost use Rattle.rules.specs.Rule.{unreplay};
+ghost use Rattle.rules.specs.Steps.{noteBook, runBook};
+ghost use Rattle.rules.specs.Calls.ReconcileChainTerminality.{spentAs, halt as haltRule, judge as judgeRule, judgeEach, reconcileChainTerminality};
+ghost use Rattle.replies.specs.Reply.{doneReply};
+ghost use Rattle.book_cells.specs.Normal.{Normal};
+ghost use Rattle.call_reconcile_chain_terminality.specs.Halt.{haltedTx, reactivateRule, Judged};
+use book_cells::submitted_at;
+use book_change::Retired;
+use book_change::retire;
+use book_change::set_epoch;
+use book_change::store_submitted;
+use book_change::unqueue;
+use book_data::BookData;
+use book_data::SubmissionChainTerminality;
+use book_data::SubmissionId;
+use book_data::SubmittedTx;
+use chain_tests::input_spent;
+use chain_tests::is_landed;
+use chain_tests::output_observed;
+use coin_string::is_coin_list;
+use coin_string::is_id_list;
+use lists::contains;
+use replies::CallAnswer;
+use replies::DoneReply;
+use replies::refused_done;
+use slots::stopped;
+use submitted::revise::with_terminality;
+
+// The terminality anew, and the live attempt, if any, set aside.
+fn halted(t: SubmittedTx, c: SubmissionChainTerminality) -> SubmittedTx
+    ensures { λ r. ⌜ r ≡ haltedTx c t ⌝ }
+{
+    let e = t.entry;
+    let s = t.slots;
+    let entry = with_terminality(e, c);
+    let slots = stopped(s);
+    SubmittedTx { slots, entry }
+}
+
+// The replay mark of the id goes.
+fn unmark(b: BookData, id: SubmissionId) -> BookData
+    requires { ⌜ Normal b ⌝ }
+    ensures { λ r. ⌜ r ≡ back (noteBook (unreplay (id .0)) (view b)) ⌝ }
+{
+    let epoch = b.replay_epoch;
+    set_epoch(b, replay::remove(epoch, id))
+}
+
+// The submission at k is out of replay and queue, its live attempt set aside, and it is retired once.
+fn halt(b: BookData, k: usize, c: SubmissionChainTerminality) -> Retired
+    requires { ⌜ (soundb b ≡ true) × (k < length (view b .submitted)) ⌝ }
+    ensures { λ r. ⌜ Judged (haltRule (idOf (getD (view b .submitted) k zeroSubmitted)) c) k b r ⌝ }
+{
+    let t = submitted_at(b, k);
+    let e = t.entry;
+    let id = e.id;
+    let stored = store_submitted(b, k, halted(t, c));
+    let out = unqueue(unmark(stored, id), id);
+    let next = retire(out, id);
+    let book = next.book;
+    Retired {
+        full: next.full,
+        book: book,
+    }
+}
+
+// The submission at k is Active again.
+fn reactivate(b: BookData, k: usize) -> Retired
+    requires { ⌜ (soundb b ≡ true) × (k < length (view b .submitted)) ⌝ }
+    ensures { λ r. ⌜ Judged (reactivateRule (idOf (getD (view b .submitted) k zeroSubmitted))) k b r ⌝ }
+{
+    let t = submitted_at(b, k);
+    let e = t.entry;
+    let entry = with_terminality(e, SubmissionChainTerminality::Active);
+    let slots = t.slots;
+    let next = store_submitted(b, k, SubmittedTx { slots, entry });
+    Retired {
+        full: false,
+        book: next,
+    }
+}
+
+// InputSpent, except that Landed stays if not a reorg.
+fn spent_as(c: SubmissionChainTerminality, reorg: bool) -> SubmissionChainTerminality
+    ensures { λ r. ⌜ r ≡ spentAs reorg c ⌝ }
+{
+    let landed = is_landed(c);
+    if !reorg & landed {
+        return SubmissionChainTerminality::Landed;
+    }
+    SubmissionChainTerminality::InputSpent
+}
+
+// The submission at k: Landed, else an input spent, else Active if rolled back.
+fn judge(
+    b: BookData,
+    k: usize,
+    observed: &[u8],
+    spent: &[u8],
+    reorg: bool,
+    rolled_back: &[u64],
+) -> Retired
+    requires { ⌜ (soundb b ≡ true) × (k < length (view b .submitted)) ⌝ }
+    ensures { λ r. ⌜ Judged (judgeRule (coinsIn (now (observed .entry))) (idsIn (now (spent .entry))) reorg (now («rolled_back» .entry)) (getD (view b .submitted) k zeroSubmitted)) k b r ⌝ }
+{
+    let t = submitted_at(b, k);
+    let e = t.entry;
+    if output_observed(e, observed) {
+        return halt(b, k, SubmissionChainTerminality::Landed);
+    }
+    if input_spent(e, spent) {
+        let status = e.status;
+        let c = status.chain_terminality;
+        return halt(b, k, spent_as(c, reorg));
+    }
+    if contains(rolled_back, e.id.0) {
+        return reactivate(b, k);
+    }
+    Retired {
+        full: false,
+        book: b,
+    }
+}
+
+// Each submission in turn; refused 10, and the book as it came, where a retirement is a 65th.
+fn judge_each(
+    b: BookData,
+    observed: &[u8],
+    spent: &[u8],
+    reorg: bool,
+    rolled_back: &[u64],
+) -> DoneReply
+    requires { ⌜ soundb b ≡ true ⌝ }
+    ensures { λ r. ⌜ r ≡ doneReply b (runBook (judgeEach (coinsIn (now (observed .entry))) (idsIn (now (spent .entry))) reorg (now («rolled_back» .entry)) (view b .submitted)) (view b)) ⌝ }
+{
+    let mut out = b;
+    let mut k = 0;
+    while k < b.submitted_count {
+        let next = judge(out, k, observed, spent, reorg, rolled_back);
+        if next.full {
+            return refused_done(b, 10);
+        }
+        let judged = next.book;
+        out = judged;
+        k += 1;
+    }
+    DoneReply {
+        answer: CallAnswer::Done,
+        book: out,
+    }
+}
+
+pub fn reconcile_chain_terminality_sound(
+    b: BookData,
+    observed: &[u8],
+    spent: &[u8],
+    reorg: bool,
+    rolled_back: &[u64],
+) -> DoneReply
+    requires { ⌜ soundb b ≡ true ⌝ }
+    ensures { λ r. ⌜ r ≡ doneReply b (runBook (reconcileChainTerminality (now (observed .entry)) (now (spent .entry)) reorg (now («rolled_back» .entry))) (view b)) ⌝ }
+{
+    let coins = is_coin_list(observed);
+    let ids = is_id_list(spent);
+    let ok = coins & ids & (rolled_back.len() <= 64);
+    if !ok {
+        return refused_done(b, 2);
+    }
+    judge_each(b, observed, spent, reorg, rolled_back)
+}

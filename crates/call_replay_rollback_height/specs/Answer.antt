@@ -1,0 +1,18 @@
+-- The reply that hands out the height held is that of the rules.
+use mathlib.Core.Bool.{true}
+use mathlib.Core.Path.{_≡_, sym}
+use Rattle.book_data.specs.declared.BookData.{BookData}
+use Rattle.book_data.specs.declared.OptionalHeight.{OptionalHeight}
+use Rattle.book_data.specs.Model.{view}
+use Rattle.book_data.specs.Sound.{soundb}
+use Rattle.book_data.specs.SoundLaws.{back-view}
+use Rattle.rules.specs.Rule.{run}
+use Rattle.rules.specs.Steps.{runBook}
+use Rattle.rules.specs.Calls.Replay.{replayRollbackHeight}
+use Rattle.replies.specs.Reply.{heightReply}
+use Rattle.replies.specs.declared.CallAnswer.the-variants.{Done}
+
+pub height-is : (b : BookData) → soundb b ≡ true → {x : OptionalHeight} → x ≡ b .«replay_epoch» .«rollback_height»
+    → record { answer = Done; height = x; book = b } ≡ heightReply b (runBook replayRollbackHeight (view b))
+unfolding replayRollbackHeight run view
+height-is b s e = λ i. record { answer = Done; height = e i; book = sym (back-view b s) i }

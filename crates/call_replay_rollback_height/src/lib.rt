@@ -1,0 +1,25 @@
+// `replay_rollback_height`: the height of the replay epoch, if one is held; nothing changes.
+ghost use mathlib.Core.Path.{_≡_};
+ghost use mathlib.Core.Bool.{true};
+ghost use Rattle.book_data.specs.Model.{view};
+ghost use Rattle.book_data.specs.Sound.{soundb};
+ghost use Rattle.rules.specs.Steps.{runBook};
+ghost use Rattle.rules.specs.Calls.Replay.{replayRollbackHeight};
+ghost use Rattle.replies.specs.Reply.{heightReply};
+use book_data::BookData;
+use replay::rollback_height;
+use replies::CallAnswer;
+use replies::HeightReply;
+
+pub fn replay_rollback_height_sound(b: BookData) -> HeightReply
+    requires { ⌜ soundb b ≡ true ⌝ }
+    ensures { λ r. ⌜ r ≡ heightReply b (runBook replayRollbackHeight (view b)) ⌝ }
+{
+    let held = b.replay_epoch;
+    let h = rollback_height(held);
+    HeightReply {
+        answer: CallAnswer::Done,
+        height: h,
+        book: b,
+    }
+}

@@ -1,0 +1,34 @@
+// `write_archive`: the archive of a book into a lent buffer.
+ghost use mathlib.Core.Path.{_≡_};
+ghost use mathlib.Core.Bool.{true};
+ghost use lib.ListN.{length};
+ghost use Rattle.book_data.specs.Model.{view};
+ghost use Rattle.book_data.specs.Sound.{soundb};
+ghost use Rattle.archive_form.specs.Encode.{encodeModel};
+ghost use Rattle.rules.specs.Steps.{runBook};
+ghost use Rattle.rules.specs.Calls.WriteArchive.{writeArchive};
+ghost use Rattle.replies.specs.Reply.{writtenReply, bufferLeft};
+use archive::Wrote;
+use archive::write_if_sound;
+use book_data::BookData;
+use replies::CallAnswer;
+use replies::WrittenReply;
+use written_answers::refused_written;
+
+pub fn write_archive_sound(b: BookData, out: &mut [u8]) -> WrittenReply
+    requires { ⌜ soundb b ≡ true ⌝ }
+    ensures { λ r. ⌜ (r ≡ writtenReply b (runBook (writeArchive encodeModel (length (now (out .entry)))) (view b))) × (now (out .exit) ≡ bufferLeft (now (out .entry)) (runBook (writeArchive encodeModel (length (now (out .entry)))) (view b))) ⌝ }
+{
+    let wrote = write_if_sound(b, true, out);
+    match wrote {
+        Wrote::Unsound => refused_written(b, 1),
+        Wrote::Short => refused_written(b, 12),
+        Wrote::Bytes(n) => {
+            WrittenReply {
+                answer: CallAnswer::Done,
+                length: n,
+                book: b,
+            }
+        }
+    }
+}

@@ -1,3 +1,0 @@
-pub mod Halt
-pub mod Judge
-pub mod RolledBack

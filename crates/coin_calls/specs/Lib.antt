@@ -1,4 +1,0 @@
-pub mod Answers
-pub mod Archive
-pub mod Inputs
-pub mod Outputs

@@ -1,2 +1,0 @@
-pub mod RetireLaws
-pub mod CallLaws
