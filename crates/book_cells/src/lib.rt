@@ -3,7 +3,7 @@ ghost use mathlib.Core.Path.{_≡_};
 ghost use mathlib.Core.List.{map};
 ghost use Prim.Native.Nat.{_<_};
 ghost use lib.ListN.{length, getD};
-ghost use Rattle.book_data.specs.Zero.{zeroSubmitted, zeroDelivery};
+ghost use Rattle.book_data.specs.Zero.{zeroSubmitted};
 ghost use Rattle.book_data.specs.Model.{view, ids16};
 ghost use Rattle.book_data.specs.Sound.{idOf};
 ghost use Rattle.rules.specs.Steps.Notes.{isId};
@@ -14,7 +14,6 @@ ghost use Rattle.book_cells.specs.Lookup.{hasLive, hasSetAside, attemptP
 use book_data::BookData;
 use book_data::Ids16;
 use book_data::OptionalId;
-use book_data::PendingDelivery;
 use book_data::SubmissionId;
 use book_data::SubmittedTx;
 use book_data::Token;
@@ -135,14 +134,6 @@ pub fn submitted_at(b: BookData, k: usize) -> SubmittedTx
 {
     let t = b.submitted[k];
     t
-}
-
-pub fn pending_at(b: BookData, k: usize) -> PendingDelivery
-    requires { ⌜ Normal b × (k < length (view b .pending)) ⌝ }
-    ensures { λ r. ⌜ r ≡ getD (view b .pending) k zeroDelivery ⌝ }
-{
-    let d = b.pending_deliveries[k];
-    d
 }
 
 // The place of the first submission of the intent fingerprint.

@@ -2,14 +2,13 @@
 use mathlib.Core.Path.{_≡_, refl, sym, ap, _∙_}
 use mathlib.Core.Bool.{Bool, true, false, cond, not}
 use mathlib.Core.List.{List, [], _∷_, _++_, map}
-use Prim.Native.Nat.{ℕ, suc, _+_, _<_}
-use native.Mathlib.Numerals.{add-one}
+use Prim.Native.Nat.{ℕ, _+_, _<_}
 use native.Mathlib.Omega.{arith}
 use lib.Dec.{eqb, ltb}
 use lib.ListN.{length, getD, set, replicate}
 use Rattle.lists.specs.Lists.{distinctb, pushNew}
 use Rattle.lists.specs.Laws.{filter-length}
-use Rattle.book_data.specs.Zero.{zeroSubmitted, zeroDelivery, noSlots}
+use Rattle.book_data.specs.Zero.{zeroSubmitted, zeroDelivery}
 use Rattle.book_data.specs.Model.{Book, view, back, ids64}
 use Rattle.book_data.specs.Sound.{idOf, soundDelivery}
 use Rattle.book_data.specs.SoundLaws.{Fits, Counted}
@@ -17,15 +16,12 @@ use Rattle.book_data.specs.declared.Ids64.{Ids64}
 use Rattle.book_data.specs.declared.SubmittedTx.{SubmittedTx}
 use Rattle.book_data.specs.declared.AttemptSlots.{AttemptSlots}
 use Rattle.book_data.specs.declared.PendingDelivery.{PendingDelivery}
-use Rattle.book_data.specs.declared.PendingSubmissionIntent.{PendingSubmissionIntent}
-use Rattle.book_data.specs.declared.SubmissionDeliveryGoal.{SubmissionDeliveryGoal}
 use Rattle.book_data.specs.declared.ReplayEpoch.{ReplayEpoch}
 use Rattle.book_data.specs.declared.BookData.{BookData}
 use Rattle.rules.specs.Keyed.{without}
 use Rattle.rules.specs.Rule.{Revision, enqueue, unqueue, unqueueAll, unretireAll}
-use Rattle.rules.specs.Steps.{withSubmitted, withEntry, withSlots, restOf, withRest, noteBook, reviseBook, markBook, retained, issueBook, removeBook}
-use Rattle.rules.specs.Steps.Entry.{revised, newEntry}
-use Rattle.rules.specs.Steps.Slots.{slotsIssued, issueAttempt}
+use Rattle.rules.specs.Steps.{withSubmitted, withEntry, withSlots, restOf, withRest, noteBook, reviseBook, markBook, removeBook}
+use Rattle.rules.specs.Steps.Entry.{revised}
 use Rattle.rules.specs.Steps.Notes.{isId, withPending, withRetired, noted, unqueued, unreplayed, forgotten}
 use Rattle.ids.specs.Ids.{pushed64}
 use Rattle.ids.specs.declared.Pushed64.{Pushed64}
@@ -36,8 +32,8 @@ use Rattle.replay.specs.Epoch.{replayedOf, removed}
 use Rattle.book_cells.specs.Normal.{Normal, view-of, normal-of, sizes, submitted-are, pending-are, replayed-are}
 use Rattle.book_cells.specs.PlaceLaws.{change-at}
 use Rattle.book_change.specs.declared.Retired.{Retired}
-use Rattle.book_change.specs.Changes.{storedAt, issuedAt, grown, withEpochOf, retiring}
-use Rattle.book_change.specs.Parts.{putSubmitted, putCells, putPending, putRest, submitted-back, cells-back, pending-back, retired-back, epoch-back}
+use Rattle.book_change.specs.Changes.{storedAt, withEpochOf, retiring}
+use Rattle.book_change.specs.Parts.{putCells, putPending, putRest, cells-back, pending-back, retired-back, epoch-back}
 
 -- what stays where the entries of an id go
 abbrev pub notFor : ℕ → PendingDelivery → Bool
@@ -56,20 +52,6 @@ module _ (b : BookData) (h : Normal b) where
 
   pub store-is : (k : ℕ) (t : SubmittedTx) → k < length (view b .submitted) → putCells (b .«submitted_count») (set (b .submitted) k t) b ≡ back (storedAt k t (view b))
   store-is k t l = cells-back b h (b .«submitted_count») (set (b .submitted) k t) (set (view b .submitted) k t) (counted-set (submitted-are b h) k t l)
-
-  pub issue-is : (k : ℕ) (t : SubmittedTx) → k < length (view b .submitted)
-      → putSubmitted (record { 0 = b .«next_delivery_attempt_token» .0 + 1 }) (b .«next_submission_id») (b .«submitted_count») (set (b .submitted) k t) b ≡ back (issuedAt k t (view b))
-  unfolding view
-  issue-is k t l =
-      ap (λ (n : ℕ). putSubmitted (record { 0 = n }) (b .«next_submission_id») (b .«submitted_count») (set (b .submitted) k t) b) (add-one (b .«next_delivery_attempt_token» .0))
-      ∙ submitted-back b h (record { 0 = suc (b .«next_delivery_attempt_token» .0) }) (b .«next_submission_id») (b .«submitted_count») (set (b .submitted) k t) (set (view b .submitted) k t) (counted-set (submitted-are b h) k t l)
-
-  pub grow-is : (t : SubmittedTx) → b .«submitted_count» < 16
-      → putSubmitted (b .«next_delivery_attempt_token») (record { 0 = b .«next_submission_id» .0 + 1 }) (b .«submitted_count» + 1) (set (b .submitted) (b .«submitted_count») t) b ≡ back (grown t (view b))
-  unfolding view
-  grow-is t l =
-      ap (λ (n : ℕ). putSubmitted (b .«next_delivery_attempt_token») (record { 0 = n }) (b .«submitted_count» + 1) (set (b .submitted) (b .«submitted_count») t) b) (add-one (b .«next_submission_id» .0))
-      ∙ submitted-back b h (b .«next_delivery_attempt_token») (record { 0 = suc (b .«next_submission_id» .0) }) (b .«submitted_count» + 1) (set (b .submitted) (b .«submitted_count») t) (view b .submitted ++ t ∷ []) (counted-push (submitted-are b h) t l)
 
   pub enqueue-is : (d : PendingDelivery) → b .«pending_count» < 16 → soundDelivery d ≡ true
       → putPending (b .«pending_count» + 1) (set (b .«pending_deliveries») (b .«pending_count») d) b ≡ back (noteBook (enqueue d) (view b))
@@ -173,20 +155,3 @@ module _ (m : Book) (distinct : distinctb (map idOf (m .submitted)) ≡ true) (i
   pub mark-at : (g : AttemptSlots → AttemptSlots) → markBook g i m ≡ storedAt k (withSlots g there) m
   unfolding markBook
   mark-at g = ap (λ (ts : List SubmittedTx). withSubmitted ts m) (change-at idOf (m .submitted) distinct i k zeroSubmitted within here (withSlots g))
-
-  pub issue-at : (g : SubmissionDeliveryGoal) (v : List ℕ) → issueBook i g v m ≡ issuedAt k (withSlots (slotsIssued (issueAttempt (m .nextToken .0) g v)) there) m
-  unfolding issueBook
-  issue-at g v = ap (λ (ts : List SubmittedTx). record {
-    nextToken = record { 0 = suc (m .nextToken .0) };
-    nextId = m .nextId;
-    submitted = ts;
-    pending = m .pending;
-    retired = m .retired;
-    rollback = m .rollback;
-    replayed = m .replayed;
-  }) (change-at idOf (m .submitted) distinct i k zeroSubmitted within here (withSlots (slotsIssued (issueAttempt (m .nextToken .0) g v))))
-
--- a new submission is one more at the end
-pub retain-is : (p : PendingSubmissionIntent) (m : Book) → retained p m ≡ grown (record { slots = noSlots; entry = newEntry (m .nextId) p }) m
-unfolding retained
-retain-is p m = refl

@@ -11,17 +11,15 @@ ghost use Rattle.rules.specs.Keyed.{without};
 ghost use Rattle.rules.specs.Rule.{enqueue, unqueue, unqueueAll, unretireAll};
 ghost use Rattle.rules.specs.Steps.{withSubmitted, noteBook, removeBook};
 ghost use Rattle.rules.specs.Steps.Notes.{unqueued};
-ghost use Rattle.rules.specs.Calls.Plan.{last64};
 ghost use Rattle.replay.specs.Epoch.{replayedOf};
 ghost use Rattle.book_cells.specs.Normal.{Normal};
-ghost use Rattle.book_change.specs.Changes.{storedAt, issuedAt, grown, withEpochOf, retiring};
+ghost use Rattle.book_change.specs.Changes.{storedAt, withEpochOf, retiring};
 use book_cells::is_id;
 use book_data::BookData;
 use book_data::PendingDelivery;
 use book_data::ReplayEpoch;
 use book_data::SubmissionId;
 use book_data::SubmittedTx;
-use book_data::Token;
 use ids::empty64;
 use ids::push_new64;
 
@@ -44,32 +42,6 @@ pub fn store_submitted(b: BookData, k: usize, t: SubmittedTx) -> BookData
 {
     let mut out = b;
     out.submitted[k] = t;
-    out
-}
-
-// The submission at k as it is with the next token, which is taken.
-pub fn store_issued(b: BookData, k: usize, t: SubmittedTx) -> BookData
-    requires { ⌜ Normal b × (k < length (view b .submitted)) × (b .«next_delivery_attempt_token» .0 < last64) ⌝ }
-    ensures { λ r. ⌜ r ≡ back (issuedAt k t (view b)) ⌝ }
-{
-    let next = Token(b.next_delivery_attempt_token.0 + 1);
-    let mut out = b;
-    out.submitted[k] = t;
-    out.next_delivery_attempt_token = next;
-    out
-}
-
-// A new submission at the end; the next id is taken.
-pub fn push_submitted(b: BookData, t: SubmittedTx) -> BookData
-    requires { ⌜ Normal b × (length (view b .submitted) < 16) × (b .«next_submission_id» .0 < last64) ⌝ }
-    ensures { λ r. ⌜ r ≡ back (grown t (view b)) ⌝ }
-{
-    let n = b.submitted_count;
-    let next = SubmissionId(b.next_submission_id.0 + 1);
-    let mut out = b;
-    out.submitted[n] = t;
-    out.submitted_count = n + 1;
-    out.next_submission_id = next;
     out
 }
 

@@ -1,9 +1,8 @@
 -- What the types say of every value: each number is within its type, and each array has its length.
 use mathlib.Core.Path.{_≡_}
 use mathlib.Core.List.{List, [], _∷_}
-use Prim.Native.Nat.{ℕ, zero, suc, _<_, _^_}
-use native.Mathlib.Omega.{arith}
-use lib.ListN.{length, getD}
+use Prim.Native.Nat.{ℕ, _<_, _^_}
+use lib.ListN.{length}
 use Rattle.book_data.specs.declared.Token.{Token}
 use Rattle.book_data.specs.declared.SubmissionId.{SubmissionId}
 use Rattle.book_data.specs.declared.Height.{Height}
@@ -34,11 +33,6 @@ use Rattle.book_data.specs.declared.BookData.{BookData}
 abbrev pub Every : {A : Type 0} → (A → Type 0) → List A → Type 0
 Every P [] = Unit {0}
 Every P (x ∷ xs) = P x × Every P xs
-
-pub every-at : {A : Type 0} (P : A → Type 0) (xs : List A) (i : ℕ) (d : A) → Every P xs → i < length xs → P (getD xs i d)
-every-at P [] i d h l = absurd (omega arith)
-every-at P (x ∷ xs) zero d h l = h .0
-every-at P (x ∷ xs) (suc i) d h l = every-at P xs i d (h .1) (omega arith)
 
 abbrev pub U8 : ℕ → Type 0
 U8 x = x < 256

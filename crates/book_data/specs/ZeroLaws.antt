@@ -194,26 +194,6 @@ pub bundle-zero-is : isZeroBundle zeroBundle ≡ true
 unfolding isZeroBundle zeroBundle
 bundle-zero-is = refl
 
-pub fee-intent-zero-is : isZeroFeeIntent zeroFeeIntent ≡ true
-unfolding isZeroFeeIntent zeroFeeIntent
-fee-intent-zero-is = refl
-
-pub hash-zero-is : isZeroHash zeroHash ≡ true
-unfolding isZeroHash zeroHash
-hash-zero-is = refl
-
-pub no-attempt-is : isNoAttempt noAttempt ≡ true
-unfolding isNoAttempt noAttempt
-no-attempt-is = refl
-
-pub no-slots-is : isNoSlots noSlots ≡ true
-unfolding isNoSlots noSlots
-no-slots-is = refl
-
-pub base-variant-is : isBaseVariant baseVariant ≡ true
-unfolding isBaseVariant baseVariant
-base-variant-is = refl
-
 pub submitted-zero-is : isZeroSubmitted zeroSubmitted ≡ true
 unfolding isZeroSubmitted zeroSubmitted
 submitted-zero-is = refl

@@ -1,15 +1,15 @@
 // Reading an archive, and whether the book is sound.
+use crate::frame::Step;
+use crate::frame::broken;
+use crate::frame::finish;
+use crate::frame::finish_with;
+use crate::frame::say;
 use answers::part::append_flag;
 use append::append_byte;
 use append::append_number;
 use archive_read::read_archive;
 use book_data::BookData;
 use book_sound::is_sound;
-use driver_frame::Step;
-use driver_frame::broken;
-use driver_frame::finish;
-use driver_frame::finish_with;
-use driver_frame::say;
 use script::list::read_bytes;
 use submission::SubmissionBook;
 

@@ -1,18 +1,19 @@
 // Plays a call script (docs/DRIVER.md) from standard input on one book, and writes what each call answered.
 mod archive_ops;
+mod buffer_ops;
+mod done_ops;
+mod drain_ops;
+mod frame;
+mod id_ops;
 mod input;
+mod status_ops;
+mod value_ops;
 
+use crate::frame::Step;
+use crate::frame::broken;
+use crate::frame::say_byte;
 use book_data::SubmissionId;
 use book_data::Token;
-use driver_frame::Step;
-use driver_frame::broken;
-use driver_frame::say_byte;
-use driver_lists::buffer_ops;
-use driver_lists::done_ops;
-use driver_lists::id_ops;
-use driver_values::drain_ops;
-use driver_values::status_ops;
-use driver_values::value_ops;
 use script::kind::read_byte;
 use script::kind::read_number;
 use submission::SubmissionBook;

@@ -1,6 +1,6 @@
 -- Cells of which n are in use: one test of these and another of the rest, in one pass.
 use Prim.Native.Nat.{ℕ, zero, suc, _+_, _-_, _<_, _≤_}
-use mathlib.Core.Bool.{Bool, true, false, cond, _&&_}
+use mathlib.Core.Bool.{Bool, true, false, cond, _&&_, and-assoc, and-true}
 use mathlib.Core.List.{List, [], _∷_}
 use mathlib.Core.Path.{_≡_, refl, sym, ap, _∙_}
 use native.Mathlib.Omega.{arith}
@@ -15,10 +15,6 @@ and-swap true y z = refl
 and-swap false true z = refl
 and-swap false false z = refl
 
-pub and-assoc : (x y z : Bool) → ((x && y) && z) ≡ (x && (y && z))
-and-assoc true y z = refl
-and-assoc false y z = refl
-
 module _ {A : Type 0} (p q : A → Bool) where
   -- the first n pass p, the others q
   unfoldable pub usedb : ℕ → List A → Bool
@@ -31,13 +27,9 @@ module _ {A : Type 0} (p q : A → Bool) where
   unused [] = refl
   unused (x ∷ xs) = ap (λ (r : Bool). q x && r) (unused xs)
 
-  and-none : (x : Bool) → x ≡ (x && true)
-  and-none true = refl
-  and-none false = refl
-
   pub used-split : (n : ℕ) (xs : List A) → usedb n xs ≡ (allb q (drop n xs) && allb p (take n xs))
   unfolding usedb
-  used-split zero xs = unused xs ∙ and-none (allb q xs)
+  used-split zero xs = unused xs ∙ sym (and-true (allb q xs))
   used-split (suc n) [] = refl
   used-split (suc n) (x ∷ xs) = ap (λ (r : Bool). p x && r) (used-split n xs) ∙ and-swap (p x) (allb q (drop n xs)) (allb p (take n xs))
 

@@ -6,11 +6,10 @@ use Prim.Native.Nat.{ℕ, zero, suc, _+_, _-_, _*_, _≤_, _<_}
 use native.Mathlib.Omega.{arith}
 use native.Mathlib.Numerals.{lt-of-le-of-ne}
 use lib.Dec.{leb, ltb, eqb}
-use lib.ListN.{length, getD, take, drop, length-drop, length-take, drop-of-length-le}
-use lib.Seq.{drop-drop, take-all}
+use lib.ListN.{length, getD, take, drop, length-drop, drop-of-length-le}
+use lib.Seq.{drop-drop}
 use borrow.Author.Tests.{ltb-true, ltb-false, leb-true, le-leb, lt-leb, eqb-true, eqb-false}
-use Rattle.lists.specs.Lists.{allb}
-use Rattle.lists.specs.Laws.{rest-step, and-split, and-both}
+use Rattle.lists.specs.Laws.{rest-step, and-split}
 use Rattle.coin_string.specs.CoinList.{countOf, stands, usedUp, coinListb, coinsFrom, endAt}
 
 -- what an end at a place tells of what stands there
@@ -121,18 +120,6 @@ count-none [] h = refl
 count-none (a ∷ []) h = refl
 count-none (a ∷ b ∷ s) h = absurd (omega arith)
 
--- a listed coin has at most 73 bytes
-pub coins-short : (n : ℕ) (s : List ℕ) → allb (λ c. leb (length c) 73) (coinsFrom n s) ≡ true
-coins-short zero s = refl
-coins-short (suc n) [] = refl
-coins-short (suc n) (k ∷ s) = go (leb k 73) refl (leb k (length s)) (coins-short n (drop k s))
-  where
-    go : (a : Bool) → leb k 73 ≡ a → (b : Bool) → allb (λ c. leb (length c) 73) (coinsFrom n (drop k s)) ≡ true
-        → allb (λ c. leb (length c) 73) (cond (a && b) (take k s ∷ coinsFrom n (drop k s)) []) ≡ true
-    go true e true h = and-both (le-leb (length (take k s)) 73 (omega (arith, length-take k s, leb-true k 73 e))) h
-    go true e false h = refl
-    go false e b h = refl
-
 -- ---- the test of a whole list
 pub list-short : (s : List ℕ) → length s < 2 → false ≡ coinListb s
 list-short s h = sym (ap (λ (b : Bool). b && leb (countOf s) 800 && usedUp (countOf s) (drop 2 s)) (lt-leb 2 (length s) h))
@@ -149,20 +136,6 @@ module _ (s : List ℕ) (n : ℕ) (h : 2 ≤ length s) (e : n ≡ countOf s) whe
 
 -- ---- a walk to the coin i: g is that coin, and skip coins come before it from a place on, where left are left
 module _ {g : List ℕ} (s : List ℕ) (at left skip : ℕ) (h : g ≡ getD (coinsFrom left (drop at s)) skip []) where
-  pub coin-here : (to : ℕ) → Whole s at to → 0 < left → skip ≡ 0 → take 73 (take (to - (at + 1)) (drop (at + 1) s)) ≡ g
-  coin-here to w p z =
-      take-all 73 (take (to - (at + 1)) (drop (at + 1) s)) (omega (arith, length-take (to - (at + 1)) (drop (at + 1) s), w .short))
-      ∙ sym (h ∙ ap (λ (l : List (List ℕ)). getD l skip []) (w .coins left p) ∙ ap (λ (k : ℕ). getD (take (to - (at + 1)) (drop (at + 1) s) ∷ coinsFrom (left - 1) (drop to s)) k []) z)
-
-  pub coin-next : (to : ℕ) → Whole s at to → 0 < left → (skip ≡ 0 → ⊥) → g ≡ getD (coinsFrom (left - 1) (drop to s)) (skip - 1) []
-  coin-next to w p z = h ∙ ap (λ (l : List (List ℕ)). getD l skip []) (w .coins left p) ∙ later skip z
-    where
-      later : (k : ℕ) → (k ≡ 0 → ⊥) → getD (take (to - (at + 1)) (drop (at + 1) s) ∷ coinsFrom (left - 1) (drop to s)) k [] ≡ getD (coinsFrom (left - 1) (drop to s)) (k - 1) []
-      later zero z = absurd (z refl)
-      later (suc k) z = let m : k ≡ suc k - 1 = omega arith in ap (λ (i : ℕ). getD (coinsFrom (left - 1) (drop to s)) i []) m
-
-  pub coin-none : coinsFrom left (drop at s) ≡ [] → [] ≡ g
-  coin-none e = sym (h ∙ ap (λ (l : List (List ℕ)). getD l skip []) e)
 
 -- no coin is left
 pub coins-end : (s : List ℕ) (left : ℕ) → left ≤ 0 → coinsFrom left s ≡ []

@@ -2,7 +2,7 @@
 ghost use mathlib.Core.Path.{_≡_};
 ghost use Prim.Native.Nat.{_+_, _-_, _≤_, _<_, min};
 ghost use mathlib.Core.List.{[]};
-ghost use lib.ListN.{take, drop, length, getD};
+ghost use lib.ListN.{take, drop, length};
 ghost use Rattle.coin_string.specs.Amount.{atomLength, bigEndian, atomOf};
 ghost use Rattle.coin_string.specs.Coin.{FromParts, cellOf, coinIdOf};
 ghost use Rattle.coin_string.specs.Build.{pushed, pushes};
@@ -255,28 +255,6 @@ pub fn has_coin(s: &[u8], coin: [u8; 73], len: u8) -> bool
         left -= 1;
     }
     false
-}
-
-// The coin i of those that s lists, or no bytes where there is none.
-pub fn coin_at(s: &[u8], i: usize) -> CoinString
-    ensures { λ r. ⌜ r ≡ cellOf (getD (coinsIn (now (s .entry))) i []) ⌝ }
-{
-    let mut left = list_count(s);
-    let mut at = 2;
-    let mut skip = i;
-    while 0 < left {
-        let to = coin_end(s, at);
-        if to == 0 {
-            return empty();
-        }
-        if skip == 0 {
-            return from_bytes(part(s, at + 1, to));
-        }
-        at = to;
-        skip -= 1;
-        left -= 1;
-    }
-    empty()
 }
 
 // The bytes are up to 800 coin ids.

@@ -4,9 +4,9 @@ use mathlib.Core.List.{List, [], _∷_, _++_}
 use Prim.Native.Nat.{ℕ, zero, suc, _+_, _-_, _≤_, _<_}
 use native.Mathlib.Nat.{sub-zero}
 use native.Mathlib.Omega.{arith}
-use lib.ListN.{length, take, getD, set, replicate, length-append, length-set, List·getD-append}
+use lib.ListN.{length, getD, set, replicate, length-append, length-set, List·getD-append}
 use Rattle.lists.specs.Lists.{cells}
-use Rattle.lists.specs.Laws.{set-cells, push-cells, take-cells, length-cells}
+use Rattle.lists.specs.Laws.{set-cells, push-cells, length-cells}
 use Rattle.book_data.specs.SoundLaws.{Counted}
 
 -- inside a list the default plays no part
@@ -21,9 +21,6 @@ counted-none N z = record { count = refl; held = ap (λ (k : ℕ). replicate k z
 module _ {A : Type 0} {N : ℕ} {z : A} {n : ℕ} {cs xs : List A} (c : Counted N z n cs xs) where
   pub counted-long : length xs ≤ N → length cs ≡ N
   counted-long h = ap length (c .held) ∙ length-cells N z xs h
-
-  pub counted-take : take n cs ≡ xs
-  counted-take = ap (λ (k : ℕ). take k cs) (c .count) ∙ ap (take (length xs)) (c .held) ∙ take-cells N z xs
 
   -- a store into a used cell
   pub counted-set : (k : ℕ) (x : A) → k < length xs → Counted N z n (set cs k x) (set xs k x)

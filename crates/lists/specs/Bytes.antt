@@ -6,7 +6,7 @@ use Prim.Native.Nat.{ℕ, suc}
 use lib.Dec.{eqb}
 use lib.ListN.{length}
 use borrow.Author.Tests.{eq-eqb, ne-eqb, eqb-true}
-use Rattle.lists.specs.Laws.{and-split, and-both}
+use Rattle.lists.specs.Laws.{and-split}
 pub use Rattle.lists.specs.Laws.{rest-step, counted-step, counted-end}
 
 abbrev pub eqs : List ℕ → List ℕ → Bool
@@ -14,10 +14,6 @@ eqs [] [] = true
 eqs [] (y ∷ ys) = false
 eqs (x ∷ xs) [] = false
 eqs (x ∷ xs) (y ∷ ys) = eqb x y && eqs xs ys
-
-pub eqs-refl : (xs : List ℕ) → eqs xs xs ≡ true
-eqs-refl [] = refl
-eqs-refl (x ∷ xs) = and-both (eq-eqb x x refl) (eqs-refl xs)
 
 pub eqs-true : (xs ys : List ℕ) → eqs xs ys ≡ true → xs ≡ ys
 eqs-true [] [] h = refl

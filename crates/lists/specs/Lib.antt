@@ -1,5 +1,4 @@
 pub mod Lists
 pub mod Laws
-pub mod Keep
 pub mod Sub
 pub mod Bytes

@@ -63,18 +63,6 @@ pub fn is_rising(s: &[u64]) -> bool
     ok
 }
 
-pub fn zeros(s: &[u64]) -> bool
-    ensures { λ r. ⌜ r ≡ allb isZero (now (s .entry)) ⌝ }
-{
-    let mut ok = true;
-    let mut i = 0;
-    while i < s.len() {
-        ok = ok & (s[i] == 0);
-        i += 1;
-    }
-    ok
-}
-
 pub fn zero_bytes(a: &[u8]) -> bool
     ensures { λ r. ⌜ r ≡ allb isZero (now (a .entry)) ⌝ }
 {

@@ -1,3 +1,22 @@
-pub mod Play
+-- Made by `oracle theorems --out crates`.
 pub mod Pieces
 pub mod Shared
+pub mod Play
+pub mod List01
+pub mod List02
+pub mod List03
+pub mod List04
+pub mod List05
+pub mod List06
+pub mod List07
+pub mod List08
+pub mod List09
+pub mod List10
+pub mod List11
+pub mod List12
+pub mod List13
+pub mod List14
+pub mod List15
+pub mod List16
+pub mod List17
+pub mod List18

@@ -3,7 +3,7 @@ use mathlib.Core.Bool.{Bool, true, false, _&&_}
 use mathlib.Core.List.{List, []}
 use mathlib.Core.Path.{_≡_, refl, ap, _∙_}
 use Rattle.book_data.specs.Model.{Book}
-use Rattle.rules.specs.Rule.{DrainedSubmission, Step, Rule, look, act, turn, Outcome, ended, undone, stopped, logged, guarded, grows, full, run}
+use Rattle.rules.specs.Rule.{DrainedSubmission, Step, Rule, act, turn, Outcome, ended, undone, stopped, logged, guarded, grows, full, run}
 use Rattle.rules.specs.Steps.{onBook, runBook}
 
 pub logged-none : {A : Type 0} (k : Outcome Book A) → logged [] k ≡ k
@@ -26,10 +26,6 @@ module _ {A : Type 0} (p : Step) (r : Rule A) (m : Book) where
 
 -- looks, turns and ends, by computation
 module _ {A : Type 0} (m : Book) where
-  pub run-look : (k : Book → Rule A) → runBook (look k) m ≡ runBook (k m) m
-  unfolding run
-  run-look k = refl
-
   pub run-turn : (r : Rule A) → runBook (turn r) m ≡ runBook r m
   unfolding run
   run-turn r = refl

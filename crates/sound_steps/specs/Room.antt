@@ -1,12 +1,12 @@
 -- When a step makes a sound book full: 16 submissions, 16 queue entries, 64 retirements.
-use Prim.Native.Nat.{ℕ, _≤_, _<_, suc}
+use Prim.Native.Nat.{ℕ, suc}
 use mathlib.Core.Bool.{Bool, true, false, cond, _||_, or-false}
 use mathlib.Core.List.{[], _∷_, _++_}
-use mathlib.Core.Path.{_≡_, refl, ap, sym, _∙_}
+use mathlib.Core.Path.{_≡_, refl, ap, _∙_}
 use native.Mathlib.Numerals.{add-one}
 use lib.Dec.{ltb}
 use lib.ListN.{length}
-use borrow.Author.Tests.{lt-ltb, le-ltb}
+use borrow.Author.Tests.{le-ltb}
 use Rattle.lists.specs.Laws.{length-snoc}
 use Rattle.lists.specs.Lists.{pushNew}
 use Rattle.book_data.specs.declared.PendingDelivery.{PendingDelivery}
@@ -34,9 +34,6 @@ module _ (m : Book) (f : Fits m) where
 
   short-retired : ltb 64 (length (m .retired)) ≡ false
   short-retired = le-ltb 64 (length (m .retired)) (f .retired)
-
-  pub fits-not-full : full m ≡ false
-  fits-not-full = full-of m short-submitted short-pending short-retired
 
   -- the queue
   pub full-enqueue : (d : PendingDelivery) → soundDelivery d ≡ true → full (noteBook (enqueue d) m) ≡ ltb 16 (suc (length (m .pending)))

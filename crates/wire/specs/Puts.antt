@@ -6,7 +6,7 @@ use native.Mathlib.Nat.{zero-add, add-zero, one-mul, add-mul}
 use native.Mathlib.Numerals.{add-one}
 use native.Mathlib.Omega.{arith}
 use lib.ListN.{length, getD, take, drop, set, length-append, length-drop, drop-of-length-le, take-append-drop}
-use lib.Seq.{take-at, drop-at, drop-drop, take-length, length-take-le, paste, paste-zero, paste-suc, length-paste}
+use lib.Seq.{take-at, drop-at, drop-drop, take-length, length-take-le, paste, paste-zero, paste-suc}
 use Rattle.lists.specs.Laws.{part-to-end}
 use Rattle.wire.specs.Wire.{overlay, encMany}
 
@@ -111,47 +111,6 @@ many-suc z enc (a ∷ l) (suc i) h =
     ap (λ (k : ℕ). encMany enc (take k (a ∷ l))) q
     ∙ ap (λ (t : List ℕ). enc a ++ t) (many-suc z enc l i (omega arith))
     ∙ sym (append-assoc (enc a) (encMany enc (take i l)) (enc (getD l i z)))
-
--- the first elements take no more room than more of them
-pub many-mono : {A : Type 0} (enc : A → List ℕ) (l : List A) (i n : ℕ) → i ≤ n → length (encMany enc (take i l)) ≤ length (encMany enc (take n l))
-unfolding encMany
-many-mono enc l zero n h = zero-le
-many-mono enc l (suc i) zero h = absurd (omega arith)
-many-mono enc [] (suc i) (suc n) h = zero-le
-many-mono enc (a ∷ l) (suc i) (suc n) h =
-    omega (arith, length-append (enc a) (encMany enc (take i l)), length-append (enc a) (encMany enc (take n l)), many-mono enc l i n (omega arith))
-
--- of the first n elements of l, i are written into d₀ from place `start` on: `at` is the place behind them
-pub record Writing {A : Type 0} (enc : A → List ℕ) (l : List A) (n start : ℕ) (d₀ d : List ℕ) (at i : ℕ) : Type 0 where
-  pub some : i ≤ n
-  pub done : Puts (encMany enc (take i l)) start d₀ d at
-  pub long : length d ≡ length d₀
-
-pub writing-start : {A : Type 0} (enc : A → List ℕ) (l : List A) (n start : ℕ) (d : List ℕ) → Writing enc l n start d d start 0
-unfolding encMany
-writing-start enc l n start d = record { some = zero-le; done = record { next = sym (add-zero start); holds = sym (splice-none start d) }; long = refl }
-
-module _ {A : Type 0} (z : A) (enc : A → List ℕ) (l : List A) (n start : ℕ) (d₀ d : List ℕ) (at i : ℕ) (w : Writing enc l n start d₀ d at i) (fit : Room (encMany enc (take n l)) start d₀) (all : n ≤ length l) where
-  whole-room : i < n → Room (encMany enc (take i l) ++ enc (getD l i z)) start d₀
-  whole-room h =
-      let q = ap length (many-suc z enc l i (omega arith)) in
-      record { fits = omega (arith, many-mono enc l (i + 1) n (omega arith), fit .fits) }
-
-  -- there is room for one more
-  pub writing-room : i < n → Room (enc (getD l i z)) at d
-  writing-room h = room-next (whole-room h) (w .done)
-
-  pub writing-more : (d′ : List ℕ) (e : ℕ) → i < n → Puts (enc (getD l i z)) at d d′ e → Writing enc l n start d₀ d′ e (i + 1)
-  writing-more d′ e h p = record {
-    some = omega arith;
-    done = puts-as (sym (many-suc z enc l i (omega arith))) (puts-join (whole-room h) (w .done) p);
-    long = puts-long (writing-room h) p ∙ w .long;
-  }
-
-  pub writing-done : n ≤ i → Puts (encMany enc (take n l)) start d₀ d at
-  writing-done h =
-      let q : i ≡ n = omega (arith, w .some) in
-      subst (λ (k : ℕ). Puts (encMany enc (take k l)) start d₀ d at) q (w .done)
 
 -- ---- a part written into the rest of a buffer, which starts at n
 pub rest-room : (l xs : List ℕ) (n : ℕ) → Room l n xs → Room l 0 (take (length xs - n) (drop n xs))

@@ -1,6 +1,6 @@
 -- Bytes copied to the start of a slice.
 use Prim.Native.Nat.{ℕ}
-use mathlib.Core.Path.{_≡_, subst}
+use mathlib.Core.Path.{_≡_}
 use mathlib.Core.List.{List}
 use lib.ListN.{length}
 use Rattle.wire.specs.Wire.{overlay}
@@ -9,7 +9,3 @@ use Rattle.wire.specs.Wire.{overlay}
 pub record Wrote (l d d′ : List ℕ) (r : ℕ) : Type 0 where
   pub count : r ≡ length l
   pub bytes : d′ ≡ overlay l d
-
--- the same bytes, said in another way
-pub rewrote : {l m d d′ : List ℕ} {r : ℕ} → l ≡ m → Wrote l d d′ r → Wrote m d d′ r
-rewrote {l} {m} {d} {d′} {r} e w = subst (λ (t : List ℕ). Wrote t d d′ r) e w

@@ -1,6 +1,6 @@
 // Each function writes one part at the start of the slice that it is lent and answers how many bytes it wrote.
 ghost use Prim.Native.Nat.{_≤_};
-ghost use lib.ListN.{length, take};
+ghost use lib.ListN.{length};
 ghost use Rattle.wire_bytes.specs.Writing.{Wrote};
 
 pub fn put(src: &[u8], dst: &mut [u8]) -> usize
@@ -13,15 +13,4 @@ pub fn put(src: &[u8], dst: &mut [u8]) -> usize
         i += 1;
     }
     i
-}
-
-// The first n bytes of src, or all of them where it has fewer.
-pub fn put_first(src: &[u8], n: usize, dst: &mut [u8]) -> usize
-    requires { ⌜ length (take n (now src)) ≤ length (now dst) ⌝ }
-    ensures { λ r. ⌜ Wrote (take n (now (src .entry))) (now (dst .entry)) (now (dst .exit)) r ⌝ }
-{
-    if src.len() <= n {
-        return put(src, dst);
-    }
-    put(&src[0..n], dst)
 }

@@ -35,7 +35,7 @@ oracle replay  --driver PATH [--driver-arg A]... --from FOLDER
 oracle record  --out FOLDER [--seed S] [--scripts N] [--pool N] [--bytes N]
 oracle mutants [--only N] [--driver PATH] [--seed S] [--scripts N] [--show]
 oracle restorable [--seed S] [--scripts N]
-oracle theorems --out CRATES [--seed S] [--lists N] [--blocks N] [--pool N] [--per-crate N]
+oracle theorems --out CRATES [--seed S] [--lists N] [--blocks N] [--pool N]
 oracle selftest";
 
 struct Options {
@@ -154,8 +154,7 @@ fn main() -> ExitCode {
         }
         "theorems" => {
             let bounds = theorems::Bounds {
-                lists: options.number("--lists", 36) as usize,
-                per_crate: options.number("--per-crate", 9) as usize,
+                lists: options.number("--lists", 18) as usize,
                 blocks: options.number("--blocks", 13) as usize,
                 pool: options.number("--pool", 20_000),
             };

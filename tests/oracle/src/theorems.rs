@@ -30,8 +30,6 @@ use text::{lines, Names};
 /// Of the lists that are written.
 pub struct Bounds {
     pub lists: usize,
-    /// The most lists in one crate.
-    pub per_crate: usize,
     /// The most SHA-256 blocks of a list, by the estimate below.
     pub blocks: usize,
     /// How many lists of the seed are looked at.
@@ -409,46 +407,39 @@ fn put(path: &Path, text: &str) {
     fs::write(path, text).expect("a file");
 }
 
-/// Writes the chosen lists as crates `recorded_lists_a`, `_b`, .. beside `recorded_lists`, which
-/// gets the names that they share, and prints what is covered.
+/// Writes the chosen lists into the crate `recorded_lists`, with the names that they share, and
+/// prints what is covered.
 pub fn write(seed: u64, bounds: &Bounds, crates: &Path, command: &str) {
     let chosen = choose((0..bounds.pool).map(|number| candidate(seed, number)).collect(), bounds);
+    let folder = crates.join("recorded_lists/specs");
     let made = format!("-- Made by `{command}`.\n");
     let mut names = Names::default();
     let mut table = Table::default();
     let mut calls = 0;
-    for (part, lists) in chosen.chunks(bounds.per_crate).enumerate() {
-        let folder = crates.join(format!("recorded_lists_{}", char::from(b'a' + part as u8)));
-        let _ = fs::remove_dir_all(folder.join("specs"));
-        let mut index = made.clone();
-        for (at, candidate) in lists.iter().enumerate() {
-            let number = part * bounds.per_crate + at + 1;
-            let head = format!(
-                "{made}-- List {} of the seed, with what the Rust answered.\n",
-                candidate.number
-            );
-            let text = theorem(&mut names, &head, &candidate.script);
-            put(&folder.join(format!("specs/List{number:02}.antt")), &text);
-            index += &format!("pub mod List{number:02}\n");
-            calls += start(&candidate.script).1.len();
-            table.add(&candidate.script, &steps(&candidate.script));
-            println!(
-                "list {number:02}: {} calls, about {} blocks, {} bytes",
-                start(&candidate.script).1.len(),
-                candidate.cost,
-                text.len()
-            );
-        }
-        put(&folder.join("specs/Lib.antt"), &index);
-        put(
-            &folder.join("src/lib.rt"),
-            "// Lists of calls that the Rust answered, as theorems about the rules; in specs/.\n",
+    let mut index = format!("{made}pub mod Pieces\npub mod Shared\npub mod Play\n");
+    for (at, candidate) in chosen.iter().enumerate() {
+        let number = at + 1;
+        let head = format!(
+            "{made}-- List {} of the seed, with what the Rust answered.\n",
+            candidate.number
+        );
+        let text = theorem(&mut names, &head, &candidate.script);
+        put(&folder.join(format!("List{number:02}.antt")), &text);
+        index += &format!("pub mod List{number:02}\n");
+        calls += start(&candidate.script).1.len();
+        table.add(&candidate.script, &steps(&candidate.script));
+        println!(
+            "list {number:02}: {} calls, about {} blocks, {} bytes",
+            start(&candidate.script).1.len(),
+            candidate.cost,
+            text.len()
         );
     }
+    put(&folder.join("Lib.antt"), &index);
     let head = format!(
         "{made}-- Fingerprints, coin ids and bundles of the recorded lists.\n{SHARED_USES}"
     );
-    put(&crates.join("recorded_lists/specs/Shared.antt"), &(head + &names.definitions()));
+    put(&folder.join("Shared.antt"), &(head + &names.definitions()));
     table.print();
     let expected: Vec<_> = expected_rows().into_iter().filter(counted).collect();
     let missing: Vec<_> = table.missing().into_iter().filter(counted).collect();

@@ -2,11 +2,10 @@ use Rattle.book_data.specs.Zero.{isZeroSpend}
 use Rattle.book_data.specs.Sound.{soundBundle, soundSpend}
 use Rattle.lists.specs.Lists.{allb, tailOf}
 use borrow.Author.Needs.{needs}
-use mathlib.Core.Bool.{Bool, _&&_}
+use mathlib.Core.Bool.{Bool, _&&_, and-assoc}
 use mathlib.Core.Path.{sym, ap, _∙_}
 use lib.Dec.{leb}
 use lib.ListN.{take}
-use Rattle.book_sound.specs.Cells.{and-assoc}
 use Rattle.book_sound.proofs.is_sound_bundle.Statement.{statement}
 use Rattle.book_sound.proofs.is_sound_bundle.Tie as tie
 

@@ -19,7 +19,7 @@ use Rattle.rules.specs.Steps.{issueBook, emitTo, emitBook}
 use Rattle.rules.specs.Steps.Slots.{present, issueAttempt, taken, slotsIssued, tokenIn, handed}
 use Rattle.ledger.specs.Law.{mapEffect, Law}
 use Rattle.ledger.specs.Ledger.{live, aside, Fate, displaced, struck, Row, Ledger, entryId, rowId, rowToken, withFate}
-use Rattle.ledger.specs.Tidy.{isOpen, Displaced, Fits, Place, issueOf, history, Tidy, lastTo, issued, grown, Chained, places-beside}
+use Rattle.ledger.specs.Tidy.{isOpen, Displaced, Fits, Place, issueOf, history, Tidy, lastTo, grown, Chained, places-beside}
 use Rattle.ledger.specs.View.{slotsBy, slotsOf, hold, bookOf, hold-change}
 
 abbrev pub displacedBy : Fate → Fate
@@ -156,14 +156,6 @@ module _ (i : ℕ) (g : SubmissionDeliveryGoal) (l : Ledger) where
       picked-key entryId i (l .entries) q,
       taken-last e es (pick rowId i (l .rows)) (rw q at (t .places i .fits)),
     )
-
-  handed-is : (e : SubmittedEntry) (p : OptionalAttempt) → issued (handed (l .nextToken) g e p) ≡ record { token = l .nextToken; id = entryId e }
-  unfolding handed
-  handed-is e p = refl
-
-  handed-from : (e : SubmittedEntry) (p : OptionalAttempt) → handed (l .nextToken) g e p .predecessor ≡ tokenIn p
-  unfolding handed
-  handed-from e p = refl
 
   grow : (es : List SubmittedEntry) → pick entryId i (l .entries) ≡ es → history (emitEntry i g l es .after) ≡ grown (emitEntry i g l es .out) (history l)
   unfolding handed issueAttempt
