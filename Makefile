@@ -27,7 +27,7 @@ help:
 	@echo "make install   library, headers, pkg-config file and show_archive below PREFIX=/usr/local (DESTDIR= in front of it); make uninstall"
 	@echo "make library   the library's tests alone: C, C++, stack, sanitizers, the Rust crate, archives shown and decoded, installing"
 	@echo "make compare   call scripts, played by the driver and by the Rust (N=6000 SEED=1: so many, of this seed)"
-	@echo "make bench     every call, archives and SHA-256 against Rust, in one run"
+	@echo "make bench     every call, archives and SHA-256 against Rust, in one run (OLD=libc_api.a: every call against that build of the library)"
 	@echo "make fuzz      ten minutes of coverage-guided fuzzing of the C boundary (SECONDS=30 for less), after building it for that"
 	@echo "make archives  damaged archives, read here and by the Rust side's decoder"
 	@echo "make fmt       the layout of every source, specification and proof"
@@ -126,7 +126,7 @@ compare: target/bin/book_driver
 	@tests/oracle/check "$(CURDIR)/target/bin/book_driver" $(SEED) $(N)
 
 bench: $(LIBRARY)
-	@bench/run.sh
+	@bench/run.sh $(OLD)
 
 SECONDS ?= 600
 fuzz:

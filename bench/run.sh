@@ -1,5 +1,6 @@
 #!/usr/bin/env bash
 # Every comparison in one run, as Markdown: the calls against the upstream Rust, archives and SHA-256 against plain Rust.
+#   bench/run.sh [OLD]    with OLD, another build's libc_api.a: every call of that library against this one, and nothing else
 set -euo pipefail
 cd "$(dirname "$0")/.."
 export PATH="$HOME/.cargo/bin:$PATH"
@@ -19,6 +20,15 @@ for crate in c_api sha256_c; do
         rt staticlib "$crate" >>"$log" 2>&1 || { cat "$log"; exit 1; }
     fi
 done
+
+# Two builds of the library in one program: the other one's functions get other names.
+if [ $# -gt 0 ]; then
+    nm -g --defined-only "$1" | awk '$3 ~ /^submission_book_/ { print $3, "other_" $3 }' >"$out/symbols"
+    objcopy --redefine-syms="$out/symbols" "$1" "$out/libother.a"
+    rustc --edition 2021 -C opt-level=3 --cfg 'feature="other"' -o "$out/versions" bench/calls/src/main.rs -L native=target/staticlib -l static=c_api \
+        -L native="$out" -l static=other >>"$log" 2>&1 || { cat "$log"; exit 1; }
+    exec "$out/versions" versions
+fi
 
 # A copy of the oracle's build of the upstream text, with the module that times its methods.
 upstream=${SUBMISSION_BOOK_UPSTREAM:-../shared/docs/src}

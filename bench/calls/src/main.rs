@@ -31,11 +31,33 @@ mod oracle {
 #[path = "../../../tests/oracle/rust_book/src/sha256.rs"]
 mod sha256;
 
+/// The library's own symbol of a function.
+macro_rules! symbol {
+    ($name:ident) => {
+        stringify!($name)
+    };
+}
+
 mod inputs;
 mod port;
 mod stack;
 mod table;
 mod times;
+#[cfg(feature = "other")]
+mod versions;
+
+/// The other build of the library, whose symbols bench/run.sh renames.
+#[cfg(feature = "other")]
+#[path = "."]
+mod other {
+    macro_rules! symbol {
+        ($name:ident) => {
+            concat!("other_", stringify!($name))
+        };
+    }
+    #[allow(dead_code)]
+    pub mod port;
+}
 
 extern "C" {
     fn mallopt(parameter: i32, value: i32) -> i32;
@@ -53,6 +75,11 @@ fn keep_memory() {
 
 fn main() {
     keep_memory();
+    #[cfg(feature = "other")]
+    if std::env::args().any(|word| word == "versions") {
+        print!("{}", versions::table());
+        return;
+    }
     let calls = table::calls();
     let drain = table::drain();
     let (stack, largest) = table::stack();

@@ -7,7 +7,7 @@ pub const BOOK_BYTES: usize = 57_702;
 
 macro_rules! boundary {
     ($($name:ident($($argument:ident: $type:ty),*);)*) => {
-        extern "C" { $(fn $name(book: *mut u8, length: usize, $($argument: $type),*) -> u8;)* }
+        extern "C" { $(#[link_name = symbol!($name)] fn $name(book: *mut u8, length: usize, $($argument: $type),*) -> u8;)* }
     };
 }
 

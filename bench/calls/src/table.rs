@@ -16,7 +16,7 @@ const DRAIN_RATIO: f64 = 3.0;
 const STACK: usize = 1 << 20;
 
 /// Three figures.
-fn figure(value: f64) -> String {
+pub fn figure(value: f64) -> String {
     match value {
         v if v < 0.1 => format!("{v:.3}"),
         v if v < 10.0 => format!("{v:.2}"),
@@ -55,7 +55,7 @@ fn head() -> String {
 }
 
 /// The name in the table; the two drains differ by their books.
-fn row_name(cases: &[Case], row: usize) -> String {
+pub fn row_name(cases: &[Case], row: usize) -> String {
     match cases[row].call {
         "drain" if cases[row + 1].call == "drain" => "drain, retained queued again".to_string(),
         "drain" => "drain, new intents".to_string(),

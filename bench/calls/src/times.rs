@@ -9,7 +9,7 @@ use crate::port::{self, archive, lent};
 
 pub const ROUNDS: usize = 21;
 /// Books that a call meets in one round; together they fit a processor's cache.
-const BOOKS: usize = 32;
+pub const BOOKS: usize = 32;
 
 /// Microseconds; `rust` is none without the upstream text. `own` is the call less one that reads the same book and
 /// writes it back unchanged; none for calls that do not do both.
@@ -26,7 +26,7 @@ pub fn clock_seconds() -> f64 {
 }
 
 /// Once on each of the books, which are filled anew before the clock starts.
-fn boundary_seconds(call: &mut port::Call, filled: &[u8], books: &mut [Vec<u8>]) -> f64 {
+pub fn boundary_seconds(call: &mut port::Call, filled: &[u8], books: &mut [Vec<u8>]) -> f64 {
     for book in &mut *books {
         book.copy_from_slice(filled);
     }

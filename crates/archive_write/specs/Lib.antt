@@ -1,2 +1,1 @@
 pub mod Sections
-pub mod Rest

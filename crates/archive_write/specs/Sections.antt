@@ -1,14 +1,13 @@
 -- The sections as they are written: numbers, retained and queue; retirements, rollback height and replayed ids.
 use mathlib.Core.Path.{_≡_, refl, sym, ap, _∙_}
 use mathlib.Core.List.{List, _∷_, [], _++_, append-assoc}
-use Prim.Native.Nat.{ℕ, _-_, _%_, _≤_, min}
+use Prim.Native.Nat.{ℕ, _-_, _%_, min}
 use native.Mathlib.Nat.{sub-zero}
 use native.Mathlib.Omega.{arith}
 use lib.ListN.{length, take, drop}
 use lib.Seq.{take-length}
 use Rattle.lists.specs.Laws.{take-cut}
 use Rattle.wire.specs.Wire.{be, encMany, encList}
-use Rattle.wire.specs.Puts.{Room, Puts, room-next}
 use Rattle.spend.specs.Forms.{encodeHeight}
 use Rattle.book_data.specs.Model.{view, list16, list64}
 use Rattle.book_data.specs.declared.Token.{Token}
@@ -51,7 +50,3 @@ count-byte n = let e : n % 256 % 256 ≡ n % 256 = omega arith in ap (λ (x : �
 -- the ids in use
 pub ids-cut : (N n k : ℕ) (l : List ℕ) → length l ≡ N → k ≡ min n N → encList (be 8) (take (k - 0) (drop 0 l)) ≡ encList (be 8) (take n l)
 ids-cut N n k l h e = ap (λ (x : ℕ). encList (be 8) (take x l)) (sub-zero k) ∙ ap (encList (be 8)) (take-cut N n k l h e)
-
--- the place behind a part is inside the buffer
-pub place-inside : {a : List ℕ} {at : ℕ} {d d₁ : List ℕ} {e₁ : ℕ} (b : List ℕ) → Room (a ++ b) at d → Puts a at d d₁ e₁ → e₁ ≤ length d₁
-place-inside {a} {at} {d} {d₁} {e₁} b h p = let r : Room b e₁ d₁ = room-next h p in omega (arith, r .fits)

@@ -3,7 +3,6 @@ ghost use mathlib.Core.Path.{_≡_};
 ghost use mathlib.Core.List.{_++_};
 ghost use lib.ListN.{take};
 ghost use Rattle.wire.specs.Wire.{be, encMany, encList};
-ghost use Rattle.wire.specs.Puts.{Room, Puts};
 ghost use Rattle.append.specs.Fits.{Fits};
 ghost use Rattle.archive_form.specs.Encode.{encodeSubmitted, encodeDelivery, encodeBook};
 ghost use Rattle.archive_write.specs.Sections.{frontOf, backOf, numbersForm};
@@ -122,10 +121,9 @@ fn write_back(out: &mut [u8], b: BookData) -> usize
     next + last
 }
 
-// The whole archive, into a buffer that has room for it.
+// The whole archive.
 pub fn write_book(out: &mut [u8], b: BookData) -> usize
-    requires { ⌜ Room (encodeBook b) 0 (now out) ⌝ }
-    ensures { λ r. ⌜ Puts (encodeBook b) 0 (now (out .entry)) (now (out .exit)) r ⌝ }
+    ensures { λ r. ⌜ Fits (encodeBook b) 0 (now (out .entry)) (now (out .exit)) r ⌝ }
 {
     let at = write_front(&mut *out, b);
     let rest = write_back(&mut out[at..], b);

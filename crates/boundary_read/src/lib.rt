@@ -17,7 +17,7 @@ fn within(x: u8) -> bool
 }
 
 // Says what the type of a lent byte says, for all of them: a contract of the reader is over bytes below 256.
-fn each_within(s: &[u8])
+pub fn each_within(s: &[u8])
     ensures { λ _. ⌜ Every U8 (now (s .entry)) ⌝ }
 {
     let mut i: usize = 0;

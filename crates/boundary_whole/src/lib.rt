@@ -1,12 +1,15 @@
 // A book made in lent bytes, by opening or from an archive; and the archive of a lent book.
-use archive_read::read_archive;
 use archive_size::size_archive;
+use archive_walk::walk_archive;
 use archive_write::write_book;
 use book_data::SubmissionId;
 use book_data::Token;
+use boundary_read::each_within;
 use boundary_read::held;
 use boundary_write::put_back;
 use open_book::open;
+use wire::write::put_bytes;
+use wire::write::put_number;
 ghost use mathlib.Core.List.{[]};
 ghost use Rattle.rules.specs.Opened.{opened};
 ghost use Rattle.archive_form.specs.Parse.{readArchive};
@@ -22,17 +25,25 @@ pub fn open_into(book: &mut [u8], next_token: u64, next_id: u64) -> u8
     put_back(0, b, book)
 }
 
-// The book of an archive; 13 with the place of its first broken item.
+// The book of an archive; 13 with the place of its first broken item. An archive is what its book is written as, so that its bytes are
+// copied: no book is made. The held book's reader is then called from one place alone, and is compiled into it.
 pub fn read_into(book: &mut [u8], archive: &[u8], place: &mut u64) -> u8
     ensures { λ r. ⌜ GivesPlace (readInto (readArchive (now (archive .entry))) (now (book .entry)) (now (place .entry))) r (now (book .exit)) (now (place .exit)) ⌝ }
 {
-    let x = read_archive(archive);
-    let ok = x.ok;
+    each_within(archive);
+    let w = walk_archive(archive);
+    let ok = w.ok;
     if !ok {
-        *place = x.place as u64;
+        *place = w.place as u64;
         return 13;
     }
-    put_back(0, x.book, book)
+    let n = archive.len();
+    if book.len() < 8 + n {
+        return 12;
+    }
+    let at = put_number(&mut *book, 0, n as u64);
+    put_bytes(book, at, archive);
+    0
 }
 
 // The archive of the book, and its length.

@@ -9,25 +9,10 @@ use wire::write::put_bytes;
 use wire::write::put_number;
 ghost use mathlib.Core.Path.{_≡_};
 ghost use mathlib.Core.List.{[]};
-ghost use lib.ListN.{length};
-ghost use Rattle.wire.specs.Wire.{overlay};
-ghost use Rattle.wire.specs.Puts.{Room};
 ghost use Rattle.book_data.specs.Model.{view};
-ghost use Rattle.archive_form.specs.Encode.{encodeBook};
-ghost use Rattle.boundary.specs.Held.{bookBytes};
 ghost use Rattle.boundary.specs.Settle.{Gives, GivesBook, written, finish};
 
-// The archive of a book, behind its length n.
-fn put_book(next: BookData, n: usize, book: &mut [u8])
-    requires { ⌜ n ≡ length (encodeBook next) ⌝ }
-    requires { ⌜ Room (bookBytes (view next)) 0 (now book) ⌝ }
-    ensures { λ _. ⌜ now (book .exit) ≡ overlay (bookBytes (view next)) (now (book .entry)) ⌝ }
-{
-    let at = put_number(&mut *book, 0, n as u64);
-    write_book(&mut book[at..], next);
-}
-
-// The book alone.
+// The book alone. What is written stands in this function and the next, and not in one that both call: that would cost every call a copy of the book.
 pub fn put_back(number: u8, next: BookData, book: &mut [u8]) -> u8
     ensures { λ r. ⌜ GivesBook (written number (view next) [] (now (book .entry)) []) r (now (book .exit)) ⌝ }
 {
@@ -35,7 +20,8 @@ pub fn put_back(number: u8, next: BookData, book: &mut [u8]) -> u8
     if book.len() < 8 + n {
         return 12;
     }
-    put_book(next, n, book);
+    let at = put_number(&mut *book, 0, n as u64);
+    write_book(&mut book[at..], next);
     number
 }
 
@@ -50,7 +36,8 @@ pub fn put_both(number: u8, next: BookData, l: &[u8], book: &mut [u8], answer: &
     if answer.len() < l.len() {
         return 12;
     }
-    put_book(next, n, book);
+    let at = put_number(&mut *book, 0, n as u64);
+    write_book(&mut book[at..], next);
     put_bytes(answer, 0, l);
     number
 }

@@ -1,3 +1,4 @@
+-- The three ways: not sound, too short, and room for the archive, which is then written.
 use borrow.Author.Tests.{not-true, not-false}
 use native.Mathlib.Omega.{arith}
 use Rattle.archive_form.specs.Encode.{encodeBook}
@@ -7,24 +8,22 @@ use Rattle.archive.proofs.write_if_sound.Statement.{statement}
 use Rattle.archive.proofs.write_if_sound.Tie as tie
 
 returns : tie.Need-returns
-returns c = unsound ((c .before .before .args) .sound) ((c .before .before .args) .out .now) (encodeBook ((c .before .before .args) .b)) (not-true ((c .before .before .args) .sound) ((c .if1) .taken))
-
-size-archive-requires : tie.Need-size-archive-requires
-size-archive-requires c κs = search needs
+returns c = let a = c .before .before .args in
+    unsound (a .sound) (a .out .now) (encodeBook (a .b)) (not-true (a .sound) (c .if1 .taken))
 
 returns-2 : tie.Need-returns-2
-returns-2 c = short ((c .before .before .before .before .args) .sound) ((c .before .before .before .before .args) .out .now) (encodeBook ((c .before .before .before .before .args) .b)) (not-false ((c .before .before .before .before .args) .sound) ((c .before .before .if1) .left)) (omega (arith, (c .before .size-archive) .ensures .is))
-
-write-book-requires : tie.Need-write-book-requires
-write-book-requires c κs = record { fits = omega (arith, (c .before .before .size-archive) .ensures .is) }
-
-same-length : tie.Need-same-length
-same-length c = search needs
+returns-2 c = let a = c .before .before .before .before .args in
+    short (a .sound) (a .out .now) (encodeBook (a .b)) (not-false (a .sound) (c .before .before .if1 .left)) (omega (arith, c .before .size-archive .ensures .is))
 
 returns-3 : tie.Need-returns-3
-returns-3 c = whole ((c .before .before .before .before .before .before .before .before .args) .sound) ((c .before .before .before .before .before .before .before .before .args) .out .now) _ (encodeBook ((c .before .before .before .before .before .before .before .before .args) .b)) ((c .before .before .write-book) .result) (not-false ((c .before .before .before .before .before .before .before .before .args) .sound) ((c .before .before .before .before .before .before .if1) .left)) (omega (arith, (c .before .before .before .before .before .size-archive) .ensures .is)) ((c .before .before .write-book) .ensures)
+returns-3 c =
+    let written = c .before .before .write-book in
+    let sized = c .before .before .before .before .before in
+    let a = sized .before .before .before .args in
+    let room = sized .size-archive .ensures .is in
+    whole (a .sound) (a .out .now) _ (encodeBook (a .b)) (written .result) (not-false (a .sound) (sized .before .if1 .left)) (omega (arith, room))
+    (written .ensures .puts (record { fits = omega (arith, room) }))
 
 pub write-if-sound-spec : {M : Type 1} → statement M
 write-if-sound-spec =
-    tie.close
-    (tie.spec returns size-archive-requires returns-2 write-book-requires same-length returns-3)
+    tie.close (tie.spec returns (λ c κs. search needs) returns-2 (λ c κs. search needs) (λ c. search needs) returns-3)

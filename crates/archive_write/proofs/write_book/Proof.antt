@@ -17,11 +17,8 @@ add-result c = omega (arith, fits-both (c .before .before .before .before .befor
 
 returns : tie.Need-returns
 returns c =
-    let the-args = c .before .before .before .before .before .before .before .before .before .args in
-    let the-write-front = c .before .before .before .before .before .before .write-front in
-    let the-write-back = c .before .before .write-back in
-    let the-pre = c .before .before .before .before .before .before .before .before .before .pre in
-    fits-as (book-form (the-args .b)) (fits-both (the-write-front .ensures) _ (the-write-back .ensures)) .puts (the-pre)
+    let front = c .before .before .before .before .before .before in
+    fits-as (book-form (front .before .before .before .args .b)) (fits-both (front .write-front .ensures) _ (c .before .before .write-back .ensures))
 
 pub write-book-spec : {M : Type 1} → statement M
 write-book-spec =

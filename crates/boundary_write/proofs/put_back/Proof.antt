@@ -1,28 +1,33 @@
--- No room: 12. Else the bytes of the book over the old ones.
-use Rattle.boundary.specs.Settle.{laid-room, back-short, back-done}
+-- No room: 12. Else the bytes of the book over the old ones: its length, and the archive into the rest.
+use Rattle.boundary.specs.Settle.{back-short, back-done}
+use Rattle.boundary_write.specs.Laid.{number-room, behind-number, book-laid}
 use borrow.Author.Needs.{needs}
 use Rattle.boundary_write.proofs.put_back.Statement.{statement}
 use Rattle.boundary_write.proofs.put_back.Tie as tie
 
-size-archive-requires : tie.Need-size-archive-requires
-size-archive-requires c κs = search needs
-
-add-if1 : tie.Need-add-if1
-add-if1 c = search needs
-
 returns : tie.Need-returns
 returns c = back-short _ _ _ _ (c .before .size-archive .ensures .is) (c .if1 .taken)
 
-put-book-requires : tie.Need-put-book-requires
-put-book-requires c κs = (c .before .before .size-archive .ensures .is, laid-room _ _ _ (c .before .before .size-archive .ensures .is) (c .before .if1 .left))
+put-number-requires : tie.Need-put-number-requires
+put-number-requires c κs = number-room _ _ _ (c .before .before .size-archive .ensures .is) (c .before .if1 .left)
 
-same-length : tie.Need-same-length
-same-length c = search needs
+sub-write-book : tie.Need-sub-write-book
+sub-write-book c = let n = c .before .before in
+    behind-number _ _ _ (n .before .before .before .size-archive .ensures .is) (n .before .before .if1 .left) (n .put-number .ensures)
+
+part-write-book-start : tie.Need-part-write-book-start
+part-write-book-start c = let n = c .before .before in
+    behind-number _ _ _ (n .before .before .before .size-archive .ensures .is) (n .before .before .if1 .left) (n .put-number .ensures)
 
 returns-2 : tie.Need-returns-2
-returns-2 c = back-done _ _ _ _ (c .before .before .before .before .before .size-archive .ensures .is) (c .before .before .before .before .if1 .left) (c .before .before .put-book .ensures)
+returns-2 c =
+    let n = c .before .before .before .before .before .before in
+    let e = n .before .before .before .size-archive .ensures .is in
+    let h = n .before .before .if1 .left in
+    back-done _ _ _ _ e h (book-laid _ _ _ e h (n .put-number .ensures) (c .before .before .write-book .ensures))
 
 pub put-back-spec : {M : Type 1} → statement M
 put-back-spec =
     tie.close
-    (tie.spec size-archive-requires add-if1 returns put-book-requires same-length returns-2)
+    (tie.spec
+    (λ c κs. search needs) (λ c. search needs) returns put-number-requires sub-write-book part-write-book-start (λ c. search needs) (λ c κs. search needs) (λ c. search needs) returns-2)
