@@ -318,7 +318,12 @@ impl SubmissionBook {
         if refusal != 0 {
             return done_refused(self, refusal);
         }
-        let r = call_queue_retained_delivery::queue_retained_delivery_sound(self.parts, id, trigger, goal);
+        let r = call_queue_retained_delivery::queue_retained_delivery_sound(
+            self.parts,
+            id,
+            trigger,
+            goal,
+        );
         done_answer(r)
     }
 
@@ -522,7 +527,11 @@ impl SubmissionBook {
         if refusal != 0 {
             return ids_refused(self, refusal);
         }
-        let r = call_causally_rolled_back_ids::causally_rolled_back_ids_sound(self.parts, absent, inputs);
+        let r = call_causally_rolled_back_ids::causally_rolled_back_ids_sound(
+            self.parts,
+            absent,
+            inputs,
+        );
         ids_answer(r)
     }
 
@@ -566,7 +575,11 @@ impl SubmissionBook {
         if refusal != 0 {
             return written_refused(self, refusal);
         }
-        let r = call_reconciliation_input_coins::reconciliation_input_coins_sound(self.parts, outputs, out);
+        let r = call_reconciliation_input_coins::reconciliation_input_coins_sound(
+            self.parts,
+            outputs,
+            out,
+        );
         written_answer(r)
     }
 
@@ -577,7 +590,12 @@ impl SubmissionBook {
         if refusal != 0 {
             return written_refused(self, refusal);
         }
-        let r = call_absent_outputs_for_ids::absent_outputs_for_ids_sound(self.parts, ids, absent, out);
+        let r = call_absent_outputs_for_ids::absent_outputs_for_ids_sound(
+            self.parts,
+            ids,
+            absent,
+            out,
+        );
         written_answer(r)
     }
 
