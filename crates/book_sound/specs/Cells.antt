@@ -65,7 +65,7 @@ module _ {A : Type 0} (p q : A → Bool) where
   pub used-done : (n i N : ℕ) (xs : List A) (ok : Bool) → length xs ≡ N → N ≤ i → usedb n xs ≡ (ok && usedb (n - i) (drop i xs)) → ok ≡ (tailOf N q n xs && allb p (take n xs))
   unfolding usedb
   used-done n i N xs ok l e h =
-      and-none ok
+      sym (and-true ok)
       ∙ sym (h ∙ ap (λ (ys : List A). ok && usedb (n - i) ys) (drop-of-length-le xs {i = i} (omega arith)))
       ∙ used-split n xs
       ∙ ap (λ (x : Bool). x && allb p (take n xs)) (tail-of N q n xs l refl)

@@ -134,9 +134,6 @@ module _ (s : List ℕ) (n : ℕ) (h : 2 ≤ length s) (e : n ≡ countOf s) whe
   pub list-start : n ≤ 800 → coinListb s ≡ usedUp n (drop 2 s)
   list-start l = long-enough ∙ ap (λ (b : Bool). b && usedUp n (drop 2 s)) (le-leb n 800 l)
 
--- ---- a walk to the coin i: g is that coin, and skip coins come before it from a place on, where left are left
-module _ {g : List ℕ} (s : List ℕ) (at left skip : ℕ) (h : g ≡ getD (coinsFrom left (drop at s)) skip []) where
-
 -- no coin is left
 pub coins-end : (s : List ℕ) (left : ℕ) → left ≤ 0 → coinsFrom left s ≡ []
 coins-end s zero h = refl
