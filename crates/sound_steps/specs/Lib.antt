@@ -1,4 +1,3 @@
 pub mod Holds
 pub mod Acts
 pub mod Room
-pub mod Door
