@@ -10,11 +10,10 @@ use Rattle.book_data.specs.SoundLaws.{back-view}
 use Rattle.rules.specs.Call.{Value, noValue}
 use Rattle.rules.specs.Rule.{Rule, done, turn, _>>=_, Outcome, ended, undone, stopped, followed, run, run-bind}
 use Rattle.rules.specs.Steps.{onBook, runBook}
-use Rattle.replies.specs.Reply.{outcomeOf, doneReply}
+use Rattle.replies.specs.Reply.{doneReply}
 use Rattle.replies.specs.declared.CallAnswer.the-variants.{Done, Refused}
 use Rattle.replies.specs.declared.DoneReply.{DoneReply}
 use Rattle.sound_steps.specs.Acts.{logged-none}
-use Rattle.sound_steps.specs.Door.{door-shut, door-open}
 
 -- the rules ended with a, and q holds the sound lists that they left
 pub record Reached {A : Type 0} (a : A) (q : BookData) (o : Outcome Book A) : Type 0 where
@@ -83,11 +82,3 @@ settled-is b true q o h = refused-is b 10 o h
 settled-is b false q o h =
     ap {B = DoneReply} (λ (x : BookData). record { answer = Done; book = x }) (sym (back-view q (h .sound)))
     ∙ ap (doneReply b) (sym (h .outcome))
-
--- ---- the door
-module _ (b : BookData) (r : Rule Value) where
-  pub shut-is : soundb b ≡ false → refusedReply b 1 ≡ doneReply b (outcomeOf b r)
-  shut-is e = refused-is b 1 (outcomeOf b r) (door-shut b r e)
-
-  pub open-is : soundb b ≡ true → doneReply b (runBook r (view b)) ≡ doneReply b (outcomeOf b r)
-  open-is e = ap (doneReply b) (sym (door-open b r e))

@@ -2,4 +2,3 @@ pub mod Holds
 pub mod Acts
 pub mod Room
 pub mod RetireLaws
-pub mod Door
