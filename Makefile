@@ -46,7 +46,7 @@ lib: $(LIBRARY) $(SHARED) $(addprefix target/lib/, $(PUBLIC))
 # Programs that are asked for as well are proved in one go with what the library needs.
 PROGRAMS =
 run install: PROGRAMS = show_archive
-library: PROGRAMS = show_archive book_driver
+library: PROGRAMS = show_archive tool_book_driver
 
 # The proved part is proved again when it is built, so it has a rule of its own.
 $(PROVED): $(SOURCES)
@@ -70,7 +70,7 @@ $(addprefix target/lib/, $(PUBLIC)): target/lib/%: include/%
 	@mkdir -p target/lib
 	@cp $< $@
 
-target/bin/show_archive target/bin/book_driver: $(SOURCES)
+target/bin/show_archive target/bin/tool_book_driver: $(SOURCES)
 	@tools/prove $(@F)
 	@touch $@
 
@@ -107,7 +107,7 @@ target/c_api_stack: tests/c_api/stack.c $(SAMPLE) $(HEADERS) $(LIBRARY)
 
 # The library as its users have it: the sample kitchen, all functions from C and C++, the stack that they take, sanitizers, the Rust
 # crate, archives shown as text and decoded in Python, and installing.
-library: lib target/first target/kitchen target/c_api_calls target/c_api_stack target/bin/show_archive target/bin/book_driver
+library: lib target/first target/kitchen target/c_api_calls target/c_api_stack target/bin/show_archive target/bin/tool_book_driver
 	target/first
 	target/kitchen target/kitchen.archive >target/kitchen.txt
 	target/c_api_calls
@@ -122,8 +122,8 @@ library: lib target/first target/kitchen target/c_api_calls target/c_api_stack t
 # The driver against the Rust on N seeded scripts of about 20 calls each.
 N ?= 6000
 SEED ?= 1
-compare: target/bin/book_driver
-	@tests/oracle/check "$(CURDIR)/target/bin/book_driver" $(SEED) $(N)
+compare: target/bin/tool_book_driver
+	@tests/oracle/check "$(CURDIR)/target/bin/tool_book_driver" $(SEED) $(N)
 
 bench: $(LIBRARY)
 	@bench/run.sh $(OLD)
@@ -132,9 +132,9 @@ SECONDS ?= 600
 fuzz:
 	@fuzz/run.sh $(SECONDS)
 
-archives: target/bin/book_driver
+archives: target/bin/tool_book_driver
 	@cd tests/oracle && cargo build --release --offline
-	@tests/oracle/target/release/oracle archives --driver target/bin/book_driver --seed 1 --archives 5
+	@tests/oracle/target/release/oracle archives --driver target/bin/tool_book_driver --seed 1 --archives 5
 
 fmt:
 	rt fmt

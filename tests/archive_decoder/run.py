@@ -1,7 +1,7 @@
 #!/usr/bin/env python3
 """Holds archive.py, a decoder written from docs/ARCHIVE.md, against the page, the recorded lists, the driver and the library.
 
-    run.py [DRIVER [SEED [LIBRARY]]]      (target/bin/book_driver, 1, target/lib/libsubmission_book.so)
+    run.py [DRIVER [SEED [LIBRARY]]]      (target/bin/tool_book_driver, 1, target/lib/libsubmission_book.so)
 """
 import collections
 import ctypes
@@ -184,7 +184,7 @@ def compared_with_library(path, made):
 
 def main():
     arguments = dict(enumerate(sys.argv))
-    driver = arguments.get(1, str(ROOT / "target/bin/book_driver"))
+    driver = arguments.get(1, str(ROOT / "target/bin/tool_book_driver"))
     rng = random.Random(int(arguments.get(2, 1)))
     library = arguments.get(3, str(ROOT / "target/lib/libsubmission_book.so"))
     example = check_page()

@@ -2,7 +2,7 @@
 use mathlib.Core.Path.{_≡_, ap}
 use Prim.Native.Nat.{ℕ}
 use lib.ListN.{take}
-use Rattle.book_data.specs.declared.BookData.{BookData}
+use Rattle.book.specs.declared.BookData.{BookData}
 use Rattle.archive_form.specs.Parse.{readArchive, ArchiveRead, book, broken}
 use Rattle.archive_form.specs.Specimen.{openedBytes, opened-cut}
 

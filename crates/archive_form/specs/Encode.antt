@@ -2,28 +2,28 @@
 -- an optional part follows a count 0 or 1. Bundle, expiry and fee intent are in `spend`.
 use mathlib.Core.List.{List, _++_}
 use Prim.Native.Nat.{ℕ}
-use Rattle.wire.specs.Wire.{be, encMany, encList, encOpt}
-use Rattle.spend.specs.Forms.{encodeBundle, encodeHeight, encodeFeeIntent}
-use Rattle.book_data.specs.Model.{Book, view}
-use Rattle.book_data.specs.declared.OptionalId.{OptionalId}
-use Rattle.book_data.specs.declared.OptionalId.the-variants.{NoId, Of}
-use Rattle.book_data.specs.declared.SubmissionDeliveryGoal.{SubmissionDeliveryGoal}
-use Rattle.book_data.specs.declared.SubmissionDeliveryGoal.the-variants.{EnsureBroadcast, FeeUpgrade}
-use Rattle.book_data.specs.declared.DeliveryTrigger.{DeliveryTrigger}
-use Rattle.book_data.specs.declared.DeliveryTrigger.the-variants.{Protocol, FreshChain, Rollback, ProviderReadiness}
-use Rattle.book_data.specs.declared.SubmissionChainTerminality.{SubmissionChainTerminality}
-use Rattle.book_data.specs.declared.SubmissionChainTerminality.the-variants.{Active, InputSpent, Landed}
-use Rattle.book_data.specs.declared.FeeResolution.{FeeResolution}
-use Rattle.book_data.specs.declared.FeeResolution.the-variants.{Unresolved, NotRequested, Attached}
-use Rattle.book_data.specs.declared.OptionalHash.{OptionalHash}
-use Rattle.book_data.specs.declared.DeliveryAttempt.{DeliveryAttempt}
-use Rattle.book_data.specs.declared.OptionalAttempt.{OptionalAttempt}
-use Rattle.book_data.specs.declared.AttemptSlots.{AttemptSlots}
-use Rattle.book_data.specs.declared.SubmissionBroadcastVariant.{SubmissionBroadcastVariant}
-use Rattle.book_data.specs.declared.SubmittedEntry.{SubmittedEntry}
-use Rattle.book_data.specs.declared.SubmittedTx.{SubmittedTx}
-use Rattle.book_data.specs.declared.PendingDelivery.{PendingDelivery}
-use Rattle.book_data.specs.declared.BookData.{BookData}
+use Rattle.codec_forms.specs.Wire.{be, encMany, encList, encOpt}
+use Rattle.archive_bundle_form.specs.Forms.{encodeBundle, encodeHeight, encodeFeeIntent}
+use Rattle.book.specs.Model.{Book, view}
+use Rattle.book.specs.declared.OptionalId.{OptionalId}
+use Rattle.book.specs.declared.OptionalId.the-variants.{NoId, Of}
+use Rattle.book.specs.declared.SubmissionDeliveryGoal.{SubmissionDeliveryGoal}
+use Rattle.book.specs.declared.SubmissionDeliveryGoal.the-variants.{EnsureBroadcast, FeeUpgrade}
+use Rattle.book.specs.declared.DeliveryTrigger.{DeliveryTrigger}
+use Rattle.book.specs.declared.DeliveryTrigger.the-variants.{Protocol, FreshChain, Rollback, ProviderReadiness}
+use Rattle.book.specs.declared.SubmissionChainTerminality.{SubmissionChainTerminality}
+use Rattle.book.specs.declared.SubmissionChainTerminality.the-variants.{Active, InputSpent, Landed}
+use Rattle.book.specs.declared.FeeResolution.{FeeResolution}
+use Rattle.book.specs.declared.FeeResolution.the-variants.{Unresolved, NotRequested, Attached}
+use Rattle.book.specs.declared.OptionalHash.{OptionalHash}
+use Rattle.book.specs.declared.DeliveryAttempt.{DeliveryAttempt}
+use Rattle.book.specs.declared.OptionalAttempt.{OptionalAttempt}
+use Rattle.book.specs.declared.AttemptSlots.{AttemptSlots}
+use Rattle.book.specs.declared.SubmissionBroadcastVariant.{SubmissionBroadcastVariant}
+use Rattle.book.specs.declared.SubmittedEntry.{SubmittedEntry}
+use Rattle.book.specs.declared.SubmittedTx.{SubmittedTx}
+use Rattle.book.specs.declared.PendingDelivery.{PendingDelivery}
+use Rattle.book.specs.declared.BookData.{BookData}
 
 -- ---- kinds by number
 -- goal: 0 EnsureBroadcast, 1 FeeUpgrade

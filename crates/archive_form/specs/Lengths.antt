@@ -4,11 +4,11 @@ use mathlib.Core.Path.{_≡_}
 use mathlib.Core.List.{_++_}
 use native.Mathlib.Omega.{arith}
 use lib.ListN.{length, length-append}
-use Rattle.wire.specs.Wire.{be}
-use Rattle.wire.specs.Number.{be-length}
-use Rattle.book_data.specs.Model.{Book}
-use Rattle.book_data.specs.declared.OptionalId.{OptionalId}
-use Rattle.book_data.specs.declared.OptionalId.the-variants.{NoId, Of}
+use Rattle.codec_forms.specs.Wire.{be}
+use Rattle.codec_forms.specs.Number.{be-length}
+use Rattle.book.specs.Model.{Book}
+use Rattle.book.specs.declared.OptionalId.{OptionalId}
+use Rattle.book.specs.declared.OptionalId.the-variants.{NoId, Of}
 use Rattle.archive_form.specs.Encode.{encodeId, encodeNumbers}
 
 pub id-size : (i : OptionalId) → length (encodeId i) ≤ 9

@@ -5,21 +5,21 @@ use mathlib.Core.Bool.{true, false}
 use mathlib.Core.List.{List, [], _∷_, _++_}
 use Prim.Native.Nat.{ℕ}
 use lib.ListN.{length, take, set, replicate}
-use Rattle.lists.specs.Lists.{cells}
-use Rattle.book_data.specs.Zero.{zeros, zeroOutput, zeroSpend, zeroHash, noAttempt, baseVariant, zeroFeeIntent}
-use Rattle.book_data.specs.Model.{Book, back, view}
-use Rattle.book_data.specs.declared.OptionalHeight.the-variants.{NoHeight, At}
-use Rattle.book_data.specs.declared.OptionalId.the-variants.{Of}
-use Rattle.book_data.specs.declared.CoinSpend.{CoinSpend}
-use Rattle.book_data.specs.declared.SpendBundle.{SpendBundle}
-use Rattle.book_data.specs.declared.FeeIntentKind.the-variants.{Attach}
-use Rattle.book_data.specs.declared.SubmissionDeliveryGoal.the-variants.{EnsureBroadcast}
-use Rattle.book_data.specs.declared.DeliveryTrigger.the-variants.{Rollback}
-use Rattle.book_data.specs.declared.SubmissionChainTerminality.the-variants.{Active}
-use Rattle.book_data.specs.declared.FeeResolution.the-variants.{Unresolved}
-use Rattle.book_data.specs.declared.SubmittedTx.{SubmittedTx}
-use Rattle.book_data.specs.declared.PendingDelivery.{PendingDelivery}
-use Rattle.book_data.specs.declared.BookData.{BookData}
+use Rattle.base_lists.specs.Lists.{cells}
+use Rattle.book.specs.Zero.{zeros, zeroOutput, zeroSpend, zeroHash, noAttempt, baseVariant, zeroFeeIntent}
+use Rattle.book.specs.Model.{Book, back, view}
+use Rattle.book.specs.declared.OptionalHeight.the-variants.{NoHeight, At}
+use Rattle.book.specs.declared.OptionalId.the-variants.{Of}
+use Rattle.book.specs.declared.CoinSpend.{CoinSpend}
+use Rattle.book.specs.declared.SpendBundle.{SpendBundle}
+use Rattle.book.specs.declared.FeeIntentKind.the-variants.{Attach}
+use Rattle.book.specs.declared.SubmissionDeliveryGoal.the-variants.{EnsureBroadcast}
+use Rattle.book.specs.declared.DeliveryTrigger.the-variants.{Rollback}
+use Rattle.book.specs.declared.SubmissionChainTerminality.the-variants.{Active}
+use Rattle.book.specs.declared.FeeResolution.the-variants.{Unresolved}
+use Rattle.book.specs.declared.SubmittedTx.{SubmittedTx}
+use Rattle.book.specs.declared.PendingDelivery.{PendingDelivery}
+use Rattle.book.specs.declared.BookData.{BookData}
 use Rattle.archive_form.specs.Encode.{encodeModel, encodeBook}
 use Rattle.archive_form.specs.Parse.{readArchive, ArchiveRead, book, broken}
 

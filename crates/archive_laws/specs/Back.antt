@@ -5,17 +5,17 @@ use mathlib.Core.List.{List, [], _∷_}
 use Prim.Native.Nat.{ℕ, _<_, _≤_}
 use native.Mathlib.Omega.{arith}
 use lib.ListN.{length, take, replicate}
-use Rattle.book_data.specs.Zero.{zeroFeeIntent, zeroHash, zeroAttempt, noAttempt, noSlots, baseVariant, zeroStatus, zeroEntry, zeroSubmitted, zeroIntent, zeroDelivery}
-use Rattle.book_data.specs.SoundLaws.{sound, fits-view, sound-back}
-use Rattle.book_data.specs.Sound.{soundLists, soundb}
-use Rattle.book_data.specs.Model.{Book, view, back, list16, list64, ids16, ids64}
-use Rattle.book_data.specs.Typed.{Every, U8, U64, Array, Typed, TypedSubmitted, TypedDelivery}
-use Rattle.book_data.specs.declared.SubmittedTx.{SubmittedTx}
-use Rattle.book_data.specs.declared.PendingDelivery.{PendingDelivery}
-use Rattle.book_data.specs.declared.Ids16.{Ids16}
-use Rattle.book_data.specs.declared.Ids64.{Ids64}
-use Rattle.book_data.specs.declared.ReplayEpoch.{ReplayEpoch}
-use Rattle.book_data.specs.declared.BookData.{BookData}
+use Rattle.book.specs.Zero.{zeroFeeIntent, zeroHash, zeroAttempt, noAttempt, noSlots, baseVariant, zeroStatus, zeroEntry, zeroSubmitted, zeroIntent, zeroDelivery}
+use Rattle.book.specs.SoundLaws.{sound, fits-view, sound-back}
+use Rattle.book.specs.Sound.{soundLists, soundb}
+use Rattle.book.specs.Model.{Book, view, back, list16, list64, ids16, ids64}
+use Rattle.book.specs.Typed.{Every, U8, U64, Array, Typed, TypedSubmitted, TypedDelivery}
+use Rattle.book.specs.declared.SubmittedTx.{SubmittedTx}
+use Rattle.book.specs.declared.PendingDelivery.{PendingDelivery}
+use Rattle.book.specs.declared.Ids16.{Ids16}
+use Rattle.book.specs.declared.Ids64.{Ids64}
+use Rattle.book.specs.declared.ReplayEpoch.{ReplayEpoch}
+use Rattle.book.specs.declared.BookData.{BookData}
 use Rattle.archive_laws.specs.Cells.{every-take, every-replicate, array-cells}
 use Rattle.archive_laws.specs.Bundles.{zero-bundle-typed}
 use Rattle.archive_laws.specs.Books.{TypedModel}

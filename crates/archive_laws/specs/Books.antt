@@ -7,23 +7,23 @@ use native.Mathlib.Omega.{arith}
 use lib.Dec.{eqb, ltb}
 use lib.ListN.{length}
 use borrow.Author.Tests.{eqb-true}
-use Rattle.lists.specs.Lists.{allb, elemb, distinctb, flatMap, risingb}
-use Rattle.lists.specs.Laws.{and-split, and-both}
-use Rattle.wire.specs.Wire.{be, encMany, encList, Parser, number, checked, listFrom, listOf}
-use Rattle.wire.specs.Lawful.{Lawful, step, finish, recode, regood}
-use Rattle.wire.specs.Items.{number-lawful, checked-lawful, listFrom-lawful, AllFrom}
-use Rattle.spend.specs.Forms.{encodeHeight}
-use Rattle.book_data.specs.Zero.{zeroSubmitted, zeroDelivery}
-use Rattle.book_data.specs.Sound.{soundSubmitted, soundDelivery, idOf, tokensOf, soundLists}
-use Rattle.book_data.specs.SoundLaws.{sound-lists, lists-sound}
-use Rattle.book_data.specs.Model.{Book}
-use Rattle.book_data.specs.Typed.{Every, U64, TypedOptionalHeight, TypedSubmitted, TypedDelivery}
-use Rattle.book_data.specs.declared.Token.{Token}
-use Rattle.book_data.specs.declared.SubmissionId.{SubmissionId}
-use Rattle.book_data.specs.declared.OptionalHeight.{OptionalHeight}
-use Rattle.book_data.specs.declared.OptionalHeight.the-variants.{NoHeight, At}
-use Rattle.book_data.specs.declared.SubmittedTx.{SubmittedTx}
-use Rattle.book_data.specs.declared.PendingDelivery.{PendingDelivery}
+use Rattle.base_lists.specs.Lists.{allb, elemb, distinctb, flatMap, risingb}
+use Rattle.base_lists.specs.Laws.{and-split, and-both}
+use Rattle.codec_forms.specs.Wire.{be, encMany, encList, Parser, number, checked, listFrom, listOf}
+use Rattle.codec_forms.specs.Lawful.{Lawful, step, finish, recode, regood}
+use Rattle.codec_forms.specs.Items.{number-lawful, checked-lawful, listFrom-lawful, AllFrom}
+use Rattle.archive_bundle_form.specs.Forms.{encodeHeight}
+use Rattle.book.specs.Zero.{zeroSubmitted, zeroDelivery}
+use Rattle.book.specs.Sound.{soundSubmitted, soundDelivery, idOf, tokensOf, soundLists}
+use Rattle.book.specs.SoundLaws.{sound-lists, lists-sound}
+use Rattle.book.specs.Model.{Book}
+use Rattle.book.specs.Typed.{Every, U64, TypedOptionalHeight, TypedSubmitted, TypedDelivery}
+use Rattle.book.specs.declared.Token.{Token}
+use Rattle.book.specs.declared.SubmissionId.{SubmissionId}
+use Rattle.book.specs.declared.OptionalHeight.{OptionalHeight}
+use Rattle.book.specs.declared.OptionalHeight.the-variants.{NoHeight, At}
+use Rattle.book.specs.declared.SubmittedTx.{SubmittedTx}
+use Rattle.book.specs.declared.PendingDelivery.{PendingDelivery}
 use Rattle.archive_form.specs.Encode.{encodeSubmitted, encodeDelivery, encodeNumbers, encodeModel}
 use Rattle.archive_form.specs.Parse.{above, parseSubmitted, parseDelivery, parseRetired, parseReplayed, Numbers, parseNumbers, parseModel}
 use Rattle.archive_laws.specs.Cells.{six, every-from, from-every, every-test, test-every, every-map, every-both}

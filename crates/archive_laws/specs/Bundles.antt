@@ -7,21 +7,21 @@ use native.Mathlib.Omega.{arith}
 use lib.Dec.{leb, eqb}
 use lib.ListN.{length, take, replicate}
 use borrow.Author.Tests.{leb-true, le-leb, eqb-true, eq-eqb}
-use Rattle.lists.specs.Lists.{allb, cells, tailOf, isZero}
-use Rattle.lists.specs.Laws.{take-cells, tail-cells}
-use Rattle.wire.specs.Wire.{be, encMany, encList, encOpt, Parser, run, number, counted, checked, listOf}
-use Rattle.wire.specs.Lawful.{Lawful, IsBytes, step, finish, recode, regood}
-use Rattle.wire.specs.Items.{number-lawful, checked-lawful, counted-lawful, listFrom-lawful, optionalBy-lawful, mark, AllFrom}
-use Rattle.spend.specs.Forms.{encodeOutput, encodeRun, encodeSpend, encodeBundle}
-use Rattle.book_data.specs.Zero.{zeroOutput, zeroSpend, zeroBundle, isZeroOutput, isZeroSpend}
-use Rattle.book_data.specs.Sound.{soundSpend, soundBundle, spendsOf, outputsOf}
-use Rattle.book_data.specs.Typed.{Every, U8, Array, Bytes, TypedOutput, TypedSpend, TypedBundle}
-use Rattle.book_data.specs.declared.Output.{Output}
-use Rattle.book_data.specs.declared.CoinSpend.{CoinSpend}
-use Rattle.book_data.specs.declared.SpendBundle.{SpendBundle}
+use Rattle.base_lists.specs.Lists.{allb, cells, tailOf, isZero}
+use Rattle.base_lists.specs.Laws.{take-cells, tail-cells}
+use Rattle.codec_forms.specs.Wire.{be, encMany, encList, encOpt, Parser, run, number, counted, checked, listOf}
+use Rattle.codec_forms.specs.Lawful.{Lawful, IsBytes, step, finish, recode, regood}
+use Rattle.codec_forms.specs.Items.{number-lawful, checked-lawful, counted-lawful, listFrom-lawful, optionalBy-lawful, mark, AllFrom}
+use Rattle.archive_bundle_form.specs.Forms.{encodeOutput, encodeRun, encodeSpend, encodeBundle}
+use Rattle.book.specs.Zero.{zeroOutput, zeroSpend, zeroBundle, isZeroOutput, isZeroSpend}
+use Rattle.book.specs.Sound.{soundSpend, soundBundle, spendsOf, outputsOf}
+use Rattle.book.specs.Typed.{Every, U8, Array, Bytes, TypedOutput, TypedSpend, TypedBundle}
+use Rattle.book.specs.declared.Output.{Output}
+use Rattle.book.specs.declared.CoinSpend.{CoinSpend}
+use Rattle.book.specs.declared.SpendBundle.{SpendBundle}
 use Rattle.archive_form.specs.Parse.{parseOutput, Run, unreadable, parseRun, parseSpend, parseBundle}
-use Rattle.book_data.specs.ZeroLaws.{output-zero-is, spend-zero-is}
-use Rattle.book_data.specs.SoundLaws.{SoundSpend, sound-spend, SoundBundle, sound-bundle}
+use Rattle.book.specs.ZeroLaws.{output-zero-is, spend-zero-is}
+use Rattle.book.specs.SoundLaws.{SoundSpend, sound-spend, SoundBundle, sound-bundle}
 use Rattle.archive_laws.specs.Cells.{all-true, every-take, every-replicate, array-cells, every-from, from-every, every-test, test-every, every-map, every-both, bytes-every, every-bytes, bytes-lawful}
 
 pub output-lawful : Lawful TypedOutput encodeOutput parseOutput

@@ -6,12 +6,12 @@ use Prim.Native.Nat.{ℕ, zero, suc, _-_, _<_, _≤_}
 use native.Mathlib.Omega.{arith}
 use lib.ListN.{length, getD, take, replicate}
 use lib.Seq.{length-take-le}
-use Rattle.lists.specs.Lists.{allb, cells, tailOf}
-use Rattle.lists.specs.Laws.{Trues, ands, and-both, and-split, length-cells, tail-length}
-use Rattle.wire.specs.Wire.{run}
-use Rattle.wire.specs.Lawful.{Lawful, IsBytes, regood}
-use Rattle.wire.specs.Items.{RunOf, run-lawful, AllFrom}
-use Rattle.book_data.specs.Typed.{Every, U8, Array, Bytes}
+use Rattle.base_lists.specs.Lists.{allb, cells, tailOf}
+use Rattle.base_lists.specs.Laws.{Trues, ands, and-both, and-split, length-cells, tail-length}
+use Rattle.codec_forms.specs.Wire.{run}
+use Rattle.codec_forms.specs.Lawful.{Lawful, IsBytes, regood}
+use Rattle.codec_forms.specs.Items.{RunOf, run-lawful, AllFrom}
+use Rattle.book.specs.Typed.{Every, U8, Array, Bytes}
 
 -- parts one after the other: as they are read and as they are written
 pub five : (a b c d e : List ℕ) → a ++ (b ++ (c ++ (d ++ e))) ≡ a ++ b ++ c ++ d ++ e

@@ -3,41 +3,41 @@ use mathlib.Core.Path.{_≡_, refl, sym, ap, _∙_, subst}
 use mathlib.Core.Bool.{Bool, true, false, not, _&&_, _||_}
 use mathlib.Core.List.{List, [], _∷_, _++_, map, append-nil, append-assoc}
 use Prim.Native.Nat.{ℕ, _<_, _^_}
-use Rattle.lists.specs.Lists.{allb, elemb, flatMap}
-use Rattle.lists.specs.Laws.{and-split, and-both}
-use Rattle.wire.specs.Wire.{be, Parser, number}
-use Rattle.wire.specs.Lawful.{Lawful, step, finish, recode}
-use Rattle.wire.specs.Items.{number-lawful, checked-lawful}
-use Rattle.spend.specs.Forms.{encodeBundle, encodeHeight, encodeFeeIntent}
-use Rattle.book_data.specs.Sound.{soundFeeIntent, soundHash, soundAttempt, soundSlots, soundVariant, soundBundle, readableBundle, soundEntry, soundSubmitted, soundIntent, soundDelivery, idOf, attemptToken, tokensOf, spendsOf}
-use Rattle.book_data.specs.SoundLaws.{SoundEntry, sound-entry, entry-sound, sound-submitted, submitted-sound}
-use Rattle.book_data.specs.Typed.{Bytes, TypedOptionalHeight, TypedOptionalId, TypedFeeIntent, TypedHash, TypedSlots, TypedVariant, TypedBundle, TypedEntry, TypedSubmitted, TypedIntent, TypedDelivery}
-use Rattle.book_data.specs.declared.Height.{Height}
-use Rattle.book_data.specs.declared.SubmissionId.{SubmissionId}
-use Rattle.book_data.specs.declared.OptionalHeight.{OptionalHeight}
-use Rattle.book_data.specs.declared.OptionalHeight.the-variants.{NoHeight, At}
-use Rattle.book_data.specs.declared.OptionalId.{OptionalId}
-use Rattle.book_data.specs.declared.OptionalId.the-variants.{NoId, Of}
-use Rattle.book_data.specs.declared.SubmissionFeeIntent.{SubmissionFeeIntent}
-use Rattle.book_data.specs.declared.SubmissionDeliveryGoal.{SubmissionDeliveryGoal}
-use Rattle.book_data.specs.declared.SubmissionDeliveryGoal.the-variants.{EnsureBroadcast, FeeUpgrade}
-use Rattle.book_data.specs.declared.DeliveryTrigger.{DeliveryTrigger}
-use Rattle.book_data.specs.declared.DeliveryTrigger.the-variants.{Protocol, FreshChain, Rollback, ProviderReadiness}
-use Rattle.book_data.specs.declared.SubmissionChainTerminality.{SubmissionChainTerminality}
-use Rattle.book_data.specs.declared.SubmissionChainTerminality.the-variants.{Active, InputSpent, Landed}
-use Rattle.book_data.specs.declared.FeeResolution.{FeeResolution}
-use Rattle.book_data.specs.declared.FeeResolution.the-variants.{Unresolved, NotRequested, Attached}
-use Rattle.book_data.specs.declared.OptionalHash.{OptionalHash}
-use Rattle.book_data.specs.declared.OptionalAttempt.{OptionalAttempt}
-use Rattle.book_data.specs.declared.AttemptSlots.{AttemptSlots}
-use Rattle.book_data.specs.declared.SubmissionBroadcastVariant.{SubmissionBroadcastVariant}
-use Rattle.book_data.specs.declared.SubmissionStatus.{SubmissionStatus}
-use Rattle.book_data.specs.declared.SubmittedEntry.{SubmittedEntry}
-use Rattle.book_data.specs.declared.SubmittedTx.{SubmittedTx}
-use Rattle.book_data.specs.declared.PendingSubmissionIntent.{PendingSubmissionIntent}
-use Rattle.book_data.specs.declared.PendingDelivery.{PendingDelivery}
-use Rattle.book_data.specs.declared.SpendBundle.{SpendBundle}
-use Rattle.book_data.specs.declared.CoinSpend.{CoinSpend}
+use Rattle.base_lists.specs.Lists.{allb, elemb, flatMap}
+use Rattle.base_lists.specs.Laws.{and-split, and-both}
+use Rattle.codec_forms.specs.Wire.{be, Parser, number}
+use Rattle.codec_forms.specs.Lawful.{Lawful, step, finish, recode}
+use Rattle.codec_forms.specs.Items.{number-lawful, checked-lawful}
+use Rattle.archive_bundle_form.specs.Forms.{encodeBundle, encodeHeight, encodeFeeIntent}
+use Rattle.book.specs.Sound.{soundFeeIntent, soundHash, soundAttempt, soundSlots, soundVariant, soundBundle, readableBundle, soundEntry, soundSubmitted, soundIntent, soundDelivery, idOf, attemptToken, tokensOf, spendsOf}
+use Rattle.book.specs.SoundLaws.{SoundEntry, sound-entry, entry-sound, sound-submitted, submitted-sound}
+use Rattle.book.specs.Typed.{Bytes, TypedOptionalHeight, TypedOptionalId, TypedFeeIntent, TypedHash, TypedSlots, TypedVariant, TypedBundle, TypedEntry, TypedSubmitted, TypedIntent, TypedDelivery}
+use Rattle.book.specs.declared.Height.{Height}
+use Rattle.book.specs.declared.SubmissionId.{SubmissionId}
+use Rattle.book.specs.declared.OptionalHeight.{OptionalHeight}
+use Rattle.book.specs.declared.OptionalHeight.the-variants.{NoHeight, At}
+use Rattle.book.specs.declared.OptionalId.{OptionalId}
+use Rattle.book.specs.declared.OptionalId.the-variants.{NoId, Of}
+use Rattle.book.specs.declared.SubmissionFeeIntent.{SubmissionFeeIntent}
+use Rattle.book.specs.declared.SubmissionDeliveryGoal.{SubmissionDeliveryGoal}
+use Rattle.book.specs.declared.SubmissionDeliveryGoal.the-variants.{EnsureBroadcast, FeeUpgrade}
+use Rattle.book.specs.declared.DeliveryTrigger.{DeliveryTrigger}
+use Rattle.book.specs.declared.DeliveryTrigger.the-variants.{Protocol, FreshChain, Rollback, ProviderReadiness}
+use Rattle.book.specs.declared.SubmissionChainTerminality.{SubmissionChainTerminality}
+use Rattle.book.specs.declared.SubmissionChainTerminality.the-variants.{Active, InputSpent, Landed}
+use Rattle.book.specs.declared.FeeResolution.{FeeResolution}
+use Rattle.book.specs.declared.FeeResolution.the-variants.{Unresolved, NotRequested, Attached}
+use Rattle.book.specs.declared.OptionalHash.{OptionalHash}
+use Rattle.book.specs.declared.OptionalAttempt.{OptionalAttempt}
+use Rattle.book.specs.declared.AttemptSlots.{AttemptSlots}
+use Rattle.book.specs.declared.SubmissionBroadcastVariant.{SubmissionBroadcastVariant}
+use Rattle.book.specs.declared.SubmissionStatus.{SubmissionStatus}
+use Rattle.book.specs.declared.SubmittedEntry.{SubmittedEntry}
+use Rattle.book.specs.declared.SubmittedTx.{SubmittedTx}
+use Rattle.book.specs.declared.PendingSubmissionIntent.{PendingSubmissionIntent}
+use Rattle.book.specs.declared.PendingDelivery.{PendingDelivery}
+use Rattle.book.specs.declared.SpendBundle.{SpendBundle}
+use Rattle.book.specs.declared.CoinSpend.{CoinSpend}
 use Rattle.archive_form.specs.Encode.{goalNumber, triggerNumber, chainNumber, resolutionNumber, encodeHash, encodeSlot, encodeSlots, encodeVariant, encodeFacts, encodeSubmitted, encodeId, encodeDelivery}
 use Rattle.archive_form.specs.Parse.{freshToken, parseSlots, Facts, parseFacts, parseSubmitted, parseDelivery}
 use Rattle.archive_laws.specs.Cells.{bytes-lawful}

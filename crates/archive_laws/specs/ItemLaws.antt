@@ -6,37 +6,37 @@ use Prim.Native.Nat.{ℕ, _≤_}
 use native.Mathlib.Omega.{arith}
 use lib.Dec.{eqb, leb}
 use lib.ListN.{length}
-use Rattle.lists.specs.Lists.{elemb, flatMap}
-use Rattle.wire.specs.Wire.{got, Parser, be, encMany, encList, encOpt, run, upTo, mapped, counted}
-use Rattle.wire.specs.Lawful.{Lawful, Spans}
-use Rattle.wire.specs.Items.{number-lawful, checked-lawful, upTo-lawful, listFrom-lawful, mark, AllFrom}
-use Rattle.spend.specs.Forms.{encodeOutput, encodeRun, encodeSpend, encodeBundle, encodeHeight, kindNumber, attached, encodeFeeIntent}
-use Rattle.book_data.specs.Zero.{zeroHash, noAttempt, baseVariant, zeroSubmitted}
-use Rattle.book_data.specs.Sound.{spendsOf, outputsOf, idOf, attemptToken, tokensOf}
-use Rattle.book_data.specs.SoundLaws.{sound-spend, sound-bundle}
-use Rattle.book_data.specs.Model.{Book}
-use Rattle.book_data.specs.Typed.{TypedOutput, Bytes}
-use Rattle.book_data.specs.declared.Output.{Output}
-use Rattle.book_data.specs.declared.CoinSpend.{CoinSpend}
-use Rattle.book_data.specs.declared.SpendBundle.{SpendBundle}
-use Rattle.book_data.specs.declared.OptionalHeight.{OptionalHeight}
-use Rattle.book_data.specs.declared.OptionalHeight.the-variants.{NoHeight, At}
-use Rattle.book_data.specs.declared.OptionalId.{OptionalId}
-use Rattle.book_data.specs.declared.OptionalId.the-variants.{NoId, Of}
-use Rattle.book_data.specs.declared.FeeIntentKind.{FeeIntentKind}
-use Rattle.book_data.specs.declared.FeeIntentKind.the-variants.{AlreadyPaid, NoFeeConfigured, Attach}
-use Rattle.book_data.specs.declared.SubmissionFeeIntent.{SubmissionFeeIntent}
-use Rattle.book_data.specs.declared.SubmissionDeliveryGoal.{SubmissionDeliveryGoal}
-use Rattle.book_data.specs.declared.DeliveryTrigger.{DeliveryTrigger}
-use Rattle.book_data.specs.declared.SubmissionChainTerminality.{SubmissionChainTerminality}
-use Rattle.book_data.specs.declared.FeeResolution.{FeeResolution}
-use Rattle.book_data.specs.declared.OptionalHash.{OptionalHash}
-use Rattle.book_data.specs.declared.OptionalAttempt.{OptionalAttempt}
-use Rattle.book_data.specs.declared.AttemptSlots.{AttemptSlots}
-use Rattle.book_data.specs.declared.SubmissionBroadcastVariant.{SubmissionBroadcastVariant}
-use Rattle.book_data.specs.declared.SubmittedEntry.{SubmittedEntry}
-use Rattle.book_data.specs.declared.SubmittedTx.{SubmittedTx}
-use Rattle.book_data.specs.declared.PendingDelivery.{PendingDelivery}
+use Rattle.base_lists.specs.Lists.{elemb, flatMap}
+use Rattle.codec_forms.specs.Wire.{got, Parser, be, encMany, encList, encOpt, run, upTo, mapped, counted}
+use Rattle.codec_forms.specs.Lawful.{Lawful, Spans}
+use Rattle.codec_forms.specs.Items.{number-lawful, checked-lawful, upTo-lawful, listFrom-lawful, mark, AllFrom}
+use Rattle.archive_bundle_form.specs.Forms.{encodeOutput, encodeRun, encodeSpend, encodeBundle, encodeHeight, kindNumber, attached, encodeFeeIntent}
+use Rattle.book.specs.Zero.{zeroHash, noAttempt, baseVariant, zeroSubmitted}
+use Rattle.book.specs.Sound.{spendsOf, outputsOf, idOf, attemptToken, tokensOf}
+use Rattle.book.specs.SoundLaws.{sound-spend, sound-bundle}
+use Rattle.book.specs.Model.{Book}
+use Rattle.book.specs.Typed.{TypedOutput, Bytes}
+use Rattle.book.specs.declared.Output.{Output}
+use Rattle.book.specs.declared.CoinSpend.{CoinSpend}
+use Rattle.book.specs.declared.SpendBundle.{SpendBundle}
+use Rattle.book.specs.declared.OptionalHeight.{OptionalHeight}
+use Rattle.book.specs.declared.OptionalHeight.the-variants.{NoHeight, At}
+use Rattle.book.specs.declared.OptionalId.{OptionalId}
+use Rattle.book.specs.declared.OptionalId.the-variants.{NoId, Of}
+use Rattle.book.specs.declared.FeeIntentKind.{FeeIntentKind}
+use Rattle.book.specs.declared.FeeIntentKind.the-variants.{AlreadyPaid, NoFeeConfigured, Attach}
+use Rattle.book.specs.declared.SubmissionFeeIntent.{SubmissionFeeIntent}
+use Rattle.book.specs.declared.SubmissionDeliveryGoal.{SubmissionDeliveryGoal}
+use Rattle.book.specs.declared.DeliveryTrigger.{DeliveryTrigger}
+use Rattle.book.specs.declared.SubmissionChainTerminality.{SubmissionChainTerminality}
+use Rattle.book.specs.declared.FeeResolution.{FeeResolution}
+use Rattle.book.specs.declared.OptionalHash.{OptionalHash}
+use Rattle.book.specs.declared.OptionalAttempt.{OptionalAttempt}
+use Rattle.book.specs.declared.AttemptSlots.{AttemptSlots}
+use Rattle.book.specs.declared.SubmissionBroadcastVariant.{SubmissionBroadcastVariant}
+use Rattle.book.specs.declared.SubmittedEntry.{SubmittedEntry}
+use Rattle.book.specs.declared.SubmittedTx.{SubmittedTx}
+use Rattle.book.specs.declared.PendingDelivery.{PendingDelivery}
 use Rattle.archive_form.specs.Encode.{goalNumber, triggerNumber, chainNumber, resolutionNumber, encodeHash, encodeAttempt, encodeSlot, encodeSlots, encodeVariant, encodeFacts, encodeSubmitted, encodeId, encodeDelivery, encodeNumbers}
 use Rattle.archive_form.specs.Encode.{encodeModel}
 use Rattle.archive_form.specs.Parse.{parseOutput, Run, unreadable, parseRun, parseSpend, parseBundle, parseHeight, parseId, parseAttached, parseFeeIntent, goalOf, triggerOf, chainOf, resolutionOf, parseGoal, parseTrigger, parseChain}

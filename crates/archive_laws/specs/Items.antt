@@ -5,31 +5,31 @@ use mathlib.Core.List.{List, [], _∷_, _++_, map}
 use Prim.Native.Nat.{ℕ}
 use lib.Dec.{eqb, leb}
 use lib.ListN.{length, take}
-use Rattle.lists.specs.Lists.{elemb, flatMap}
-use Rattle.wire.specs.Wire.{be, beFrom}
-use Rattle.wire.specs.Items.{mark}
-use Rattle.spend.specs.Forms.{kindNumber}
-use Rattle.book_data.specs.Sound.{spendsOf, outputsOf, idOf, attemptToken, tokensOf}
-use Rattle.book_data.specs.Model.{Book, view}
-use Rattle.book_data.specs.declared.OptionalHeight.{OptionalHeight}
-use Rattle.book_data.specs.declared.OptionalHeight.the-variants.{NoHeight, At}
-use Rattle.book_data.specs.declared.OptionalId.{OptionalId}
-use Rattle.book_data.specs.declared.OptionalId.the-variants.{NoId, Of}
-use Rattle.book_data.specs.declared.Output.{Output}
-use Rattle.book_data.specs.declared.CoinSpend.{CoinSpend}
-use Rattle.book_data.specs.declared.SpendBundle.{SpendBundle}
-use Rattle.book_data.specs.declared.FeeIntentKind.{FeeIntentKind}
-use Rattle.book_data.specs.declared.FeeIntentKind.the-variants.{AlreadyPaid, NoFeeConfigured, Attach}
-use Rattle.book_data.specs.declared.SubmissionFeeIntent.{SubmissionFeeIntent}
-use Rattle.book_data.specs.declared.OptionalHash.{OptionalHash}
-use Rattle.book_data.specs.declared.DeliveryAttempt.{DeliveryAttempt}
-use Rattle.book_data.specs.declared.OptionalAttempt.{OptionalAttempt}
-use Rattle.book_data.specs.declared.AttemptSlots.{AttemptSlots}
-use Rattle.book_data.specs.declared.SubmissionBroadcastVariant.{SubmissionBroadcastVariant}
-use Rattle.book_data.specs.declared.SubmittedEntry.{SubmittedEntry}
-use Rattle.book_data.specs.declared.SubmittedTx.{SubmittedTx}
-use Rattle.book_data.specs.declared.PendingDelivery.{PendingDelivery}
-use Rattle.book_data.specs.declared.BookData.{BookData}
+use Rattle.base_lists.specs.Lists.{elemb, flatMap}
+use Rattle.codec_forms.specs.Wire.{be, beFrom}
+use Rattle.codec_forms.specs.Items.{mark}
+use Rattle.archive_bundle_form.specs.Forms.{kindNumber}
+use Rattle.book.specs.Sound.{spendsOf, outputsOf, idOf, attemptToken, tokensOf}
+use Rattle.book.specs.Model.{Book, view}
+use Rattle.book.specs.declared.OptionalHeight.{OptionalHeight}
+use Rattle.book.specs.declared.OptionalHeight.the-variants.{NoHeight, At}
+use Rattle.book.specs.declared.OptionalId.{OptionalId}
+use Rattle.book.specs.declared.OptionalId.the-variants.{NoId, Of}
+use Rattle.book.specs.declared.Output.{Output}
+use Rattle.book.specs.declared.CoinSpend.{CoinSpend}
+use Rattle.book.specs.declared.SpendBundle.{SpendBundle}
+use Rattle.book.specs.declared.FeeIntentKind.{FeeIntentKind}
+use Rattle.book.specs.declared.FeeIntentKind.the-variants.{AlreadyPaid, NoFeeConfigured, Attach}
+use Rattle.book.specs.declared.SubmissionFeeIntent.{SubmissionFeeIntent}
+use Rattle.book.specs.declared.OptionalHash.{OptionalHash}
+use Rattle.book.specs.declared.DeliveryAttempt.{DeliveryAttempt}
+use Rattle.book.specs.declared.OptionalAttempt.{OptionalAttempt}
+use Rattle.book.specs.declared.AttemptSlots.{AttemptSlots}
+use Rattle.book.specs.declared.SubmissionBroadcastVariant.{SubmissionBroadcastVariant}
+use Rattle.book.specs.declared.SubmittedEntry.{SubmittedEntry}
+use Rattle.book.specs.declared.SubmittedTx.{SubmittedTx}
+use Rattle.book.specs.declared.PendingDelivery.{PendingDelivery}
+use Rattle.book.specs.declared.BookData.{BookData}
 use Rattle.archive_form.specs.Encode.{goalNumber, triggerNumber, chainNumber, resolutionNumber}
 use Rattle.archive_form.specs.Parse.{freshToken, above}
 

@@ -4,42 +4,42 @@ use mathlib.Core.Bool.{Bool, true, false, cond, not, _&&_, _||_, false≢true, a
 use mathlib.Core.List.{List, [], _∷_, _++_, append-nil, append-assoc}
 use Prim.Native.Nat.{ℕ, zero, suc, _<_, _≤_, _^_}
 use native.Mathlib.Omega.{arith}
-use Rattle.lists.specs.Lists.{allb, isZero, fullOf}
-use Rattle.lists.specs.Laws.{and-split, and-both, full-eq}
+use Rattle.base_lists.specs.Lists.{allb, isZero, fullOf}
+use Rattle.base_lists.specs.Laws.{and-split, and-both, full-eq}
 use borrow.Author.Tests.{eqb-true}
-use Rattle.wire.specs.Wire.{be, encOpt, Parser, run, number, checked, upTo, mapped, optional}
-use Rattle.wire.specs.Lawful.{Lawful, step, finish, recode, regood}
-use Rattle.wire.specs.Items.{number-lawful, checked-lawful, upTo-lawful, mapped-lawful, optional-lawful}
-use Rattle.spend.specs.Forms.{encodeBundle, encodeHeight, encodeFeeIntent, kindNumber, attached}
-use Rattle.book_data.specs.Zero.{zeros, zeroBundle, zeroHash, zeroAttempt, noAttempt, baseVariant, isZero32, isNoHeight, isNoId, isZeroHash, isNoAttempt, isBaseVariant, isZeroAttempt, isZeroBundle}
-use Rattle.book_data.specs.Sound.{isAttach, soundFeeIntent, soundHash, soundAttempt, soundVariant, soundBundle, attemptToken, spendsOf}
-use Rattle.book_data.specs.Typed.{Every, U8, U64, Bytes, TypedOptionalHeight, TypedOptionalId, TypedFeeIntent, TypedHash, TypedAttempt, TypedOptionalAttempt, TypedVariant, TypedBundle, TypedSpend}
-use Rattle.book_data.specs.declared.Height.{Height}
-use Rattle.book_data.specs.declared.SubmissionId.{SubmissionId}
-use Rattle.book_data.specs.declared.OptionalHeight.{OptionalHeight}
-use Rattle.book_data.specs.declared.OptionalHeight.the-variants.{NoHeight, At}
-use Rattle.book_data.specs.declared.OptionalId.{OptionalId}
-use Rattle.book_data.specs.declared.OptionalId.the-variants.{NoId, Of}
-use Rattle.book_data.specs.declared.FeeIntentKind.{FeeIntentKind}
-use Rattle.book_data.specs.declared.FeeIntentKind.the-variants.{AlreadyPaid, NoFeeConfigured, Attach}
-use Rattle.book_data.specs.declared.SubmissionFeeIntent.{SubmissionFeeIntent}
-use Rattle.book_data.specs.declared.SubmissionDeliveryGoal.{SubmissionDeliveryGoal}
-use Rattle.book_data.specs.declared.SubmissionDeliveryGoal.the-variants.{EnsureBroadcast, FeeUpgrade}
-use Rattle.book_data.specs.declared.DeliveryTrigger.{DeliveryTrigger}
-use Rattle.book_data.specs.declared.DeliveryTrigger.the-variants.{Protocol, FreshChain, Rollback, ProviderReadiness}
-use Rattle.book_data.specs.declared.SubmissionChainTerminality.{SubmissionChainTerminality}
-use Rattle.book_data.specs.declared.SubmissionChainTerminality.the-variants.{Active, InputSpent, Landed}
-use Rattle.book_data.specs.declared.FeeResolution.{FeeResolution}
-use Rattle.book_data.specs.declared.FeeResolution.the-variants.{Unresolved, NotRequested, Attached}
-use Rattle.book_data.specs.declared.OptionalHash.{OptionalHash}
-use Rattle.book_data.specs.declared.DeliveryAttempt.{DeliveryAttempt}
-use Rattle.book_data.specs.declared.OptionalAttempt.{OptionalAttempt}
-use Rattle.book_data.specs.declared.SubmissionBroadcastVariant.{SubmissionBroadcastVariant}
-use Rattle.book_data.specs.declared.SpendBundle.{SpendBundle}
-use Rattle.book_data.specs.declared.CoinSpend.{CoinSpend}
+use Rattle.codec_forms.specs.Wire.{be, encOpt, Parser, run, number, checked, upTo, mapped, optional}
+use Rattle.codec_forms.specs.Lawful.{Lawful, step, finish, recode, regood}
+use Rattle.codec_forms.specs.Items.{number-lawful, checked-lawful, upTo-lawful, mapped-lawful, optional-lawful}
+use Rattle.archive_bundle_form.specs.Forms.{encodeBundle, encodeHeight, encodeFeeIntent, kindNumber, attached}
+use Rattle.book.specs.Zero.{zeros, zeroBundle, zeroHash, zeroAttempt, noAttempt, baseVariant, isZero32, isNoHeight, isNoId, isZeroHash, isNoAttempt, isBaseVariant, isZeroAttempt, isZeroBundle}
+use Rattle.book.specs.Sound.{isAttach, soundFeeIntent, soundHash, soundAttempt, soundVariant, soundBundle, attemptToken, spendsOf}
+use Rattle.book.specs.Typed.{Every, U8, U64, Bytes, TypedOptionalHeight, TypedOptionalId, TypedFeeIntent, TypedHash, TypedAttempt, TypedOptionalAttempt, TypedVariant, TypedBundle, TypedSpend}
+use Rattle.book.specs.declared.Height.{Height}
+use Rattle.book.specs.declared.SubmissionId.{SubmissionId}
+use Rattle.book.specs.declared.OptionalHeight.{OptionalHeight}
+use Rattle.book.specs.declared.OptionalHeight.the-variants.{NoHeight, At}
+use Rattle.book.specs.declared.OptionalId.{OptionalId}
+use Rattle.book.specs.declared.OptionalId.the-variants.{NoId, Of}
+use Rattle.book.specs.declared.FeeIntentKind.{FeeIntentKind}
+use Rattle.book.specs.declared.FeeIntentKind.the-variants.{AlreadyPaid, NoFeeConfigured, Attach}
+use Rattle.book.specs.declared.SubmissionFeeIntent.{SubmissionFeeIntent}
+use Rattle.book.specs.declared.SubmissionDeliveryGoal.{SubmissionDeliveryGoal}
+use Rattle.book.specs.declared.SubmissionDeliveryGoal.the-variants.{EnsureBroadcast, FeeUpgrade}
+use Rattle.book.specs.declared.DeliveryTrigger.{DeliveryTrigger}
+use Rattle.book.specs.declared.DeliveryTrigger.the-variants.{Protocol, FreshChain, Rollback, ProviderReadiness}
+use Rattle.book.specs.declared.SubmissionChainTerminality.{SubmissionChainTerminality}
+use Rattle.book.specs.declared.SubmissionChainTerminality.the-variants.{Active, InputSpent, Landed}
+use Rattle.book.specs.declared.FeeResolution.{FeeResolution}
+use Rattle.book.specs.declared.FeeResolution.the-variants.{Unresolved, NotRequested, Attached}
+use Rattle.book.specs.declared.OptionalHash.{OptionalHash}
+use Rattle.book.specs.declared.DeliveryAttempt.{DeliveryAttempt}
+use Rattle.book.specs.declared.OptionalAttempt.{OptionalAttempt}
+use Rattle.book.specs.declared.SubmissionBroadcastVariant.{SubmissionBroadcastVariant}
+use Rattle.book.specs.declared.SpendBundle.{SpendBundle}
+use Rattle.book.specs.declared.CoinSpend.{CoinSpend}
 use Rattle.archive_form.specs.Encode.{goalNumber, triggerNumber, chainNumber, resolutionNumber, encodeHash, encodeAttempt, encodeSlot, encodeVariant, encodeId}
 use Rattle.archive_form.specs.Parse.{parseHeight, parseId, parseAttached, parseFeeIntent, goalOf, triggerOf, chainOf, resolutionOf, parseGoal, parseTrigger, parseChain, parseResolution, parseHash, freshToken, parseSlot, parseBundle, parseVariant}
-use Rattle.book_data.specs.ZeroLaws.{hash-zero, no-attempt, base-variant, bundle-zero-is}
+use Rattle.book.specs.ZeroLaws.{hash-zero, no-attempt, base-variant, bundle-zero-is}
 use Rattle.archive_laws.specs.Cells.{every-replicate, bytes-lawful}
 use Rattle.archive_laws.specs.Bundles.{GoodBundle, bundle-lawful, zero-bundle-typed}
 

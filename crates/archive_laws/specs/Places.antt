@@ -11,20 +11,20 @@ use lib.Dec.{eqb, leb}
 use lib.ListN.{length, take, drop, length-take, length-append, take-append-drop}
 use lib.Seq.{drop-at}
 use borrow.Author.Tests.{leb-true}
-use Rattle.lists.specs.Lists.{elemb, flatMap}
-use Rattle.wire.specs.Wire.{Ans, got, bad, andThen, pick, run, number, end}
-use Rattle.wire.specs.Lawful.{Spans}
-use Rattle.wire.specs.Steady.{Steady, steady-bind, steady-done, steady-run, steady-number, number-item, checked-item, upTo-item, steady-mapped, steady-optional, steady-optionalBy, steady-counted, steady-list, end-place, end-first}
-use Rattle.wire.specs.Steady.{end-start}
-use Rattle.book_data.specs.Zero.{noAttempt, baseVariant, zeroHash}
-use Rattle.book_data.specs.Sound.{idOf, attemptToken, tokensOf, soundb}
-use Rattle.book_data.specs.SoundLaws.{sound, lists-sound}
-use Rattle.book_data.specs.Model.{Book, view}
-use Rattle.book_data.specs.Typed.{Typed}
-use Rattle.book_data.specs.declared.OptionalHeight.the-variants.{NoHeight}
-use Rattle.book_data.specs.declared.OptionalId.the-variants.{NoId}
-use Rattle.book_data.specs.declared.SubmittedTx.{SubmittedTx}
-use Rattle.book_data.specs.declared.BookData.{BookData}
+use Rattle.base_lists.specs.Lists.{elemb, flatMap}
+use Rattle.codec_forms.specs.Wire.{Ans, got, bad, andThen, pick, run, number, end}
+use Rattle.codec_forms.specs.Lawful.{Spans}
+use Rattle.codec_forms.specs.Steady.{Steady, steady-bind, steady-done, steady-run, steady-number, number-item, checked-item, upTo-item, steady-mapped, steady-optional, steady-optionalBy, steady-counted, steady-list, end-place, end-first}
+use Rattle.codec_forms.specs.Steady.{end-start}
+use Rattle.book.specs.Zero.{noAttempt, baseVariant, zeroHash}
+use Rattle.book.specs.Sound.{idOf, attemptToken, tokensOf, soundb}
+use Rattle.book.specs.SoundLaws.{sound, lists-sound}
+use Rattle.book.specs.Model.{Book, view}
+use Rattle.book.specs.Typed.{Typed}
+use Rattle.book.specs.declared.OptionalHeight.the-variants.{NoHeight}
+use Rattle.book.specs.declared.OptionalId.the-variants.{NoId}
+use Rattle.book.specs.declared.SubmittedTx.{SubmittedTx}
+use Rattle.book.specs.declared.BookData.{BookData}
 use Rattle.archive_form.specs.Encode.{encodeModel, encodeBook}
 use Rattle.archive_laws.specs.Back.{view-typed}
 use Rattle.archive_laws.specs.Books.{GoodModel, model-good, model-lawful}

@@ -5,13 +5,13 @@ use mathlib.Core.List.{List, [], _∷_, _++_, map, append-nil, append-assoc, map
 use Prim.Native.Nat.{ℕ, suc}
 use lib.Dec.{eqb, ltb}
 use borrow.Author.Tests.{not-true}
-use Rattle.lists.specs.Lists.{allb, elemb, distinctb, flatMap, risingb}
-use Rattle.lists.specs.Laws.{and-split, and-both, or-false, all-snoc, flat-append}
-use Rattle.lists.specs.Sub.{Sub, sub-all, sub-none, sub-append, distinct-sub, all-sub, eqb-sym, distinct-snoc}
-use Rattle.wire.specs.Items.{AllFrom}
-use Rattle.book_data.specs.Sound.{attemptToken, tokensOf}
-use Rattle.book_data.specs.declared.OptionalAttempt.{OptionalAttempt}
-use Rattle.book_data.specs.declared.SubmittedTx.{SubmittedTx}
+use Rattle.base_lists.specs.Lists.{allb, elemb, distinctb, flatMap, risingb}
+use Rattle.base_lists.specs.Laws.{and-split, and-both, or-false, all-snoc, flat-append}
+use Rattle.base_lists.specs.Sub.{Sub, sub-all, sub-none, sub-append, distinct-sub, all-sub, eqb-sym, distinct-snoc}
+use Rattle.codec_forms.specs.Items.{AllFrom}
+use Rattle.book.specs.Sound.{attemptToken, tokensOf}
+use Rattle.book.specs.declared.OptionalAttempt.{OptionalAttempt}
+use Rattle.book.specs.declared.SubmittedTx.{SubmittedTx}
 use Rattle.archive_form.specs.Parse.{freshToken, above}
 
 -- ---- a rule D of lists, and the rule C of an element after those before it

@@ -7,29 +7,29 @@ use native.Mathlib.Nat.{suc-mul}
 use native.Mathlib.Omega.{arith}
 use lib.ListN.{length, take, length-append, length-take}
 use Rattle.archive_form.specs.Lengths.{id-size, numbers-size}
-use Rattle.wire.specs.Wire.{be, encMany, encList, encOpt}
-use Rattle.wire.specs.Number.{be-length, opt-size}
-use Rattle.spend.specs.Forms.{encodeOutput, encodeRun, encodeSpend, encodeBundle, encodeHeight, encodeFeeIntent, kindNumber, attached}
-use Rattle.book_data.specs.Sound.{spendsOf, outputsOf}
-use Rattle.book_data.specs.Model.{Book, view, back, list16, list64}
-use Rattle.book_data.specs.Typed.{Every, U64, Typed, TypedOutput, TypedSpend, TypedBundle, TypedFeeIntent, TypedHash, TypedAttempt, TypedOptionalAttempt, TypedSlots, TypedVariant, TypedEntry, TypedSubmitted, TypedDelivery}
-use Rattle.book_data.specs.declared.OptionalHeight.{OptionalHeight}
-use Rattle.book_data.specs.declared.OptionalHeight.the-variants.{NoHeight, At}
-use Rattle.book_data.specs.declared.Output.{Output}
-use Rattle.book_data.specs.declared.CoinSpend.{CoinSpend}
-use Rattle.book_data.specs.declared.SpendBundle.{SpendBundle}
-use Rattle.book_data.specs.declared.FeeIntentKind.{FeeIntentKind}
-use Rattle.book_data.specs.declared.FeeIntentKind.the-variants.{AlreadyPaid, NoFeeConfigured, Attach}
-use Rattle.book_data.specs.declared.SubmissionFeeIntent.{SubmissionFeeIntent}
-use Rattle.book_data.specs.declared.OptionalHash.{OptionalHash}
-use Rattle.book_data.specs.declared.DeliveryAttempt.{DeliveryAttempt}
-use Rattle.book_data.specs.declared.OptionalAttempt.{OptionalAttempt}
-use Rattle.book_data.specs.declared.AttemptSlots.{AttemptSlots}
-use Rattle.book_data.specs.declared.SubmissionBroadcastVariant.{SubmissionBroadcastVariant}
-use Rattle.book_data.specs.declared.SubmittedEntry.{SubmittedEntry}
-use Rattle.book_data.specs.declared.SubmittedTx.{SubmittedTx}
-use Rattle.book_data.specs.declared.PendingDelivery.{PendingDelivery}
-use Rattle.book_data.specs.declared.BookData.{BookData}
+use Rattle.codec_forms.specs.Wire.{be, encMany, encList, encOpt}
+use Rattle.codec_forms.specs.Number.{be-length, opt-size}
+use Rattle.archive_bundle_form.specs.Forms.{encodeOutput, encodeRun, encodeSpend, encodeBundle, encodeHeight, encodeFeeIntent, kindNumber, attached}
+use Rattle.book.specs.Sound.{spendsOf, outputsOf}
+use Rattle.book.specs.Model.{Book, view, back, list16, list64}
+use Rattle.book.specs.Typed.{Every, U64, Typed, TypedOutput, TypedSpend, TypedBundle, TypedFeeIntent, TypedHash, TypedAttempt, TypedOptionalAttempt, TypedSlots, TypedVariant, TypedEntry, TypedSubmitted, TypedDelivery}
+use Rattle.book.specs.declared.OptionalHeight.{OptionalHeight}
+use Rattle.book.specs.declared.OptionalHeight.the-variants.{NoHeight, At}
+use Rattle.book.specs.declared.Output.{Output}
+use Rattle.book.specs.declared.CoinSpend.{CoinSpend}
+use Rattle.book.specs.declared.SpendBundle.{SpendBundle}
+use Rattle.book.specs.declared.FeeIntentKind.{FeeIntentKind}
+use Rattle.book.specs.declared.FeeIntentKind.the-variants.{AlreadyPaid, NoFeeConfigured, Attach}
+use Rattle.book.specs.declared.SubmissionFeeIntent.{SubmissionFeeIntent}
+use Rattle.book.specs.declared.OptionalHash.{OptionalHash}
+use Rattle.book.specs.declared.DeliveryAttempt.{DeliveryAttempt}
+use Rattle.book.specs.declared.OptionalAttempt.{OptionalAttempt}
+use Rattle.book.specs.declared.AttemptSlots.{AttemptSlots}
+use Rattle.book.specs.declared.SubmissionBroadcastVariant.{SubmissionBroadcastVariant}
+use Rattle.book.specs.declared.SubmittedEntry.{SubmittedEntry}
+use Rattle.book.specs.declared.SubmittedTx.{SubmittedTx}
+use Rattle.book.specs.declared.PendingDelivery.{PendingDelivery}
+use Rattle.book.specs.declared.BookData.{BookData}
 use Rattle.archive_form.specs.Encode.{goalNumber, triggerNumber, chainNumber, resolutionNumber, encodeHash, encodeAttempt, encodeSlot, encodeSlots, encodeVariant, encodeFacts, encodeSubmitted, encodeId, encodeDelivery, encodeNumbers, encodeModel, encodeBook}
 use Rattle.archive_form.specs.Specimen.{opened}
 use Rattle.archive_laws.specs.Cells.{every-take, every-map}

@@ -10,10 +10,10 @@ use native.Mathlib.Decide.{decLe}
 use lib.Dec.{leb}
 use lib.ListN.{length, take, drop}
 use borrow.Author.Tests.{le-leb, leb-true}
-use Rattle.wire.specs.Wire.{Ans, got, bad, andThen, Parser, _>>=_, done, pick, be, beFrom, encMany, encList, encOpt, run, number, checked, upTo, chosen, optional, optionalBy, manyFrom, counted, listFrom}
-use Rattle.wire.specs.Lawful.{Lawful, Spans, span-join, span-left, span-right, span-none}
-use Rattle.wire.specs.Number.{be-length}
-use Rattle.wire.specs.Items.{checked-bad, checked-fails, checked-got, upTo-lawful, mark, AllFrom}
+use Rattle.codec_forms.specs.Wire.{Ans, got, bad, andThen, Parser, _>>=_, done, pick, be, beFrom, encMany, encList, encOpt, run, number, checked, upTo, chosen, optional, optionalBy, manyFrom, counted, listFrom}
+use Rattle.codec_forms.specs.Lawful.{Lawful, Spans, span-join, span-left, span-right, span-none}
+use Rattle.codec_forms.specs.Number.{be-length}
+use Rattle.codec_forms.specs.Items.{checked-bad, checked-fails, checked-got, upTo-lawful, mark, AllFrom}
 use Rattle.archive_laws.specs.Items.{Item, bytesOf, plain, numberItem, ruled, limited, itemsOptional, itemsMany, itemsList}
 
 -- the item at this place is cut short or breaks its rule

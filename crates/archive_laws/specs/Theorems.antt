@@ -6,14 +6,14 @@ use Prim.Native.Nat.{ℕ, _≤_, zero-le}
 use native.Mathlib.Nat.{zero-add}
 use native.Mathlib.Omega.{arith}
 use lib.ListN.{length, drop, drop-of-length-le}
-use Rattle.wire.specs.Wire.{Ans, got, bad, andThen, end}
-use Rattle.wire.specs.Lawful.{Lawful, Spans, IsBytes, bad-got}
-use Rattle.wire.specs.Items.{end-reads, end-got}
-use Rattle.book_data.specs.Sound.{soundb, soundLists}
-use Rattle.book_data.specs.SoundLaws.{sound, lists-sound, back-view, view-back}
-use Rattle.book_data.specs.Model.{Book, view, back}
-use Rattle.book_data.specs.Typed.{Every, U8, Typed}
-use Rattle.book_data.specs.declared.BookData.{BookData}
+use Rattle.codec_forms.specs.Wire.{Ans, got, bad, andThen, end}
+use Rattle.codec_forms.specs.Lawful.{Lawful, Spans, IsBytes, bad-got}
+use Rattle.codec_forms.specs.Items.{end-reads, end-got}
+use Rattle.book.specs.Sound.{soundb, soundLists}
+use Rattle.book.specs.SoundLaws.{sound, lists-sound, back-view, view-back}
+use Rattle.book.specs.Model.{Book, view, back}
+use Rattle.book.specs.Typed.{Every, U8, Typed}
+use Rattle.book.specs.declared.BookData.{BookData}
 use Rattle.archive_form.specs.Encode.{encodeModel, encodeBook}
 use Rattle.archive_form.specs.Parse.{parseModel, parseWhole, readArchive, ArchiveRead, book, broken, archiveRead}
 use Rattle.archive_laws.specs.Cells.{every-bytes}

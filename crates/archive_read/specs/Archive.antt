@@ -7,19 +7,19 @@ use borrow.Author.Tests.{lt-leb, le-leb, lt-ltb, le-ltb}
 use native.Mathlib.Omega.{arith}
 use lib.ListN.{length, take}
 use lib.Dec.{ltb, leb}
-use Rattle.wire.specs.Wire.{Ans, got, bad, pick, andThen, listFrom, end}
-use Rattle.cursor.specs.Cursor.{far, Reads, reads-then, ends}
-use Rattle.cursor.specs.Cells.{ReadsCells}
-use Rattle.book_data.specs.Zero.{zeroDelivery}
-use Rattle.book_data.specs.Sound.{idOf}
-use Rattle.book_data.specs.Model.{Book, back}
-use Rattle.book_data.specs.declared.OptionalHeight.the-variants.{NoHeight}
-use Rattle.book_data.specs.declared.OptionalHeight.{OptionalHeight}
-use Rattle.book_data.specs.declared.SubmittedTx.{SubmittedTx}
-use Rattle.book_data.specs.declared.PendingDelivery.{PendingDelivery}
-use Rattle.book_data.specs.declared.Ids16.{Ids16}
-use Rattle.book_data.specs.declared.Ids64.{Ids64}
-use Rattle.book_data.specs.declared.BookData.{BookData}
+use Rattle.codec_forms.specs.Wire.{Ans, got, bad, pick, andThen, listFrom, end}
+use Rattle.codec_cursor.specs.Cursor.{far, Reads, reads-then, ends}
+use Rattle.codec_cursor.specs.Cells.{ReadsCells}
+use Rattle.book.specs.Zero.{zeroDelivery}
+use Rattle.book.specs.Sound.{idOf}
+use Rattle.book.specs.Model.{Book, back}
+use Rattle.book.specs.declared.OptionalHeight.the-variants.{NoHeight}
+use Rattle.book.specs.declared.OptionalHeight.{OptionalHeight}
+use Rattle.book.specs.declared.SubmittedTx.{SubmittedTx}
+use Rattle.book.specs.declared.PendingDelivery.{PendingDelivery}
+use Rattle.book.specs.declared.Ids16.{Ids16}
+use Rattle.book.specs.declared.Ids64.{Ids64}
+use Rattle.book.specs.declared.BookData.{BookData}
 use Rattle.archive_form.specs.Answer as answer
 use Rattle.archive_form.specs.Parse.{parseNumbers, parseDelivery, parseRetired, parseHeight, parseReplayed, parseModel, parseWhole, readArchive, archiveRead, ArchiveRead, book, broken}
 use Rattle.archive_read.specs.Sections.{ReadsRetained}

@@ -10,17 +10,17 @@ use lib.ListN.{length, getD, take, set, replicate, length-replicate, length-set}
 use lib.Seq.{take-suc, take-suc-set, take-set-le, take-length}
 use lib.Dec.{eqb, leb, ltb}
 use borrow.Author.Tests.{ne-eqb, leb-false}
-use Rattle.lists.specs.Lists.{flatMap}
-use Rattle.lists.specs.Laws.{flat-append}
-use Rattle.wire.specs.Wire.{Ans, got, bad, andThen, Parser, pick, checked, upTo, number}
-use Rattle.cursor.specs.Cursor.{Reads, passed, reads-as, reads-checked}
-use Rattle.cursor.specs.Items.{Counts}
-use Rattle.cursor.specs.Cells.{Filled, filled-list, ReadsCells}
-use Rattle.book_data.specs.Zero.{zeroSubmitted}
-use Rattle.book_data.specs.Sound.{idOf, attemptToken, tokensOf}
-use Rattle.book_data.specs.declared.SubmittedTx.{SubmittedTx}
+use Rattle.base_lists.specs.Lists.{flatMap}
+use Rattle.base_lists.specs.Laws.{flat-append}
+use Rattle.codec_forms.specs.Wire.{Ans, got, bad, andThen, Parser, pick, checked, upTo, number}
+use Rattle.codec_cursor.specs.Cursor.{Reads, passed, reads-as, reads-checked}
+use Rattle.codec_cursor.specs.Items.{Counts}
+use Rattle.codec_cursor.specs.Cells.{Filled, filled-list, ReadsCells}
+use Rattle.book.specs.Zero.{zeroSubmitted}
+use Rattle.book.specs.Sound.{idOf, attemptToken, tokensOf}
+use Rattle.book.specs.declared.SubmittedTx.{SubmittedTx}
 use Rattle.archive_form.specs.Parse.{above, parseSubmitted}
-use Rattle.entry_read.specs.Entries.{parseAfter, submitted-is}
+use Rattle.archive_entry_read.specs.Entries.{parseAfter, submitted-is}
 
 -- ---- numbers: the count is 2
 two-is : (s : List ℕ) (at : ℕ) → checked (λ k. eqb k 2) (number 1) s at ≡ checked (λ k. eqb k 2) (upTo 2) s at

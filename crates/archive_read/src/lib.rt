@@ -1,17 +1,17 @@
 // The archive reader: any bytes give a book, or refusal 13 with its place.
 pub mod section;
 
-use book_data::BookData;
-use book_data::Ids16;
-use book_data::Ids64;
-use book_data::OptionalHeight;
-use book_data::PendingDelivery;
-use book_data::ReplayEpoch;
-use book_data::SubmissionId;
-use book_data::SubmittedTx;
-use book_data::Token;
-use cursor::FAR;
-use spend_read::part::read_height;
+use archive_bundle_read::part::read_height;
+use book::BookData;
+use book::Ids16;
+use book::Ids64;
+use book::OptionalHeight;
+use book::PendingDelivery;
+use book::ReplayEpoch;
+use book::SubmissionId;
+use book::SubmittedTx;
+use book::Token;
+use codec_cursor::FAR;
 ghost use mathlib.Core.Path.{_≡_};
 ghost use mathlib.Core.Bool.{true, false};
 ghost use Rattle.archive_form.specs.Parse.{readArchive};

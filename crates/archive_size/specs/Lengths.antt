@@ -6,23 +6,23 @@ use Prim.Native.Nat.{ℕ, zero, _+_, _*_, _≤_, min}
 use native.Mathlib.Omega.{arith}
 use lib.ListN.{length, take, length-append}
 use Rattle.archive_form.specs.Lengths.{numbers-size}
-use Rattle.lists.specs.Laws.{count-cut}
-use Rattle.wire.specs.Wire.{be, encMany, encList, encOpt}
-use Rattle.wire.specs.Number.{be-length, numbers-length}
-use Rattle.wire.specs.Puts.{Size, size-as}
-use Rattle.spend.specs.Forms.{encodeBundle, encodeHeight, encodeFeeIntent}
-use Rattle.book_data.specs.Zero.{isNoId}
-use Rattle.book_data.specs.Model.{view, list16, list64}
-use Rattle.book_data.specs.declared.OptionalId.{OptionalId}
-use Rattle.book_data.specs.declared.OptionalId.the-variants.{NoId, Of}
-use Rattle.book_data.specs.declared.OptionalHash.{OptionalHash}
-use Rattle.book_data.specs.declared.DeliveryAttempt.{DeliveryAttempt}
-use Rattle.book_data.specs.declared.OptionalAttempt.{OptionalAttempt}
-use Rattle.book_data.specs.declared.SubmissionBroadcastVariant.{SubmissionBroadcastVariant}
-use Rattle.book_data.specs.declared.SubmittedEntry.{SubmittedEntry}
-use Rattle.book_data.specs.declared.SubmittedTx.{SubmittedTx}
-use Rattle.book_data.specs.declared.PendingDelivery.{PendingDelivery}
-use Rattle.book_data.specs.declared.BookData.{BookData}
+use Rattle.base_lists.specs.Laws.{count-cut}
+use Rattle.codec_forms.specs.Wire.{be, encMany, encList, encOpt}
+use Rattle.codec_forms.specs.Number.{be-length, numbers-length}
+use Rattle.codec_forms.specs.Puts.{Size, size-as}
+use Rattle.archive_bundle_form.specs.Forms.{encodeBundle, encodeHeight, encodeFeeIntent}
+use Rattle.book.specs.Zero.{isNoId}
+use Rattle.book.specs.Model.{view, list16, list64}
+use Rattle.book.specs.declared.OptionalId.{OptionalId}
+use Rattle.book.specs.declared.OptionalId.the-variants.{NoId, Of}
+use Rattle.book.specs.declared.OptionalHash.{OptionalHash}
+use Rattle.book.specs.declared.DeliveryAttempt.{DeliveryAttempt}
+use Rattle.book.specs.declared.OptionalAttempt.{OptionalAttempt}
+use Rattle.book.specs.declared.SubmissionBroadcastVariant.{SubmissionBroadcastVariant}
+use Rattle.book.specs.declared.SubmittedEntry.{SubmittedEntry}
+use Rattle.book.specs.declared.SubmittedTx.{SubmittedTx}
+use Rattle.book.specs.declared.PendingDelivery.{PendingDelivery}
+use Rattle.book.specs.declared.BookData.{BookData}
 use Rattle.archive_form.specs.Encode.{goalNumber, triggerNumber, chainNumber, resolutionNumber, encodeHash, encodeAttempt, encodeSlot, encodeSlots, encodeVariant, encodeFacts, encodeSubmitted, encodeId, encodeDelivery, encodeNumbers, encodeModel, encodeBook}
 
 opt-no : (b : Bool) (l : List ℕ) → b ≡ false → length (encOpt b l) ≡ 1

@@ -1,21 +1,21 @@
 // How many bytes the archive of a book takes, without writing it.
 ghost use mathlib.Core.Path.{_≡_};
 ghost use lib.ListN.{take};
-ghost use Rattle.wire.specs.Wire.{encMany};
-ghost use Rattle.wire.specs.Puts.{Size};
+ghost use Rattle.codec_forms.specs.Wire.{encMany};
+ghost use Rattle.codec_forms.specs.Puts.{Size};
 ghost use Rattle.archive_form.specs.Encode.{encodeHash, encodeSlot, encodeVariant, encodeFacts, encodeSubmitted, encodeId, encodeDelivery, encodeBook};
-use book_data::BookData;
-use book_data::OptionalAttempt;
-use book_data::OptionalHash;
-use book_data::OptionalId;
-use book_data::PendingDelivery;
-use book_data::SubmissionBroadcastVariant;
-use book_data::SubmittedEntry;
-use book_data::SubmittedTx;
-use lists::at_most;
-use spend_size::size_bundle;
-use spend_size::size_fee_intent;
-use spend_size::size_height;
+use archive_bundle_size::size_bundle;
+use archive_bundle_size::size_fee_intent;
+use archive_bundle_size::size_height;
+use base_lists::at_most;
+use book::BookData;
+use book::OptionalAttempt;
+use book::OptionalHash;
+use book::OptionalId;
+use book::PendingDelivery;
+use book::SubmissionBroadcastVariant;
+use book::SubmittedEntry;
+use book::SubmittedTx;
 
 fn size_hash(h: OptionalHash) -> usize
     ensures { λ r. ⌜ Size (encodeHash h) 33 r ⌝ }

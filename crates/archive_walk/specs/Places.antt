@@ -7,14 +7,14 @@ use native.Mathlib.Numerals.{add-one}
 use native.Mathlib.Omega.{arith}
 use lib.ListN.{length, take, set, replicate, length-append, length-set}
 use lib.Seq.{take-suc-set}
-use Rattle.lists.specs.Lists.{cells}
-use Rattle.lists.specs.Laws.{push-normal}
-use Rattle.wire.specs.Wire.{Parser, manyFrom, encMany}
-use Rattle.wire.specs.Lawful.{IsBytes, Lawful}
-use Rattle.wire.specs.Items.{manyFrom-lawful}
-use Rattle.cursor.specs.Cursor.{far, Reads, reads-got}
+use Rattle.base_lists.specs.Lists.{cells}
+use Rattle.base_lists.specs.Laws.{push-normal}
+use Rattle.codec_forms.specs.Wire.{Parser, manyFrom, encMany}
+use Rattle.codec_forms.specs.Lawful.{IsBytes, Lawful}
+use Rattle.codec_forms.specs.Items.{manyFrom-lawful}
+use Rattle.codec_cursor.specs.Cursor.{far, Reads, reads-got}
 use Rattle.archive_walk.specs.Skips.{reads-before}
-use Rattle.cursor.specs.Cells.{Filled, filled-start, filled-more}
+use Rattle.codec_cursor.specs.Cells.{Filled, filled-start, filled-more}
 
 -- the places of elements from c on, and the place behind the last
 unfoldable pub places : {A : Type 0} → (A → List ℕ) → ℕ → List A → List ℕ

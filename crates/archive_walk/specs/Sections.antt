@@ -5,25 +5,25 @@ use mathlib.Core.Bool.{true, cond}
 use mathlib.Core.List.{List, []}
 use native.Mathlib.Omega.{arith}
 use lib.ListN.{length, take, set, replicate}
-use Rattle.lists.specs.Lists.{cells}
-use Rattle.wire.specs.Wire.{be, run, upTo}
-use Rattle.wire.specs.Number.{be-length}
-use Rattle.wire.specs.Lawful.{IsBytes}
-use Rattle.wire.specs.Items.{upTo-lawful}
-use Rattle.cursor.specs.Cursor.{far, Reads, reads-got, reads-then, ends}
-use Rattle.cursor.specs.Items.{Counts}
-use Rattle.cursor.specs.Cells.{ReadsCells, filled-list}
-use Rattle.book_data.specs.Zero.{zeroSubmitted, zeroDelivery}
-use Rattle.book_data.specs.declared.SubmissionId.{SubmissionId}
-use Rattle.book_data.specs.declared.AttemptSlots.{AttemptSlots}
-use Rattle.book_data.specs.declared.SpendBundle.{SpendBundle}
-use Rattle.book_data.specs.declared.SubmissionBroadcastVariant.{SubmissionBroadcastVariant}
-use Rattle.book_data.specs.declared.SubmittedTx.{SubmittedTx}
-use Rattle.book_data.specs.declared.PendingDelivery.{PendingDelivery}
+use Rattle.base_lists.specs.Lists.{cells}
+use Rattle.codec_forms.specs.Wire.{be, run, upTo}
+use Rattle.codec_forms.specs.Number.{be-length}
+use Rattle.codec_forms.specs.Lawful.{IsBytes}
+use Rattle.codec_forms.specs.Items.{upTo-lawful}
+use Rattle.codec_cursor.specs.Cursor.{far, Reads, reads-got, reads-then, ends}
+use Rattle.codec_cursor.specs.Items.{Counts}
+use Rattle.codec_cursor.specs.Cells.{ReadsCells, filled-list}
+use Rattle.book.specs.Zero.{zeroSubmitted, zeroDelivery}
+use Rattle.book.specs.declared.SubmissionId.{SubmissionId}
+use Rattle.book.specs.declared.AttemptSlots.{AttemptSlots}
+use Rattle.book.specs.declared.SpendBundle.{SpendBundle}
+use Rattle.book.specs.declared.SubmissionBroadcastVariant.{SubmissionBroadcastVariant}
+use Rattle.book.specs.declared.SubmittedTx.{SubmittedTx}
+use Rattle.book.specs.declared.PendingDelivery.{PendingDelivery}
 use Rattle.archive_form.specs.Encode.{encodeSubmitted, encodeDelivery}
 use Rattle.archive_form.specs.Parse.{Facts, parseRetired, parseSlots, parseBundle, parseVariant, parseFacts, parseSubmitted, parseDelivery}
 use Rattle.archive_laws.specs.Entries.{GoodSubmitted, submitted-lawful, GoodDelivery, delivery-lawful}
-use Rattle.entry_read.specs.Entries.{parseAfter}
+use Rattle.archive_entry_read.specs.Entries.{parseAfter}
 use Rattle.archive_read.specs.Sections.{Seen, seen-start, seen-room, seen-more, after-seen, retained-done, ReadsRetained}
 use Rattle.archive_walk.specs.Skips.{Skips, reads-before}
 use Rattle.archive_walk.specs.Places.{places, Walking, walking-start, walking-more, walking-all}

@@ -7,12 +7,12 @@ use native.Mathlib.Omega.{arith}
 use lib.ListN.{length, take, drop, replicate}
 use lib.Dec.{ltb}
 use borrow.Author.Tests.{lt-ltb, ltb-true}
-use Rattle.wire.specs.Wire.{got, bad, pick, Parser, _>>=_, done, run, number, upTo, mapped, optional, counted, listFrom, manyFrom}
-use Rattle.wire_bytes.specs.Reading.{run-got}
-use Rattle.cursor.specs.Cursor.{far, Reads, reads-then, ends, reads-absent, reads-present}
-use Rattle.cursor.specs.Items.{Counts, gives}
-use Rattle.cursor.specs.Cells.{Filled, filled-start, filled-more, filled-list, ReadsCells}
-use Rattle.spend_read.specs.Parts.{fee-paid, fee-none}
+use Rattle.codec_forms.specs.Wire.{got, bad, pick, Parser, _>>=_, done, run, number, upTo, mapped, optional, counted, listFrom, manyFrom}
+use Rattle.codec_bytes.specs.Reading.{run-got}
+use Rattle.codec_cursor.specs.Cursor.{far, Reads, reads-then, ends, reads-absent, reads-present}
+use Rattle.codec_cursor.specs.Items.{Counts, gives}
+use Rattle.codec_cursor.specs.Cells.{Filled, filled-start, filled-more, filled-list, ReadsCells}
+use Rattle.archive_bundle_read.specs.Parts.{fee-paid, fee-none}
 use Rattle.archive_form.specs.Parse.{parseFeeIntent}
 
 -- what ends at a place began at one

@@ -4,12 +4,12 @@ use mathlib.Core.Path.{_≡_, refl, sym, ap, _∙_, subst}
 use mathlib.Core.List.{List, [], _∷_, _++_}
 use native.Mathlib.Omega.{arith}
 use lib.ListN.{length, getD, length-append}
-use Rattle.wire.specs.Wire.{got, be, encMany, encList}
-use Rattle.wire.specs.Number.{be-length}
-use Rattle.wire.specs.Lawful.{IsBytes, Spans, span-left, span-right}
-use Rattle.book_data.specs.Zero.{zeroSubmitted, zeroDelivery}
-use Rattle.book_data.specs.Model.{Book}
-use Rattle.spend.specs.Forms.{encodeHeight}
+use Rattle.codec_forms.specs.Wire.{got, be, encMany, encList}
+use Rattle.codec_forms.specs.Number.{be-length}
+use Rattle.codec_forms.specs.Lawful.{IsBytes, Spans, span-left, span-right}
+use Rattle.book.specs.Zero.{zeroSubmitted, zeroDelivery}
+use Rattle.book.specs.Model.{Book}
+use Rattle.archive_bundle_form.specs.Forms.{encodeHeight}
 use Rattle.archive_form.specs.Encode.{encodeSubmitted, encodeDelivery, encodeNumbers, encodeModel}
 use Rattle.archive_form.specs.Parse.{parseModel}
 use Rattle.archive_laws.specs.Books.{model-lawful}

@@ -7,22 +7,22 @@ use borrow.Author.Tests.{lt-leb, le-leb, lt-ltb, le-ltb}
 use native.Mathlib.Omega.{arith}
 use lib.ListN.{length, take, replicate, length-append}
 use lib.Dec.{ltb, leb}
-use Rattle.lists.specs.Lists.{cells}
-use Rattle.wire.specs.Wire.{Ans, got, bad, andThen, listFrom, be, encList, end}
-use Rattle.wire.specs.Number.{be-length}
-use Rattle.wire.specs.Lawful.{IsBytes}
-use Rattle.wire.specs.Items.{listFrom-lawful}
-use Rattle.cursor.specs.Cursor.{far, Reads, reads-then, reads-got, ends}
-use Rattle.cursor.specs.Cells.{ReadsCells}
-use Rattle.book_data.specs.Zero.{zeroSubmitted, zeroDelivery}
-use Rattle.book_data.specs.Sound.{idOf}
-use Rattle.book_data.specs.Model.{Book, back}
-use Rattle.book_data.specs.declared.Token.{Token}
-use Rattle.book_data.specs.declared.SubmissionId.{SubmissionId}
-use Rattle.book_data.specs.declared.OptionalHeight.{OptionalHeight}
-use Rattle.book_data.specs.declared.Ids16.{Ids16}
-use Rattle.book_data.specs.declared.Ids64.{Ids64}
-use Rattle.spend.specs.Forms.{encodeHeight}
+use Rattle.base_lists.specs.Lists.{cells}
+use Rattle.codec_forms.specs.Wire.{Ans, got, bad, andThen, listFrom, be, encList, end}
+use Rattle.codec_forms.specs.Number.{be-length}
+use Rattle.codec_forms.specs.Lawful.{IsBytes}
+use Rattle.codec_forms.specs.Items.{listFrom-lawful}
+use Rattle.codec_cursor.specs.Cursor.{far, Reads, reads-then, reads-got, ends}
+use Rattle.codec_cursor.specs.Cells.{ReadsCells}
+use Rattle.book.specs.Zero.{zeroSubmitted, zeroDelivery}
+use Rattle.book.specs.Sound.{idOf}
+use Rattle.book.specs.Model.{Book, back}
+use Rattle.book.specs.declared.Token.{Token}
+use Rattle.book.specs.declared.SubmissionId.{SubmissionId}
+use Rattle.book.specs.declared.OptionalHeight.{OptionalHeight}
+use Rattle.book.specs.declared.Ids16.{Ids16}
+use Rattle.book.specs.declared.Ids64.{Ids64}
+use Rattle.archive_bundle_form.specs.Forms.{encodeHeight}
 use Rattle.archive_form.specs.Encode.{encodeSubmitted, encodeDelivery}
 use Rattle.archive_form.specs.Parse.{Numbers, parseNumbers, parseDelivery, parseRetired, parseHeight, parseReplayed, parseModel, parseWhole, readArchive, archiveRead, book, broken}
 use Rattle.archive_laws.specs.Entries.{GoodSubmitted, submitted-lawful}

@@ -2,15 +2,15 @@
 mod section;
 mod skip;
 
+use archive_bundle_read::part::read_height;
 use archive_read::section::read_numbers;
 use archive_read::section::read_replays;
 use archive_read::section::read_retirements;
-use book_data::SubmissionId;
-use book_data::Token;
-use cursor::FAR;
+use book::SubmissionId;
+use book::Token;
+use codec_cursor::FAR;
 use section::walk_queue;
 use section::walk_retained;
-use spend_read::part::read_height;
 ghost use mathlib.Core.Path.{_≡_};
 ghost use Rattle.archive_form.specs.Parse.{parseWhole};
 ghost use Rattle.archive_walk.specs.Walk.{walked, brokenAt, WalksBook};

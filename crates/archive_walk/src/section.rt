@@ -4,13 +4,13 @@ use crate::skip::skip_bundle;
 use crate::skip::skip_delivery;
 use crate::skip::skip_facts;
 use crate::skip::skip_variant;
+use archive_entry_read::attempt::read_slots;
+use archive_entry_read::submission::read_new_id;
 use archive_read::section::marked;
-use book_data::AttemptSlots;
-use book_data::SubmissionId;
-use book_data::Token;
-use cursor::read_count;
-use entry_read::attempt::read_slots;
-use entry_read::submission::read_new_id;
+use book::AttemptSlots;
+use book::SubmissionId;
+use book::Token;
+use codec_cursor::read_count;
 ghost use Rattle.archive_walk.specs.Sections.{WalksSubmitted, WalksRetained, WalksQueue};
 
 // Of a submission what those behind it may not have again.

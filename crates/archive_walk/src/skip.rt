@@ -1,10 +1,10 @@
 // Parts that the walk passes without making their values.
-use cursor::pass;
-use cursor::read_count;
-use cursor::refused;
-use wire_bytes::read::has;
-ghost use Rattle.wire.specs.Wire.{run, listOf};
-ghost use Rattle.book_data.specs.Zero.{zeroOutput};
+use codec_bytes::read::has;
+use codec_cursor::pass;
+use codec_cursor::read_count;
+use codec_cursor::refused;
+ghost use Rattle.codec_forms.specs.Wire.{run, listOf};
+ghost use Rattle.book.specs.Zero.{zeroOutput};
 ghost use Rattle.archive_form.specs.Parse.{parseOutput, parseRun, parseSpend, parseBundle, parseVariant, parseFeeIntent, parseFacts, parseDelivery};
 ghost use Rattle.archive_walk.specs.Skips.{Skips, SkipsOptional, SkipsCells};
 

@@ -6,13 +6,13 @@ use native.Mathlib.Nat.{sub-zero}
 use native.Mathlib.Omega.{arith}
 use lib.ListN.{length, take, drop}
 use lib.Seq.{take-length}
-use Rattle.lists.specs.Laws.{take-cut}
-use Rattle.wire.specs.Wire.{be, encMany, encList}
-use Rattle.spend.specs.Forms.{encodeHeight}
-use Rattle.book_data.specs.Model.{view, list16, list64}
-use Rattle.book_data.specs.declared.Token.{Token}
-use Rattle.book_data.specs.declared.SubmissionId.{SubmissionId}
-use Rattle.book_data.specs.declared.BookData.{BookData}
+use Rattle.base_lists.specs.Laws.{take-cut}
+use Rattle.codec_forms.specs.Wire.{be, encMany, encList}
+use Rattle.archive_bundle_form.specs.Forms.{encodeHeight}
+use Rattle.book.specs.Model.{view, list16, list64}
+use Rattle.book.specs.declared.Token.{Token}
+use Rattle.book.specs.declared.SubmissionId.{SubmissionId}
+use Rattle.book.specs.declared.BookData.{BookData}
 use Rattle.archive_form.specs.Encode.{encodeSubmitted, encodeDelivery, encodeNumbers, encodeModel, encodeBook}
 
 abbrev pub numbersForm : Token → SubmissionId → List ℕ

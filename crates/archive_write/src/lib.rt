@@ -2,21 +2,21 @@
 ghost use mathlib.Core.Path.{_≡_};
 ghost use mathlib.Core.List.{_++_};
 ghost use lib.ListN.{take};
-ghost use Rattle.wire.specs.Wire.{be, encMany, encList};
-ghost use Rattle.append.specs.Fits.{Fits};
+ghost use Rattle.codec_forms.specs.Wire.{be, encMany, encList};
+ghost use Rattle.codec_append.specs.Fits.{Fits};
 ghost use Rattle.archive_form.specs.Encode.{encodeSubmitted, encodeDelivery, encodeBook};
 ghost use Rattle.archive_write.specs.Sections.{frontOf, backOf, numbersForm};
-use append::append_byte;
-use append::append_number;
-use book_data::BookData;
-use book_data::PendingDelivery;
-use book_data::SubmissionId;
-use book_data::SubmittedTx;
-use book_data::Token;
-use entry_write::append_delivery;
-use entry_write::append_submitted;
-use lists::at_most;
-use spend_write::write::append_height;
+use archive_bundle_write::write::append_height;
+use archive_entry_write::append_delivery;
+use archive_entry_write::append_submitted;
+use base_lists::at_most;
+use book::BookData;
+use book::PendingDelivery;
+use book::SubmissionId;
+use book::SubmittedTx;
+use book::Token;
+use codec_append::append_byte;
+use codec_append::append_number;
 
 // Numbers (count 2): next token, next submission id.
 fn write_numbers(out: &mut [u8], token: Token, id: SubmissionId) -> usize

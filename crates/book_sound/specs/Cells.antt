@@ -7,8 +7,8 @@ use native.Mathlib.Omega.{arith}
 use borrow.Author.Tests.{ltb-true, ltb-false}
 use lib.Dec.{ltb}
 use lib.ListN.{length, getD, take, drop, drop-of-length-le}
-use Rattle.lists.specs.Lists.{allb, tailOf}
-use Rattle.lists.specs.Laws.{rest-step, tail-of}
+use Rattle.base_lists.specs.Lists.{allb, tailOf}
+use Rattle.base_lists.specs.Laws.{rest-step, tail-of}
 
 and-swap : (x y z : Bool) → (x && (y && z)) ≡ (y && (x && z))
 and-swap true y z = refl

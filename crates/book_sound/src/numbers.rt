@@ -1,9 +1,9 @@
 // Tests over slices of numbers.
 ghost use mathlib.Core.Path.{_≡_};
 ghost use lib.ListN.{take, drop};
-ghost use Rattle.lists.specs.Lists.{allb, elemb, isZero};
-use lists::at_most;
-use lists::contains;
+ghost use Rattle.base_lists.specs.Lists.{allb, elemb, isZero};
+use base_lists::at_most;
+use base_lists::contains;
 
 // The first n numbers, or all.
 pub fn first(s: &[u64], n: usize) -> &[u64]

@@ -8,14 +8,14 @@ use mathlib.Core.Option.{none, some}
 use lib.Dec.{eqb, leb}
 use lib.ListN.{length}
 use borrow.Author.Tests.{le-leb, lt-leb}
-use Rattle.coin_string.specs.CoinIds.{idListb}
-use Rattle.coin_string.specs.CoinList.{coinListb}
-use Rattle.book_data.specs.Model.{view}
-use Rattle.book_data.specs.declared.BookData.{BookData}
-use Rattle.book_data.specs.declared.DeliveryTrigger.{DeliveryTrigger}
-use Rattle.book_data.specs.declared.PendingDelivery.{PendingDelivery}
-use Rattle.book_data.specs.declared.SpendBundle.{SpendBundle}
-use Rattle.book_data.specs.declared.SubmissionDeliveryGoal.{SubmissionDeliveryGoal}
+use Rattle.base_coin_string.specs.CoinIds.{idListb}
+use Rattle.base_coin_string.specs.CoinList.{coinListb}
+use Rattle.book.specs.Model.{view}
+use Rattle.book.specs.declared.BookData.{BookData}
+use Rattle.book.specs.declared.DeliveryTrigger.{DeliveryTrigger}
+use Rattle.book.specs.declared.PendingDelivery.{PendingDelivery}
+use Rattle.book.specs.declared.SpendBundle.{SpendBundle}
+use Rattle.book.specs.declared.SubmissionDeliveryGoal.{SubmissionDeliveryGoal}
 use Rattle.archive_form.specs.Parse.{parseDelivery, parseTrigger, parseGoal}
 use Rattle.rules.specs.Call.{Value}
 use Rattle.rules.specs.Calls.FinalizeAttempt.{finalizeAttempt}
@@ -26,17 +26,17 @@ use Rattle.rules.specs.Calls.ReconcileChainTerminality.{reconcileChainTerminali
 use Rattle.rules.specs.Doors.{idsOk}
 use Rattle.rules.specs.Rule.{Rule}
 use Rattle.rules.specs.Steps.{runBook}
-use Rattle.replies.specs.Reply.{doneReply, finalizeReply}
-use Rattle.replies.specs.Values.{sourceOf}
-use Rattle.replies.specs.declared.DoneReply.{DoneReply}
-use Rattle.replies.specs.declared.FinalizeReply.{FinalizeReply}
-use Rattle.replies.specs.declared.SubmissionFeeSource.{SubmissionFeeSource}
-use Rattle.boundary.specs.Arguments.{given, listed, byteAs, bytesAs, flagIn, gives-undo, gives-book-undo, given-none, given-some, listed-not, listed-well}
-use Rattle.boundary.specs.Forms.{noForm, finalForm, gives-absent, gives-book-absent, done-given, final-given}
-use Rattle.boundary.specs.Held.{heldIn, Holding}
-use Rattle.boundary.specs.Settle.{Gives, GivesBook, finish}
-use Rattle.wire.specs.Wire.{encOpt}
-use Rattle.answers.specs.Forms.{encodeFinal}
+use Rattle.part_replies.specs.Reply.{doneReply, finalizeReply}
+use Rattle.part_replies.specs.Values.{sourceOf}
+use Rattle.part_replies.specs.declared.DoneReply.{DoneReply}
+use Rattle.part_replies.specs.declared.FinalizeReply.{FinalizeReply}
+use Rattle.part_replies.specs.declared.SubmissionFeeSource.{SubmissionFeeSource}
+use Rattle.c_boundary.specs.Arguments.{given, listed, byteAs, bytesAs, flagIn, gives-undo, gives-book-undo, given-none, given-some, listed-not, listed-well}
+use Rattle.c_boundary.specs.Forms.{noForm, finalForm, gives-absent, gives-book-absent, done-given, final-given}
+use Rattle.c_boundary.specs.Held.{heldIn, Holding}
+use Rattle.c_boundary.specs.Settle.{Gives, GivesBook, finish}
+use Rattle.codec_forms.specs.Wire.{encOpt}
+use Rattle.codec_answers.specs.Forms.{encodeFinal}
 use Rattle.c_api.specs.Functions.{CCall, Did, back, answered, queue-did, retained-delivery-did, finalize-did, rebroadcast-did, reconcile-did}
 use Rattle.c_api.specs.Laws.{done-as, final-as, flag-over, flag-in, sourceFrom, sourceIn, source-over, source-in, joinedIn}
 

@@ -4,8 +4,8 @@ use Prim.Native.Nat.{ℕ}
 use mathlib.Core.Bool.{_&&_}
 use mathlib.Core.List.{List, []}
 use lib.ListN.{length}
-use Rattle.coin_string.specs.CoinIds.{idListb}
-use Rattle.coin_string.specs.CoinList.{coinListb}
+use Rattle.base_coin_string.specs.CoinIds.{idListb}
+use Rattle.base_coin_string.specs.CoinList.{coinListb}
 use Rattle.archive_form.specs.Parse.{readArchive, parseDelivery, parseTrigger, parseGoal}
 use Rattle.rules.specs.Calls.AbandonAttempt.{abandonAttempt}
 use Rattle.rules.specs.Calls.AbsentOutputsForIds.{absentOutputsForIds}
@@ -33,14 +33,14 @@ use Rattle.rules.specs.Calls.RetainSubmitted.{retainSubmitted}
 use Rattle.rules.specs.Calls.StopAttempt.{stopAttempt}
 use Rattle.rules.specs.Doors.{idsOk}
 use Rattle.rules.specs.Opened.{opened}
-use Rattle.replies.specs.Values.{sourceOf}
-use Rattle.boundary.specs.Held.{heldIn}
-use Rattle.boundary.specs.Settle.{written, boundary, Gives, GivesBook}
-use Rattle.boundary.specs.Forms.{noForm, statusForm, flagForm, heightForm, idsForm, attemptForm, feeIntentForm, finalForm, drainForm}
-use Rattle.boundary.specs.Arguments.{given, listed, byteAs, bytesAs, flagIn}
+use Rattle.part_replies.specs.Values.{sourceOf}
+use Rattle.c_boundary.specs.Held.{heldIn}
+use Rattle.c_boundary.specs.Settle.{written, boundary, Gives, GivesBook}
+use Rattle.c_boundary.specs.Forms.{noForm, statusForm, flagForm, heightForm, idsForm, attemptForm, feeIntentForm, finalForm, drainForm}
+use Rattle.c_boundary.specs.Arguments.{given, listed, byteAs, bytesAs, flagIn}
 use Rattle.c_api.specs.Laws.{sourceIn, joinedIn}
 use Rattle.c_api.specs.Quiet.{GivesBytes, bytesForm, lengthOf}
-use Rattle.boundary_whole.specs.Whole.{GivesLength, writeFrom, GivesPlace, readInto}
+use Rattle.c_whole.specs.Whole.{GivesLength, writeFrom, GivesPlace, readInto}
 
 -- a call of the library, `submission_book_…`. Runs of bytes and of ids are lists of numbers; `answer` and `archive` are the bytes lent for
 -- the answer, and the number behind them is the one lent for its length. The book is lent besides

@@ -8,22 +8,22 @@ use native.Mathlib.Omega.{arith}
 use lib.ListN.{length}
 use lib.Dec.{eqb, ltb, leb}
 use borrow.Author.Tests.{le-leb, lt-leb, ne-eqb}
-use Rattle.wire.specs.Wire.{pick, got, bad}
-use Rattle.cursor.specs.Cursor.{far, Reads}
-use Rattle.book_data.specs.Model.{Book, view}
-use Rattle.book_data.specs.Zero.{zeroBundle}
-use Rattle.book_data.specs.declared.BookData.{BookData}
-use Rattle.book_data.specs.declared.SpendBundle.{SpendBundle}
+use Rattle.codec_forms.specs.Wire.{pick, got, bad}
+use Rattle.codec_cursor.specs.Cursor.{far, Reads}
+use Rattle.book.specs.Model.{Book, view}
+use Rattle.book.specs.Zero.{zeroBundle}
+use Rattle.book.specs.declared.BookData.{BookData}
+use Rattle.book.specs.declared.SpendBundle.{SpendBundle}
 use Rattle.archive_form.specs.Parse.{parseBundle}
 use Rattle.rules.specs.Call.{Value}
 use Rattle.rules.specs.Rule.{Rule}
 use Rattle.rules.specs.Steps.{runBook}
-use Rattle.replies.specs.Reply.{doneReply, finalizeReply}
-use Rattle.replies.specs.declared.DoneReply.{DoneReply}
-use Rattle.replies.specs.declared.FinalizeReply.{FinalizeReply}
-use Rattle.replies.specs.declared.SubmissionFeeSource.{SubmissionFeeSource}
-use Rattle.replies.specs.declared.SubmissionFeeSource.the-variants.{NotRequested, Joined, JoinFailed, Failed}
-use Rattle.boundary.specs.Arguments.{given, flagIn, takenWhole, bytesAs}
+use Rattle.part_replies.specs.Reply.{doneReply, finalizeReply}
+use Rattle.part_replies.specs.declared.DoneReply.{DoneReply}
+use Rattle.part_replies.specs.declared.FinalizeReply.{FinalizeReply}
+use Rattle.part_replies.specs.declared.SubmissionFeeSource.{SubmissionFeeSource}
+use Rattle.part_replies.specs.declared.SubmissionFeeSource.the-variants.{NotRequested, Joined, JoinFailed, Failed}
+use Rattle.c_boundary.specs.Arguments.{given, flagIn, takenWhole, bytesAs}
 use Rattle.c_api.specs.declared.JoinedBundle.{JoinedBundle}
 
 -- a reply by rules that are given in another form

@@ -8,14 +8,14 @@ use native.Mathlib.Omega.{arith}
 use lib.ListN.{length}
 use lib.Dec.{leb}
 use borrow.Author.Tests.{leb-true}
-use Rattle.wire.specs.Wire.{overlay}
-use Rattle.book_data.specs.Model.{Book, view}
-use Rattle.book_data.specs.declared.BookData.{BookData}
+use Rattle.codec_forms.specs.Wire.{overlay}
+use Rattle.book.specs.Model.{Book, view}
+use Rattle.book.specs.declared.BookData.{BookData}
 use Rattle.rules.specs.Call.{Value}
 use Rattle.rules.specs.Call as call
-use Rattle.lists.specs.Lists.{filterb, flatMap, elemb}
-use Rattle.coin_string.specs.CoinList.{coinsIn, coinListb}
-use Rattle.book_data.specs.Sound.{idOf}
+use Rattle.base_lists.specs.Lists.{filterb, flatMap, elemb}
+use Rattle.base_coin_string.specs.CoinList.{coinsIn, coinListb}
+use Rattle.book.specs.Sound.{idOf}
 use Rattle.rules.specs.CoinLists.{encodeCoins}
 use Rattle.rules.specs.Doors.{idsOk}
 use Rattle.rules.specs.Rule.{Rule, done, undo, Outcome, ended, undone, stopped, run, book, _>>=_}
@@ -23,13 +23,13 @@ use Rattle.rules.specs.Steps.{runBook}
 use Rattle.rules.specs.Calls.Common.{writing}
 use Rattle.rules.specs.Calls.ReconciliationInputCoins.{inputCoinsToReconcile, reconciliationInputCoins}
 use Rattle.rules.specs.Calls.AbsentOutputsForIds.{absentOutputs, absentOutputsForIds}
-use Rattle.replies.specs.Values.{bytesBy}
-use Rattle.replies.specs.Reply.{valueOf, answerOf, writtenReply, bufferLeft}
-use Rattle.replies.specs.declared.CallAnswer.{CallAnswer}
-use Rattle.replies.specs.declared.CallAnswer.the-variants.{Done, Refused}
-use Rattle.replies.specs.declared.WrittenReply.{WrittenReply}
-use Rattle.boundary.specs.Held.{heldIn, Holding}
-use Rattle.boundary.specs.Settle.{Left, Form, refusal, written, written-fits, holding-room, holding-bytes, settled, boundary, boundary-held, boundary-absent, overlay-none, Gives, gives-as}
+use Rattle.part_replies.specs.Values.{bytesBy}
+use Rattle.part_replies.specs.Reply.{valueOf, answerOf, writtenReply, bufferLeft}
+use Rattle.part_replies.specs.declared.CallAnswer.{CallAnswer}
+use Rattle.part_replies.specs.declared.CallAnswer.the-variants.{Done, Refused}
+use Rattle.part_replies.specs.declared.WrittenReply.{WrittenReply}
+use Rattle.c_boundary.specs.Held.{heldIn, Holding}
+use Rattle.c_boundary.specs.Settle.{Left, Form, refusal, written, written-fits, holding-room, holding-bytes, settled, boundary, boundary-held, boundary-absent, overlay-none, Gives, gives-as}
 
 -- the bytes themselves
 abbrev pub bytesForm : Form

@@ -1,11 +1,11 @@
 // What the chain shows.
-use boundary_read::held;
-use boundary_replies::settle_ids;
-use boundary_write::settle_done;
+use base_coin_string::is_coin_list;
+use base_coin_string::is_id_list;
+use c_read::held;
+use c_replies::settle_ids;
+use c_write::settle_done;
 use call_causally_rolled_back_ids::causally_rolled_back_ids_sound;
 use call_reconcile_chain_terminality::reconcile_chain_terminality_sound;
-use coin_string::is_coin_list;
-use coin_string::is_id_list;
 ghost use Rattle.c_api.specs.Functions.{CCall, Did, answered, back};
 
 #[no_mangle]

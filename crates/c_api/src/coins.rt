@@ -1,8 +1,8 @@
 // Coins of the retained submissions, as a coin list in `answer`; its length in `length`. These calls only look at the book.
-use boundary_read::held;
+use c_read::held;
 use call_absent_outputs_for_ids::absent_outputs_for_ids_sound;
 use call_reconciliation_input_coins::reconciliation_input_coins_sound;
-use replies::CallAnswer;
+use part_replies::CallAnswer;
 ghost use Rattle.c_api.specs.Functions.{CCall, Did, counted};
 
 #[no_mangle]

@@ -1,7 +1,7 @@
 // The drain.
-use boundary_drain::settle_drain;
-use boundary_read::held;
-use drain::drain_sound;
+use c_drain::settle_drain;
+use c_read::held;
+use call_drain::drain_sound;
 ghost use Rattle.c_api.specs.Functions.{CCall, Did, answered};
 
 #[no_mangle]

@@ -1,11 +1,11 @@
 // Replay epoch and retirements.
-use book_data::Height;
-use book_data::SubmissionId;
-use boundary_read::held;
-use boundary_replies::settle_flag;
-use boundary_replies::settle_height;
-use boundary_replies::settle_ids;
-use boundary_write::settle_done;
+use book::Height;
+use book::SubmissionId;
+use c_read::held;
+use c_replies::settle_flag;
+use c_replies::settle_height;
+use c_replies::settle_ids;
+use c_write::settle_done;
 use call_begin_replay::begin_replay_sound;
 use call_drain_retirements::drain_retirements_sound;
 use call_emit_retirement::emit_retirement_sound;

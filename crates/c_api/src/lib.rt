@@ -9,7 +9,7 @@ mod queue;
 mod retained;
 mod whole;
 
-use book_data::SpendBundle;
+use book::SpendBundle;
 
 // Where the bytes are no bundle, the bundle says nothing.
 pub struct JoinedBundle {

@@ -1,16 +1,16 @@
 // Calls that offer deliveries.
-use book_data::SubmissionId;
-use boundary_read::held;
-use boundary_write::settle_done;
+use archive_bundle_read::kind::read_goal;
+use archive_bundle_read::kind::read_trigger;
+use archive_entry_read::delivery::read_delivery;
+use book::SubmissionId;
+use c_read::held;
+use c_write::settle_done;
+use call_collect_rollback_replay_ids::collect_rollback_replay_ids_sound;
 use call_queue::queue_sound;
+use call_queue_fee_readiness::queue_fee_readiness_sound;
+use call_queue_rebroadcast_epoch::queue_rebroadcast_epoch_sound;
 use call_queue_retained_delivery::queue_retained_delivery_sound;
-use cursor::FAR;
-use entry_read::delivery::read_delivery;
-use fee_readiness_call::queue_fee_readiness_sound;
-use rebroadcast_call::queue_rebroadcast_epoch_sound;
-use replay_queue::collect_rollback_replay_ids_sound;
-use spend_read::kind::read_goal;
-use spend_read::kind::read_trigger;
+use codec_cursor::FAR;
 ghost use Rattle.c_api.specs.Functions.{CCall, Did, back};
 
 #[no_mangle]

@@ -1,11 +1,11 @@
 // Calls on all retained submissions.
-use active_ids_call::active_ids_sound;
-use boundary_read::held;
-use boundary_replies::settle_ids;
-use boundary_write::settle_done;
-use clear_call::clear_local_artifacts_sound;
-use restore_call::restore_runtime_sound;
-use retain_call::retain_submitted_sound;
+use c_read::held;
+use c_replies::settle_ids;
+use c_write::settle_done;
+use call_active_ids::active_ids_sound;
+use call_clear_local_artifacts::clear_local_artifacts_sound;
+use call_restore_runtime::restore_runtime_sound;
+use call_retain_submitted::retain_submitted_sound;
 ghost use Rattle.c_api.specs.Functions.{CCall, Did, answered, back};
 
 #[no_mangle]

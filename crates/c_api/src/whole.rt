@@ -1,7 +1,7 @@
 // Opening a book, and its archive.
-use boundary_whole::open_into;
-use boundary_whole::read_into;
-use boundary_whole::write_from;
+use c_whole::open_into;
+use c_whole::read_into;
+use c_whole::write_from;
 ghost use Rattle.c_api.specs.Functions.{CCall, OpenDid, ReadDid, Did, counted};
 
 // An empty book with these two numbers.

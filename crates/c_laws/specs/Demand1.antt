@@ -9,11 +9,11 @@ use mathlib.Core.Option.{Option, none, some}
 use native.Mathlib.Omega.{arith}
 use lib.Dec.{eqb}
 use lib.ListN.{length}
-use Rattle.lists.specs.Laws.{or-false}
-use Rattle.wire.specs.Wire.{overlay}
-use Rattle.book_data.specs.Model.{Book, view}
-use Rattle.book_data.specs.Typed.{Every, U8}
-use Rattle.book_data.specs.declared.BookData.{BookData}
+use Rattle.base_lists.specs.Laws.{or-false}
+use Rattle.codec_forms.specs.Wire.{overlay}
+use Rattle.book.specs.Model.{Book, view}
+use Rattle.book.specs.Typed.{Every, U8}
+use Rattle.book.specs.declared.BookData.{BookData}
 use Rattle.archive_form.specs.Encode.{encodeModel}
 use Rattle.archive_form.specs.Parse.{readArchive, ArchiveRead, book, broken}
 use Rattle.rules.specs.Call.{Call, Value}
@@ -21,15 +21,15 @@ use Rattle.rules.specs.Calls.{rules}
 use Rattle.rules.specs.Opened.{opened}
 use Rattle.rules.specs.Rule.{DrainedSubmission, Outcome, ended, undone, stopped}
 use Rattle.rules.specs.Steps.{runBook}
-use Rattle.boundary.specs.Held.{bookBytes, heldIn}
-use Rattle.boundary.specs.Settle.{Left, settled}
-use Rattle.answer_laws.specs.Kind.{Kind, kindOf, isDrain, asksRoom}
-use Rattle.replies.specs.Values.{bytesBy}
-use Rattle.answer_laws.specs.Turned.{TurnedAway, turned-away}
-use Rattle.boundary_laws.specs.Fits.{formOf}
-use Rattle.boundary_laws.specs.Lent.{held-holds, Wrote, wrote, short, written-as}
+use Rattle.c_boundary.specs.Held.{bookBytes, heldIn}
+use Rattle.c_boundary.specs.Settle.{Left, settled}
+use Rattle.rules_answers.specs.Kind.{Kind, kindOf, isDrain, asksRoom}
+use Rattle.part_replies.specs.Values.{bytesBy}
+use Rattle.rules_answers.specs.Turned.{TurnedAway, turned-away}
+use Rattle.c_boundary_laws.specs.Fits.{formOf}
+use Rattle.c_boundary_laws.specs.Lent.{held-holds, Wrote, wrote, short, written-as}
 use Rattle.c_api.specs.Quiet.{lengthBy}
-use Rattle.boundary_whole.specs.Whole.{readInto, GivesPlace}
+use Rattle.c_whole.specs.Whole.{readInto, GivesPlace}
 use Rattle.c_api.specs.Functions.{CCall, Returned, back, counted, OpenDid, ReadDid, Did}
 use Rattle.c_laws.specs.Functions.{Lent, lent, Asked, asks, badList, badValue, callOf}
 use Rattle.c_laws.specs.Told.{told, toldOn, toldIn, Held, no-book, one-book, did-told}

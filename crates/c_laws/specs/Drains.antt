@@ -6,21 +6,21 @@ use mathlib.Core.List.{List, [], _∷_, _++_, append-assoc}
 use native.Mathlib.Omega.{arith}
 use lib.Dec.{eqb, leb}
 use lib.ListN.{length}
-use Rattle.lists.specs.Laws.{or-false}
-use Rattle.wire.specs.Wire.{overlay}
-use Rattle.book_data.specs.Model.{Book}
-use Rattle.book_data.specs.Typed.{Every}
+use Rattle.base_lists.specs.Laws.{or-false}
+use Rattle.codec_forms.specs.Wire.{overlay}
+use Rattle.book.specs.Model.{Book}
+use Rattle.book.specs.Typed.{Every}
 use Rattle.archive_form.specs.Encode.{encodeModel}
 use Rattle.rules.specs.Books.{bookAfter}
 use Rattle.rules.specs.Call.{Call, Value, noValue}
 use Rattle.rules.specs.Calls.{rules}
 use Rattle.rules.specs.Rule.{DrainedSubmission, Outcome, ended, undone, stopped, issuedBy}
 use Rattle.rules.specs.Steps.{runBook}
-use Rattle.boundary.specs.Settle.{Left, settled}
-use Rattle.boundary.specs.Forms.{drainForm}
-use Rattle.answer_laws.specs.Kind.{drained}
-use Rattle.answer_laws.specs.Turned.{TurnedAway, turned-away}
-use Rattle.boundary_laws.specs.Lent.{hasRoom, Wrote, wrote, short, written-as}
+use Rattle.c_boundary.specs.Settle.{Left, settled}
+use Rattle.c_boundary.specs.Forms.{drainForm}
+use Rattle.rules_answers.specs.Kind.{drained}
+use Rattle.rules_answers.specs.Turned.{TurnedAway, turned-away}
+use Rattle.c_boundary_laws.specs.Lent.{hasRoom, Wrote, wrote, short, written-as}
 use Rattle.c_api.specs.Functions.{CCall, Returned, Did}
 use Rattle.c_laws.specs.Functions.{lent, callOf, TypedC}
 use Rattle.c_laws.specs.Told.{one-book, did-told}

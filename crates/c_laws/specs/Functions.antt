@@ -4,14 +4,14 @@ use mathlib.Core.Bool.{Bool, cond, _&&_}
 use mathlib.Core.List.{List, []}
 use mathlib.Core.Option.{Option, none, some}
 use lib.ListN.{length}
-use Rattle.coin_string.specs.CoinIds.{idListb}
-use Rattle.coin_string.specs.CoinList.{coinListb}
-use Rattle.book_data.specs.Typed.{Every, U8, U64}
+use Rattle.base_coin_string.specs.CoinIds.{idListb}
+use Rattle.base_coin_string.specs.CoinList.{coinListb}
+use Rattle.book.specs.Typed.{Every, U8, U64}
 use Rattle.archive_form.specs.Parse.{parseDelivery, parseTrigger, parseGoal}
 use Rattle.rules.specs.Call.{Call}
 use Rattle.rules.specs.Doors.{idsOk}
-use Rattle.replies.specs.Values.{sourceOf}
-use Rattle.boundary.specs.Arguments.{byteAs, bytesAs, flagIn}
+use Rattle.part_replies.specs.Values.{sourceOf}
+use Rattle.c_boundary.specs.Arguments.{byteAs, bytesAs, flagIn}
 use Rattle.c_api.specs.Laws.{sourceIn, joinedIn}
 use Rattle.c_api.specs.Functions.{
   CCall,

@@ -6,7 +6,7 @@
 --   calls                           the calls that the ledger hears of (Listed): all but those refused 2 or 3 before a byte argument became a value,
 --                                   or 12 for want of room, which change nothing
 --   returns                         what the rules' list returns and leaves (Listed)
---   heldIn, bookBytes, Holds        the book that lent bytes hold, its bytes, and that they stand at the front (boundary/Held, boundary_laws/Lent)
+--   heldIn, bookBytes, Holds        the book that lent bytes hold, its bytes, and that they stand at the front (c_boundary/Held, c_boundary_laws/Lent)
 --   Demand3, programBook, issuedAt, tokensAt    demand 3 on one page (demands/Demand3)
 use Prim.Native.Nat.{ℕ, _≤_, zero-le}
 use mathlib.Core.Path.{_≡_, refl, sym, ap, _∙_, subst}
@@ -14,24 +14,24 @@ use mathlib.Core.List.{List, [], _∷_, _++_}
 use mathlib.Core.Logic.{inr}
 use mathlib.Core.Option.{some}
 use lib.ListN.{length, drop}
-use Rattle.wire.specs.Wire.{overlay}
-use Rattle.book_data.specs.Model.{Book, view}
-use Rattle.book_data.specs.Typed.{Every, U64}
+use Rattle.codec_forms.specs.Wire.{overlay}
+use Rattle.book.specs.Model.{Book, view}
+use Rattle.book.specs.Typed.{Every, U64}
 use Rattle.archive_form.specs.Encode.{encodeModel}
 use Rattle.rules.specs.Books.{bookAfter}
 use Rattle.rules.specs.Call.{Call, Value}
 use Rattle.rules.specs.Opened.{opened}
 use Rattle.rules.specs.Rule.{Outcome, issuedBy}
-use Rattle.rule_laws.specs.Sound.Run.{sound-opened}
-use Rattle.typed_laws.specs.Theorems.{within-opened}
-use Rattle.ledger.specs.Tidy.{Chained}
+use Rattle.rules_laws.specs.Sound.Run.{sound-opened}
+use Rattle.rules_typed.specs.Theorems.{within-opened}
+use Rattle.rules_ledger.specs.Tidy.{Chained}
 use Rattle.submission.specs.Book.{outcome}
 use Rattle.submission.specs.Calls.{last-link, outcome-after}
 use Rattle.demands.specs.Demand3.{Demand3, demand-3, programBook, tokensAt, issuedAt}
-use Rattle.boundary.specs.Held.{bookBytes, heldIn}
-use Rattle.boundary.specs.Settle.{Left, written-fits}
-use Rattle.boundary.specs.Forms.{drainForm}
-use Rattle.boundary_laws.specs.Lent.{Holds, put-length, put-holds, opened-room}
+use Rattle.c_boundary.specs.Held.{bookBytes, heldIn}
+use Rattle.c_boundary.specs.Settle.{Left, written-fits}
+use Rattle.c_boundary.specs.Forms.{drainForm}
+use Rattle.c_boundary_laws.specs.Lent.{Holds, put-length, put-holds, opened-room}
 use Rattle.c_api.specs.Functions.{CCall, Returned, OpenDid}
 use Rattle.c_laws.specs.Functions.{TypedC}
 use Rattle.c_laws.specs.Listed.{calls, returns, Ran}

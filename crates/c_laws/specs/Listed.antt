@@ -4,16 +4,16 @@ use mathlib.Core.Bool.{Bool, true, cond, _&&_}
 use mathlib.Core.List.{List, [], _∷_, _++_}
 use lib.Dec.{leb}
 use lib.ListN.{length}
-use Rattle.book_data.specs.Model.{Book}
+use Rattle.book.specs.Model.{Book}
 use Rattle.archive_form.specs.Encode.{encodeModel}
 use Rattle.rules.specs.Books.{bookAfter}
 use Rattle.rules.specs.Call.{Call, Value}
 use Rattle.rules.specs.Calls.{rules}
 use Rattle.rules.specs.Rule.{Outcome, ended, undone, stopped}
 use Rattle.rules.specs.Steps.{runBook}
-use Rattle.answer_laws.specs.Kind.{Kind, kindOf}
-use Rattle.boundary_laws.specs.Fits.{formOf}
-use Rattle.boundary_laws.specs.Lent.{hasRoom}
+use Rattle.rules_answers.specs.Kind.{Kind, kindOf}
+use Rattle.c_boundary_laws.specs.Fits.{formOf}
+use Rattle.c_boundary_laws.specs.Lent.{hasRoom}
 use Rattle.c_api.specs.Functions.{CCall, Returned, Did}
 use Rattle.c_laws.specs.Functions.{lent, Asked, asks, badList, badValue, callOf}
 use Rattle.c_laws.specs.Told.{toldOn}

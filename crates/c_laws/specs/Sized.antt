@@ -7,11 +7,11 @@ use mathlib.Core.Option.{Option, none, some}
 use native.Mathlib.Omega.{arith}
 use lib.ListN.{length}
 use borrow.Author.Tests.{le-leb}
-use Rattle.wire.specs.Wire.{overlay}
-use Rattle.coin_string.specs.CoinIds.{idListb}
-use Rattle.coin_string.specs.CoinList.{coinListb}
-use Rattle.book_data.specs.Model.{Book}
-use Rattle.book_data.specs.Typed.{Every, U64}
+use Rattle.codec_forms.specs.Wire.{overlay}
+use Rattle.base_coin_string.specs.CoinIds.{idListb}
+use Rattle.base_coin_string.specs.CoinList.{coinListb}
+use Rattle.book.specs.Model.{Book}
+use Rattle.book.specs.Typed.{Every, U64}
 use Rattle.archive_form.specs.Encode.{encodeModel}
 use Rattle.archive_form.specs.Parse.{parseDelivery, parseTrigger, parseGoal}
 use Rattle.archive_laws.specs.Books.{TypedModel}
@@ -22,16 +22,16 @@ use Rattle.rules.specs.Doors.{idsOk}
 use Rattle.rules.specs.Opened.{opened}
 use Rattle.rules.specs.Rule.{Outcome, ended, undone, stopped, left}
 use Rattle.rules.specs.Steps.{runBook}
-use Rattle.rule_laws.specs.Sound.Run.{SoundBook, sound-call, sound-opened}
-use Rattle.typed_laws.specs.Theorems.{within-call, within-opened, typed-model}
-use Rattle.typed_laws.specs.Typing.{Within, TypedCall}
-use Rattle.boundary.specs.Arguments.{bytesAs, byteAs, flagIn}
-use Rattle.boundary.specs.Held.{bookBytes}
-use Rattle.boundary.specs.Settle.{Left, Form, settled, written-fits}
-use Rattle.answer_laws.specs.Kind.{Kind, kindOf, answerBytes, Roomy}
-use Rattle.boundary_laws.specs.Enough.{AnswerFits, numberBy}
-use Rattle.boundary_laws.specs.Fits.{formOf, fits}
-use Rattle.boundary_laws.specs.Lent.{put-length, put-holds, Wrote, wrote, short, written-as, roomy, opened-room}
+use Rattle.rules_laws.specs.Sound.Run.{SoundBook, sound-call, sound-opened}
+use Rattle.rules_typed.specs.Theorems.{within-call, within-opened, typed-model}
+use Rattle.rules_typed.specs.Typing.{Within, TypedCall}
+use Rattle.c_boundary.specs.Arguments.{bytesAs, byteAs, flagIn}
+use Rattle.c_boundary.specs.Held.{bookBytes}
+use Rattle.c_boundary.specs.Settle.{Left, Form, settled, written-fits}
+use Rattle.rules_answers.specs.Kind.{Kind, kindOf, answerBytes, Roomy}
+use Rattle.c_boundary_laws.specs.Enough.{AnswerFits, numberBy}
+use Rattle.c_boundary_laws.specs.Fits.{formOf, fits}
+use Rattle.c_boundary_laws.specs.Lent.{put-length, put-holds, Wrote, wrote, short, written-as, roomy, opened-room}
 use Rattle.c_api.specs.Laws.{sourceIn, joinedIn}
 use Rattle.c_api.specs.Functions.{CCall, Returned, OpenDid}
 use Rattle.c_laws.specs.Functions.{Lent, lent, Asked, asks, badList, badValue, value, valueBehind, callOf, OnCall, TypedC}

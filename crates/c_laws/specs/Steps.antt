@@ -10,9 +10,9 @@ use lib.Dec.{leb}
 use lib.ListN.{length, drop}
 use lib.Seq.{drop-append-add, drop-drop}
 use borrow.Author.Tests.{le-leb}
-use Rattle.wire.specs.Wire.{overlay}
-use Rattle.book_data.specs.Model.{Book}
-use Rattle.book_data.specs.Typed.{Every}
+use Rattle.codec_forms.specs.Wire.{overlay}
+use Rattle.book.specs.Model.{Book}
+use Rattle.book.specs.Typed.{Every}
 use Rattle.archive_form.specs.Encode.{encodeModel}
 use Rattle.archive_laws.specs.Books.{TypedModel}
 use Rattle.rules.specs.Books.{callBook, bookAfter}
@@ -20,15 +20,15 @@ use Rattle.rules.specs.Call.{Call, Value}
 use Rattle.rules.specs.Calls.{rules}
 use Rattle.rules.specs.Rule.{Outcome, ended, undone, stopped, left}
 use Rattle.rules.specs.Steps.{runBook}
-use Rattle.rule_laws.specs.Sound.Run.{SoundBook, sound-after}
-use Rattle.typed_laws.specs.Theorems.{within-after, typed-model}
-use Rattle.typed_laws.specs.Typing.{Within, TypedCall}
-use Rattle.boundary.specs.Held.{bookBytes, heldIn}
-use Rattle.boundary.specs.Settle.{Left, written, settled}
-use Rattle.answer_laws.specs.Kind.{Kind, kindOf}
-use Rattle.boundary_laws.specs.Enough.{enough}
-use Rattle.boundary_laws.specs.Fits.{formOf}
-use Rattle.boundary_laws.specs.Lent.{hasRoom, Holds, put-length, put-holds, holds-held, Wrote, wrote, short, written-as}
+use Rattle.rules_laws.specs.Sound.Run.{SoundBook, sound-after}
+use Rattle.rules_typed.specs.Theorems.{within-after, typed-model}
+use Rattle.rules_typed.specs.Typing.{Within, TypedCall}
+use Rattle.c_boundary.specs.Held.{bookBytes, heldIn}
+use Rattle.c_boundary.specs.Settle.{Left, written, settled}
+use Rattle.rules_answers.specs.Kind.{Kind, kindOf}
+use Rattle.c_boundary_laws.specs.Enough.{enough}
+use Rattle.c_boundary_laws.specs.Fits.{formOf}
+use Rattle.c_boundary_laws.specs.Lent.{hasRoom, Holds, put-length, put-holds, holds-held, Wrote, wrote, short, written-as}
 use Rattle.c_api.specs.Functions.{CCall, Returned, Did}
 use Rattle.c_laws.specs.Functions.{Lent, lent, Asked, asks, badList, badValue, callOf, OnCall, TypedC}
 use Rattle.c_laws.specs.Told.{toldOn, one-book, did-told}

@@ -7,11 +7,11 @@ use mathlib.Core.Option.{Option, none, some}
 use lib.ListN.{length}
 use lib.Dec.{eqb, leb}
 use borrow.Author.Tests.{leb-true}
-use Rattle.wire.specs.Wire.{overlay}
-use Rattle.coin_string.specs.CoinIds.{idListb}
-use Rattle.coin_string.specs.CoinList.{coinListb}
-use Rattle.book_data.specs.Model.{Book}
-use Rattle.book_data.specs.declared.DeliveryTrigger.{DeliveryTrigger}
+use Rattle.codec_forms.specs.Wire.{overlay}
+use Rattle.base_coin_string.specs.CoinIds.{idListb}
+use Rattle.base_coin_string.specs.CoinList.{coinListb}
+use Rattle.book.specs.Model.{Book}
+use Rattle.book.specs.declared.DeliveryTrigger.{DeliveryTrigger}
 use Rattle.archive_form.specs.Encode.{encodeModel}
 use Rattle.archive_form.specs.Parse.{parseDelivery, parseTrigger, parseGoal}
 use Rattle.rules.specs.Call.{Call, Value, written}
@@ -26,17 +26,17 @@ use Rattle.rules.specs.Calls.WriteArchive.{writeArchive}
 use Rattle.rules.specs.Doors.{idsOk}
 use Rattle.rules.specs.Rule.{Rule, done, undo, Outcome, ended, undone, stopped, run}
 use Rattle.rules.specs.Steps.{runBook}
-use Rattle.replies.specs.Values.{sourceOf}
-use Rattle.boundary.specs.Held.{heldIn}
-use Rattle.boundary.specs.Settle.{Left, Form, refusal, settled, ruled, boundary, written-fits, Gives, GivesBook}
-use Rattle.boundary.specs.Forms.{noForm, finalForm}
-use Rattle.boundary.specs.Arguments.{given, listed, byteAs, bytesAs, flagIn}
-use Rattle.answer_laws.specs.Kind.{Kind, kindOf, asksRoom}
-use Rattle.boundary_laws.specs.Fits.{formOf}
-use Rattle.boundary_laws.specs.Lent.{Holds, Wrote, wrote, short, written-as}
+use Rattle.part_replies.specs.Values.{sourceOf}
+use Rattle.c_boundary.specs.Held.{heldIn}
+use Rattle.c_boundary.specs.Settle.{Left, Form, refusal, settled, ruled, boundary, written-fits, Gives, GivesBook}
+use Rattle.c_boundary.specs.Forms.{noForm, finalForm}
+use Rattle.c_boundary.specs.Arguments.{given, listed, byteAs, bytesAs, flagIn}
+use Rattle.rules_answers.specs.Kind.{Kind, kindOf, asksRoom}
+use Rattle.c_boundary_laws.specs.Fits.{formOf}
+use Rattle.c_boundary_laws.specs.Lent.{Holds, Wrote, wrote, short, written-as}
 use Rattle.c_api.specs.Laws.{sourceIn, joinedIn}
 use Rattle.c_api.specs.Quiet.{GivesBytes, bytesForm, lengthBy, lengthOf, Quiet, told as quietTold, turned, reconciliation-quiet, absent-quiet}
-use Rattle.boundary_whole.specs.Whole.{Counted, GivesLength, writeFrom}
+use Rattle.c_whole.specs.Whole.{Counted, GivesLength, writeFrom}
 use Rattle.c_api.specs.Functions.{
   CCall,
   Returned,

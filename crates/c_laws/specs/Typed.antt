@@ -6,19 +6,19 @@ use mathlib.Core.List.{List}
 use mathlib.Core.Option.{Option, none, some}
 use lib.Dec.{eqb, leb}
 use lib.ListN.{length}
-use Rattle.wire.specs.Wire.{Ans, got, bad, Parser}
-use Rattle.coin_string.specs.CoinIds.{idListb}
-use Rattle.coin_string.specs.CoinList.{coinListb}
-use Rattle.book_data.specs.Typed.{Every, U8, TypedBundle, TypedDelivery}
-use Rattle.book_data.specs.Zero.{zeroBundle}
+use Rattle.codec_forms.specs.Wire.{Ans, got, bad, Parser}
+use Rattle.base_coin_string.specs.CoinIds.{idListb}
+use Rattle.base_coin_string.specs.CoinList.{coinListb}
+use Rattle.book.specs.Typed.{Every, U8, TypedBundle, TypedDelivery}
+use Rattle.book.specs.Zero.{zeroBundle}
 use Rattle.archive_form.specs.Parse.{parseBundle, parseDelivery, parseTrigger, parseGoal}
 use Rattle.archive_laws.specs.Bundles.{bundle-lawful, zero-bundle-typed}
 use Rattle.archive_laws.specs.Cells.{every-bytes}
 use Rattle.archive_laws.specs.Entries.{delivery-lawful}
 use Rattle.rules.specs.Doors.{idsOk}
-use Rattle.typed_laws.specs.Typing.{TypedCall}
-use Rattle.boundary.specs.Arguments.{takenWhole, bytesAs, byteAs, flagIn}
-use Rattle.boundary_laws.specs.Enough.{OnSome}
+use Rattle.rules_typed.specs.Typing.{TypedCall}
+use Rattle.c_boundary.specs.Arguments.{takenWhole, bytesAs, byteAs, flagIn}
+use Rattle.c_boundary_laws.specs.Enough.{OnSome}
 use Rattle.c_api.specs.Laws.{sourceIn, joinedIn}
 use Rattle.c_api.specs.Functions.{CCall}
 use Rattle.c_laws.specs.Functions.{Asked, value, valueBehind, callOf, OnCall, TypedC}

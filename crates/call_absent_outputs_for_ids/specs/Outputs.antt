@@ -6,26 +6,26 @@ use Prim.Native.Nat.{ℕ, _+_, _≤_, _<_}
 use native.Mathlib.Omega.{arith}
 use lib.ListN.{length, take, length-append, length-map}
 use borrow.Author.Tests.{le-leb, lt-leb}
-use Rattle.lists.specs.Lists.{filterb, flatMap, elemb, cells}
-use Rattle.lists.specs.Laws.{filter-length, take-cells}
-use Rattle.wire.specs.Wire.{be, encMany}
-use Rattle.coin_string.specs.Coin.{coinBytes, cellOf, cell-bytes}
-use Rattle.coin_string.specs.CoinList.{coinsIn, coinListb}
-use Rattle.book_data.specs.Model.{Book}
-use Rattle.book_data.specs.Sound.{idOf}
-use Rattle.book_data.specs.declared.SubmittedTx.{SubmittedTx}
-use Rattle.bundle_coins.specs.Coins.{expectedOutputCoins}
-use Rattle.bundle_coins.specs.Outputs.{outputCells}
-use Rattle.bundle_coins.specs.declared.OutputCoins.{OutputCoins}
+use Rattle.base_lists.specs.Lists.{filterb, flatMap, elemb, cells}
+use Rattle.base_lists.specs.Laws.{filter-length, take-cells}
+use Rattle.codec_forms.specs.Wire.{be, encMany}
+use Rattle.base_coin_string.specs.Coin.{coinBytes, cellOf, cell-bytes}
+use Rattle.base_coin_string.specs.CoinList.{coinsIn, coinListb}
+use Rattle.book.specs.Model.{Book}
+use Rattle.book.specs.Sound.{idOf}
+use Rattle.book.specs.declared.SubmittedTx.{SubmittedTx}
+use Rattle.book_coins.specs.Coins.{expectedOutputCoins}
+use Rattle.book_coins.specs.Outputs.{outputCells}
+use Rattle.book_coins.specs.declared.OutputCoins.{OutputCoins}
 use Rattle.rules.specs.CoinLists.{encodeCoin, encodeCoins}
 use Rattle.rules.specs.Doors.{among}
 use Rattle.rules.specs.Rule.{undone}
 use Rattle.rules.specs.Steps.{runBook}
 use Rattle.rules.specs.Calls.Common.{writing}
 use Rattle.rules.specs.Calls.AbsentOutputsForIds.{absentOutputs, absentOutputsForIds}
-use Rattle.coin_lists.specs.declared.Placed.{Placed}
-use Rattle.coin_lists.specs.Writing.{PutCoins, Listed, put-none, put-join, encode-coins}
-use Rattle.written_answers.specs.Answers.{let-in, turned-away}
+use Rattle.part_coin_lists.specs.declared.Placed.{Placed}
+use Rattle.part_coin_lists.specs.Writing.{PutCoins, Listed, put-none, put-join, encode-coins}
+use Rattle.part_written_answers.specs.Answers.{let-in, turned-away}
 
 -- the absent outputs of a submission, if it is listed
 abbrev pub absentOf : List ℕ → List (List ℕ) → SubmittedTx → List (List ℕ)

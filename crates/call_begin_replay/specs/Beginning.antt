@@ -3,26 +3,26 @@ use mathlib.Core.Bool.{Bool, true, false, cond}
 use mathlib.Core.List.{[]}
 use mathlib.Core.Path.{_≡_, refl, ap, _∙_}
 use native.Mathlib.Omega.{arith}
-use Rattle.book_data.specs.declared.BookData.{BookData}
-use Rattle.book_data.specs.declared.Height.{Height}
-use Rattle.book_data.specs.declared.OptionalHeight.the-variants.{At}
-use Rattle.book_data.specs.Model.{view, back}
-use Rattle.book_data.specs.Sound.{soundb}
+use Rattle.book.specs.declared.BookData.{BookData}
+use Rattle.book.specs.declared.Height.{Height}
+use Rattle.book.specs.declared.OptionalHeight.the-variants.{At}
+use Rattle.book.specs.Model.{view, back}
+use Rattle.book.specs.Sound.{soundb}
 use Rattle.rules.specs.Call.{flag}
 use Rattle.rules.specs.Rule.{done, note, beginEpoch, act, run}
 use Rattle.rules.specs.Steps.{onBook, runBook, noteBook}
 use Rattle.rules.specs.Steps.Notes.{noted}
 use Rattle.rules.specs.Calls.Replay.{isAt, beginReplay}
-use Rattle.replies.specs.Reply.{flagReply}
-use Rattle.replies.specs.declared.CallAnswer.the-variants.{Done}
-use Rattle.replies.specs.declared.FlagReply.{FlagReply}
-use Rattle.replay.specs.Epoch as Epoch
-use Rattle.replay.specs.Epoch.{epoch, begun, replayedOf}
-use Rattle.replay.specs.EpochLaws.{normal-epoch}
-use Rattle.replay.specs.declared.Begun.{Begun}
-use Rattle.book_cells.specs.Normal.{sound-normal}
-use Rattle.book_change.specs.Changes.{withEpochOf}
-use Rattle.book_change.specs.ChangeLaws.{epoch-normal}
+use Rattle.part_replies.specs.Reply.{flagReply}
+use Rattle.part_replies.specs.declared.CallAnswer.the-variants.{Done}
+use Rattle.part_replies.specs.declared.FlagReply.{FlagReply}
+use Rattle.part_replay.specs.Epoch as Epoch
+use Rattle.part_replay.specs.Epoch.{epoch, begun, replayedOf}
+use Rattle.part_replay.specs.EpochLaws.{normal-epoch}
+use Rattle.part_replay.specs.declared.Begun.{Begun}
+use Rattle.part_lookup.specs.Normal.{sound-normal}
+use Rattle.part_change.specs.Changes.{withEpochOf}
+use Rattle.part_change.specs.ChangeLaws.{epoch-normal}
 
 module _ (b : BookData) where
   -- the epoch held stays, or one begins

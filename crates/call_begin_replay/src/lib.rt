@@ -1,17 +1,17 @@
 // `begin_replay`: a replay epoch begins at a height, unless it is the one held.
 ghost use mathlib.Core.Path.{_≡_};
 ghost use mathlib.Core.Bool.{true};
-ghost use Rattle.book_data.specs.Model.{view};
-ghost use Rattle.book_data.specs.Sound.{soundb};
+ghost use Rattle.book.specs.Model.{view};
+ghost use Rattle.book.specs.Sound.{soundb};
 ghost use Rattle.rules.specs.Steps.{runBook};
 ghost use Rattle.rules.specs.Calls.Replay.{beginReplay};
-ghost use Rattle.replies.specs.Reply.{flagReply};
-use book_change::set_epoch;
-use book_data::BookData;
-use book_data::Height;
-use replay::begin;
-use replies::CallAnswer;
-use replies::FlagReply;
+ghost use Rattle.part_replies.specs.Reply.{flagReply};
+use book::BookData;
+use book::Height;
+use part_change::set_epoch;
+use part_replay::begin;
+use part_replies::CallAnswer;
+use part_replies::FlagReply;
 
 pub fn begin_replay_sound(b: BookData, h: Height) -> FlagReply
     requires { ⌜ soundb b ≡ true ⌝ }

@@ -5,24 +5,24 @@ use mathlib.Core.List.{List, [], map}
 use Prim.Native.Nat.{ℕ, _≤_}
 use native.Mathlib.Omega.{arith}
 use lib.ListN.{length, length-map}
-use Rattle.lists.specs.Lists.{filterb, rising}
-use Rattle.lists.specs.Laws.{filter-length, rising-length}
-use Rattle.coin_string.specs.CoinIds.{idListb, idsIn}
-use Rattle.coin_string.specs.CoinList.{coinsIn, coinListb}
-use Rattle.book_data.specs.Model.{Book, view, list16, ids16, ids64}
-use Rattle.book_data.specs.Sound.{idOf, soundb}
-use Rattle.book_data.specs.SoundLaws.{back-view}
-use Rattle.book_data.specs.declared.BookData.{BookData}
-use Rattle.book_data.specs.declared.Ids16.{Ids16}
-use Rattle.book_data.specs.declared.Ids64.{Ids64}
-use Rattle.book_data.specs.declared.SubmittedTx.{SubmittedTx}
+use Rattle.base_lists.specs.Lists.{filterb, rising}
+use Rattle.base_lists.specs.Laws.{filter-length, rising-length}
+use Rattle.base_coin_string.specs.CoinIds.{idListb, idsIn}
+use Rattle.base_coin_string.specs.CoinList.{coinsIn, coinListb}
+use Rattle.book.specs.Model.{Book, view, list16, ids16, ids64}
+use Rattle.book.specs.Sound.{idOf, soundb}
+use Rattle.book.specs.SoundLaws.{back-view}
+use Rattle.book.specs.declared.BookData.{BookData}
+use Rattle.book.specs.declared.Ids16.{Ids16}
+use Rattle.book.specs.declared.Ids64.{Ids64}
+use Rattle.book.specs.declared.SubmittedTx.{SubmittedTx}
 use Rattle.rules.specs.Call.{Value, idsAre}
 use Rattle.rules.specs.Rule.{done, undo, look, Outcome, ended, undone, run}
 use Rattle.rules.specs.Steps.{runBook}
 use Rattle.rules.specs.Calls.CausallyRolledBackIds.{rolledBack, causallyRolledBackIds}
-use Rattle.ids.specs.IdLaws.{counted16, list-is}
-use Rattle.replies.specs.Reply.{idsReply}
-use Rattle.replies.specs.declared.CallAnswer.the-variants.{Done}
+use Rattle.part_ids.specs.IdLaws.{counted16, list-is}
+use Rattle.part_replies.specs.Reply.{idsReply}
+use Rattle.part_replies.specs.declared.CallAnswer.the-variants.{Done}
 
 abbrev pub isRolledBack : List (List ℕ) → List (List ℕ) → SubmittedTx → Bool
 isRolledBack absent inputs t = rolledBack absent inputs (t .entry)

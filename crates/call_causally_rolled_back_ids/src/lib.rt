@@ -1,27 +1,27 @@
 // `causally_rolled_back_ids`: the ids of the submissions that the chain has rolled back, rising; nothing changes.
 ghost use mathlib.Core.Path.{_≡_};
 ghost use mathlib.Core.Bool.{true};
-ghost use Rattle.coin_string.specs.CoinIds.{idsIn};
-ghost use Rattle.coin_string.specs.CoinList.{coinsIn};
-ghost use Rattle.book_data.specs.Model.{view, ids16};
-ghost use Rattle.book_data.specs.Sound.{soundb};
+ghost use Rattle.base_coin_string.specs.CoinIds.{idsIn};
+ghost use Rattle.base_coin_string.specs.CoinList.{coinsIn};
+ghost use Rattle.book.specs.Model.{view, ids16};
+ghost use Rattle.book.specs.Sound.{soundb};
 ghost use Rattle.rules.specs.Steps.{runBook};
 ghost use Rattle.rules.specs.Calls.CausallyRolledBackIds.{causallyRolledBackIds};
-ghost use Rattle.replies.specs.Reply.{idsReply};
+ghost use Rattle.part_replies.specs.Reply.{idsReply};
 ghost use Rattle.call_causally_rolled_back_ids.specs.RolledBack.{rolledBackIds};
-use book_cells::submitted_at;
-use book_data::BookData;
-use book_data::Ids16;
-use chain_tests::rolled_back;
-use coin_string::is_coin_list;
-use coin_string::is_id_list;
-use ids::empty16;
-use ids::push16;
-use ids::rising16;
-use ids::widened;
-use replies::CallAnswer;
-use replies::IdsReply;
-use replies::refused_ids;
+use base_coin_string::is_coin_list;
+use base_coin_string::is_id_list;
+use book::BookData;
+use book::Ids16;
+use part_chain_tests::rolled_back;
+use part_ids::empty16;
+use part_ids::push16;
+use part_ids::rising16;
+use part_ids::widened;
+use part_lookup::submitted_at;
+use part_replies::CallAnswer;
+use part_replies::IdsReply;
+use part_replies::refused_ids;
 
 // In the book's order.
 fn rolled_back_ids(b: BookData, absent: &[u8], inputs: &[u8]) -> Ids16

@@ -2,20 +2,20 @@
 use mathlib.Core.Bool.{true, false}
 use mathlib.Core.Path.{_≡_, sym, ap, _∙_}
 use Prim.Native.Nat.{ℕ}
-use Rattle.book_data.specs.declared.BookData.{BookData}
-use Rattle.book_data.specs.Model.{view}
-use Rattle.book_data.specs.Sound.{soundb}
+use Rattle.book.specs.declared.BookData.{BookData}
+use Rattle.book.specs.Model.{view}
+use Rattle.book.specs.Sound.{soundb}
 use Rattle.rules.specs.Call.{noValue}
 use Rattle.rules.specs.Rule.{done, turn, undone, run}
 use Rattle.rules.specs.Steps.{runBook}
 use Rattle.rules.specs.Calls.EmitRetirement.{emitRetirement}
-use Rattle.replies.specs.Reply.{doneReply}
-use Rattle.replies.specs.declared.CallAnswer.the-variants.{Done}
-use Rattle.replies.specs.declared.DoneReply.{DoneReply}
-use Rattle.book_cells.specs.Normal.{sound-normal}
-use Rattle.book_change.specs.Changes.{retiring}
-use Rattle.book_change.specs.declared.Retired.{Retired}
-use Rattle.sound_steps.specs.RetireLaws.{retire-book, run-full, run-retired}
+use Rattle.part_replies.specs.Reply.{doneReply}
+use Rattle.part_replies.specs.declared.CallAnswer.the-variants.{Done}
+use Rattle.part_replies.specs.declared.DoneReply.{DoneReply}
+use Rattle.part_lookup.specs.Normal.{sound-normal}
+use Rattle.part_change.specs.Changes.{retiring}
+use Rattle.part_change.specs.declared.Retired.{Retired}
+use Rattle.part_sound_laws.specs.RetireLaws.{retire-book, run-full, run-retired}
 
 module _ (b : BookData) (s : soundb b ≡ true) (i : ℕ) {x : Retired} (e : x ≡ retiring i (view b)) where
   pub emit-full : x .full ≡ true → doneReply b (undone 10) ≡ doneReply b (runBook (emitRetirement i) (view b))

@@ -3,26 +3,26 @@ use mathlib.Core.Bool.{Bool, true, false, cond}
 use mathlib.Core.List.{[]}
 use mathlib.Core.Path.{_≡_, refl, ap, _∙_}
 use native.Mathlib.Omega.{arith}
-use Rattle.book_data.specs.declared.BookData.{BookData}
-use Rattle.book_data.specs.declared.Height.{Height}
-use Rattle.book_data.specs.declared.OptionalHeight.the-variants.{NoHeight}
-use Rattle.book_data.specs.declared.ReplayEpoch.{ReplayEpoch}
-use Rattle.book_data.specs.Model.{view, back}
-use Rattle.book_data.specs.Sound.{soundb}
+use Rattle.book.specs.declared.BookData.{BookData}
+use Rattle.book.specs.declared.Height.{Height}
+use Rattle.book.specs.declared.OptionalHeight.the-variants.{NoHeight}
+use Rattle.book.specs.declared.ReplayEpoch.{ReplayEpoch}
+use Rattle.book.specs.Model.{view, back}
+use Rattle.book.specs.Sound.{soundb}
 use Rattle.rules.specs.Call.{noValue}
 use Rattle.rules.specs.Rule.{done, note, endEpoch, act, run}
 use Rattle.rules.specs.Steps.{onBook, runBook, noteBook}
 use Rattle.rules.specs.Steps.Notes.{noted}
 use Rattle.rules.specs.Calls.Replay.{isBefore, finishReplayIfAdvanced}
-use Rattle.replies.specs.Reply.{doneReply}
-use Rattle.replies.specs.declared.CallAnswer.the-variants.{Done}
-use Rattle.replies.specs.declared.DoneReply.{DoneReply}
-use Rattle.replay.specs.Epoch as Epoch
-use Rattle.replay.specs.Epoch.{epoch, finished, replayedOf}
-use Rattle.replay.specs.EpochLaws.{normal-epoch}
-use Rattle.book_cells.specs.Normal.{sound-normal}
-use Rattle.book_change.specs.Changes.{withEpochOf}
-use Rattle.book_change.specs.ChangeLaws.{epoch-normal}
+use Rattle.part_replies.specs.Reply.{doneReply}
+use Rattle.part_replies.specs.declared.CallAnswer.the-variants.{Done}
+use Rattle.part_replies.specs.declared.DoneReply.{DoneReply}
+use Rattle.part_replay.specs.Epoch as Epoch
+use Rattle.part_replay.specs.Epoch.{epoch, finished, replayedOf}
+use Rattle.part_replay.specs.EpochLaws.{normal-epoch}
+use Rattle.part_lookup.specs.Normal.{sound-normal}
+use Rattle.part_change.specs.Changes.{withEpochOf}
+use Rattle.part_change.specs.ChangeLaws.{epoch-normal}
 
 module _ (b : BookData) where
   -- the epoch ends, or the one held stays

@@ -1,15 +1,15 @@
 -- What the rules of `queue` come to, by the test of the delivery.
 use mathlib.Core.Bool.{Bool, true, false, cond}
 use mathlib.Core.Path.{_≡_, ap}
-use Rattle.book_data.specs.declared.BookData.{BookData}
-use Rattle.book_data.specs.declared.PendingDelivery.{PendingDelivery}
-use Rattle.book_data.specs.Model.{Book}
-use Rattle.book_data.specs.Sound.{soundDelivery}
+use Rattle.book.specs.declared.BookData.{BookData}
+use Rattle.book.specs.declared.PendingDelivery.{PendingDelivery}
+use Rattle.book.specs.Model.{Book}
+use Rattle.book.specs.Sound.{soundDelivery}
 use Rattle.rules.specs.Call.{noValue}
 use Rattle.rules.specs.Rule.{done, undo, enqueue, note, step, turn, _>>=_, undone, run}
 use Rattle.rules.specs.Steps.{runBook}
 use Rattle.rules.specs.Calls.Queue.{queue}
-use Rattle.offering.specs.Ends.{Ends, ends-as, ends-then}
+use Rattle.part_offer.specs.Ends.{Ends, ends-as, ends-then}
 
 module _ (d : PendingDelivery) (m : Book) where
   pub queue-damaged : soundDelivery d ≡ false → runBook (queue d) m ≡ undone 3

@@ -1,18 +1,18 @@
 // `queue_retained_delivery`: a retained submission is offered again.
-use book_data::BookData;
-use book_data::DeliveryTrigger;
-use book_data::SubmissionDeliveryGoal;
-use book_data::SubmissionId;
-use offering::offer;
-use offering::settled;
-use replies::DoneReply;
+use book::BookData;
+use book::DeliveryTrigger;
+use book::SubmissionDeliveryGoal;
+use book::SubmissionId;
+use part_offer::offer;
+use part_offer::settled;
+use part_replies::DoneReply;
 ghost use mathlib.Core.Bool.{true};
 ghost use mathlib.Core.Path.{_≡_};
-ghost use Rattle.book_data.specs.Model.{view};
-ghost use Rattle.book_data.specs.Sound.{soundb};
+ghost use Rattle.book.specs.Model.{view};
+ghost use Rattle.book.specs.Sound.{soundb};
 ghost use Rattle.rules.specs.Steps.{runBook};
 ghost use Rattle.rules.specs.Calls.QueueRetainedDelivery.{queueRetainedDelivery};
-ghost use Rattle.replies.specs.Reply.{doneReply};
+ghost use Rattle.part_replies.specs.Reply.{doneReply};
 
 pub fn queue_retained_delivery_sound(
     b: BookData,

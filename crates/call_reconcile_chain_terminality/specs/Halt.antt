@@ -7,18 +7,18 @@ use native.Mathlib.Omega.{arith}
 use lib.Dec.{eqb}
 use lib.ListN.{length, getD, set, drop, length-set}
 use lib.Seq.{drop-set-lt}
-use Rattle.lists.specs.Lists.{distinctb}
-use Rattle.lists.specs.Laws.{filter-length, take-cells}
-use Rattle.book_data.specs.Zero.{zeroSubmitted}
-use Rattle.book_data.specs.Model.{Book, view, back}
-use Rattle.book_data.specs.Sound.{idOf, soundb}
-use Rattle.book_data.specs.SoundLaws.{Fits}
-use Rattle.book_data.specs.declared.BookData.{BookData}
-use Rattle.book_data.specs.declared.ReplayEpoch.{ReplayEpoch}
-use Rattle.book_data.specs.declared.SubmissionChainTerminality.{SubmissionChainTerminality}
-use Rattle.book_data.specs.declared.SubmissionChainTerminality.the-variants.{Active}
-use Rattle.book_data.specs.declared.SubmittedEntry.{SubmittedEntry}
-use Rattle.book_data.specs.declared.SubmittedTx.{SubmittedTx}
+use Rattle.base_lists.specs.Lists.{distinctb}
+use Rattle.base_lists.specs.Laws.{filter-length, take-cells}
+use Rattle.book.specs.Zero.{zeroSubmitted}
+use Rattle.book.specs.Model.{Book, view, back}
+use Rattle.book.specs.Sound.{idOf, soundb}
+use Rattle.book.specs.SoundLaws.{Fits}
+use Rattle.book.specs.declared.BookData.{BookData}
+use Rattle.book.specs.declared.ReplayEpoch.{ReplayEpoch}
+use Rattle.book.specs.declared.SubmissionChainTerminality.{SubmissionChainTerminality}
+use Rattle.book.specs.declared.SubmissionChainTerminality.the-variants.{Active}
+use Rattle.book.specs.declared.SubmittedEntry.{SubmittedEntry}
+use Rattle.book.specs.declared.SubmittedTx.{SubmittedTx}
 use Rattle.rules.specs.Keyed.{change}
 use Rattle.rules.specs.Rule.{done, terminality, unqueue, retire, unreplay, note, revise, setAside, Rule, step, Outcome, ended, undone, logged, guarded, full, run, left}
 use Rattle.rules.specs.Steps.{withSubmitted, withEntry, withSlots, noteBook, reviseBook, markBook, onBook, runBook}
@@ -26,17 +26,17 @@ use Rattle.rules.specs.Steps.Entry.{revised}
 use Rattle.rules.specs.Steps.Notes.{noted, unreplayed}
 use Rattle.rules.specs.Steps.Slots.{slotsAside}
 use Rattle.rules.specs.Calls.ReconcileChainTerminality.{halt}
-use Rattle.rule_laws.specs.Sound.Run.{SoundBook, sound-left}
-use Rattle.replay.specs.Epoch as Epoch
-use Rattle.replay.specs.Epoch.{replayedOf, removed}
-use Rattle.replay.specs.EpochLaws.{normal-epoch}
-use Rattle.book_cells.specs.Normal.{Normal, view-of, normal-of}
-use Rattle.book_cells.specs.PlaceLaws.{change-at}
-use Rattle.book_change.specs.Changes.{storedAt, withEpochOf, retiring}
-use Rattle.book_change.specs.ChangeLaws.{unqueued-fits, revise-at}
-use Rattle.book_change.specs.declared.Retired.{Retired}
-use Rattle.sound_steps.specs.Holds.{Holds, holds-sound, holds-view, holds-lists, holds-soundb, holds-quiet, sound-stepped}
-use Rattle.sound_steps.specs.RetireLaws.{retire-limit, retire-book}
+use Rattle.rules_laws.specs.Sound.Run.{SoundBook, sound-left}
+use Rattle.part_replay.specs.Epoch as Epoch
+use Rattle.part_replay.specs.Epoch.{replayedOf, removed}
+use Rattle.part_replay.specs.EpochLaws.{normal-epoch}
+use Rattle.part_lookup.specs.Normal.{Normal, view-of, normal-of}
+use Rattle.part_lookup.specs.PlaceLaws.{change-at}
+use Rattle.part_change.specs.Changes.{storedAt, withEpochOf, retiring}
+use Rattle.part_change.specs.ChangeLaws.{unqueued-fits, revise-at}
+use Rattle.part_change.specs.declared.Retired.{Retired}
+use Rattle.part_sound_laws.specs.Holds.{Holds, holds-sound, holds-view, holds-lists, holds-soundb, holds-quiet, sound-stepped}
+use Rattle.part_sound_laws.specs.RetireLaws.{retire-limit, retire-book}
 
 -- the terminality anew, and the live attempt set aside
 abbrev pub haltedTx : SubmissionChainTerminality → SubmittedTx → SubmittedTx

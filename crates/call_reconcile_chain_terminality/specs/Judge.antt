@@ -5,26 +5,26 @@ use mathlib.Core.List.{List, [], _∷_}
 use Prim.Native.Nat.{ℕ, _+_, _≤_, _<_}
 use lib.Dec.{leb}
 use lib.ListN.{length, getD, drop, drop-of-length-le}
-use Rattle.lists.specs.Lists.{elemb}
-use Rattle.lists.specs.Laws.{rest-step}
-use Rattle.coin_string.specs.CoinIds.{idListb, idsIn}
-use Rattle.coin_string.specs.CoinList.{coinsIn, coinListb}
-use Rattle.book_data.specs.Zero.{zeroSubmitted}
-use Rattle.book_data.specs.Model.{Book, view}
-use Rattle.book_data.specs.Sound.{idOf, soundb}
-use Rattle.book_data.specs.SoundLaws.{back-view}
-use Rattle.book_data.specs.declared.BookData.{BookData}
-use Rattle.book_data.specs.declared.SubmittedTx.{SubmittedTx}
-use Rattle.book_data.specs.declared.SubmissionChainTerminality.the-variants.{Landed}
+use Rattle.base_lists.specs.Lists.{elemb}
+use Rattle.base_lists.specs.Laws.{rest-step}
+use Rattle.base_coin_string.specs.CoinIds.{idListb, idsIn}
+use Rattle.base_coin_string.specs.CoinList.{coinsIn, coinListb}
+use Rattle.book.specs.Zero.{zeroSubmitted}
+use Rattle.book.specs.Model.{Book, view}
+use Rattle.book.specs.Sound.{idOf, soundb}
+use Rattle.book.specs.SoundLaws.{back-view}
+use Rattle.book.specs.declared.BookData.{BookData}
+use Rattle.book.specs.declared.SubmittedTx.{SubmittedTx}
+use Rattle.book.specs.declared.SubmissionChainTerminality.the-variants.{Landed}
 use Rattle.rules.specs.Call.{Value, noValue}
 use Rattle.rules.specs.Doors.{idsOk}
 use Rattle.rules.specs.Rule.{done, Rule, undo, look, _>>=_, endTurn, Outcome, ended, undone, followed, run, run-bind}
 use Rattle.rules.specs.Steps.{onBook, runBook}
 use Rattle.rules.specs.Calls.ReconcileChainTerminality.{outputObserved, inputSpent, spentAs, halt, judge, judgeEach, reconcileChainTerminality}
-use Rattle.replies.specs.Reply.{doneReply}
-use Rattle.replies.specs.declared.CallAnswer.the-variants.{Done}
-use Rattle.book_change.specs.declared.Retired.{Retired}
-use Rattle.sound_steps.specs.Acts.{logged-none, run-turn}
+use Rattle.part_replies.specs.Reply.{doneReply}
+use Rattle.part_replies.specs.declared.CallAnswer.the-variants.{Done}
+use Rattle.part_change.specs.declared.Retired.{Retired}
+use Rattle.part_sound_laws.specs.Acts.{logged-none, run-turn}
 use Rattle.call_reconcile_chain_terminality.specs.Halt.{reactivateRule, Judged}
 
 -- a test that was made of an element read, of the element as it stands in the list

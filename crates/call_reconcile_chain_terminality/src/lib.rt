@@ -3,38 +3,38 @@ ghost use mathlib.Core.Path.{_≡_};
 ghost use mathlib.Core.Bool.{true};
 ghost use Prim.Native.Nat.{_<_};
 ghost use lib.ListN.{length, getD};
-ghost use Rattle.coin_string.specs.CoinIds.{idsIn};
-ghost use Rattle.coin_string.specs.CoinList.{coinsIn};
-ghost use Rattle.book_data.specs.Zero.{zeroSubmitted};
-ghost use Rattle.book_data.specs.Model.{view, back};
-ghost use Rattle.book_data.specs.Sound.{idOf, soundb};
+ghost use Rattle.base_coin_string.specs.CoinIds.{idsIn};
+ghost use Rattle.base_coin_string.specs.CoinList.{coinsIn};
+ghost use Rattle.book.specs.Zero.{zeroSubmitted};
+ghost use Rattle.book.specs.Model.{view, back};
+ghost use Rattle.book.specs.Sound.{idOf, soundb};
 ghost use Rattle.rules.specs.Rule.{unreplay};
 ghost use Rattle.rules.specs.Steps.{noteBook, runBook};
 ghost use Rattle.rules.specs.Calls.ReconcileChainTerminality.{spentAs, halt as haltRule, judge as judgeRule, judgeEach, reconcileChainTerminality};
-ghost use Rattle.replies.specs.Reply.{doneReply};
-ghost use Rattle.book_cells.specs.Normal.{Normal};
+ghost use Rattle.part_replies.specs.Reply.{doneReply};
+ghost use Rattle.part_lookup.specs.Normal.{Normal};
 ghost use Rattle.call_reconcile_chain_terminality.specs.Halt.{haltedTx, reactivateRule, Judged};
-use book_cells::submitted_at;
-use book_change::Retired;
-use book_change::retire;
-use book_change::set_epoch;
-use book_change::store_submitted;
-use book_change::unqueue;
-use book_data::BookData;
-use book_data::SubmissionChainTerminality;
-use book_data::SubmissionId;
-use book_data::SubmittedTx;
-use chain_tests::input_spent;
-use chain_tests::is_landed;
-use chain_tests::output_observed;
-use coin_string::is_coin_list;
-use coin_string::is_id_list;
-use lists::contains;
-use replies::CallAnswer;
-use replies::DoneReply;
-use replies::refused_done;
-use slots::stopped;
-use submitted::revise::with_terminality;
+use base_coin_string::is_coin_list;
+use base_coin_string::is_id_list;
+use base_lists::contains;
+use book::BookData;
+use book::SubmissionChainTerminality;
+use book::SubmissionId;
+use book::SubmittedTx;
+use part_chain_tests::input_spent;
+use part_chain_tests::is_landed;
+use part_chain_tests::output_observed;
+use part_change::Retired;
+use part_change::retire;
+use part_change::set_epoch;
+use part_change::store_submitted;
+use part_change::unqueue;
+use part_lookup::submitted_at;
+use part_replies::CallAnswer;
+use part_replies::DoneReply;
+use part_replies::refused_done;
+use part_slots::stopped;
+use part_submitted::revise::with_terminality;
 
 // The terminality anew, and the live attempt, if any, set aside.
 fn halted(t: SubmittedTx, c: SubmissionChainTerminality) -> SubmittedTx
@@ -53,7 +53,7 @@ fn unmark(b: BookData, id: SubmissionId) -> BookData
     ensures { λ r. ⌜ r ≡ back (noteBook (unreplay (id .0)) (view b)) ⌝ }
 {
     let epoch = b.replay_epoch;
-    set_epoch(b, replay::remove(epoch, id))
+    set_epoch(b, part_replay::remove(epoch, id))
 }
 
 // The submission at k is out of replay and queue, its live attempt set aside, and it is retired once.

@@ -5,13 +5,13 @@ use mathlib.Core.List.{List, [], _∷_, _++_}
 use Prim.Native.Nat.{ℕ, _+_, _≤_}
 use native.Mathlib.Omega.{arith}
 use lib.ListN.{length}
-use Rattle.lists.specs.Lists.{filterb, flatMap}
-use Rattle.wire.specs.Wire.{be, encMany}
-use Rattle.coin_string.specs.CoinList.{coinsIn, coinListb}
-use Rattle.book_data.specs.Model.{Book}
-use Rattle.book_data.specs.declared.SubmittedEntry.{SubmittedEntry}
-use Rattle.book_data.specs.declared.SubmittedTx.{SubmittedTx}
-use Rattle.bundle_coins.specs.Coins.{inputCoins}
+use Rattle.base_lists.specs.Lists.{filterb, flatMap}
+use Rattle.codec_forms.specs.Wire.{be, encMany}
+use Rattle.base_coin_string.specs.CoinList.{coinsIn, coinListb}
+use Rattle.book.specs.Model.{Book}
+use Rattle.book.specs.declared.SubmittedEntry.{SubmittedEntry}
+use Rattle.book.specs.declared.SubmittedTx.{SubmittedTx}
+use Rattle.book_coins.specs.Coins.{inputCoins}
 use Rattle.rules.specs.CoinLists.{risingCoins, encodeCoin, encodeCoins}
 use Rattle.rules.specs.Parts.{isLanded}
 use Rattle.rules.specs.Rule.{undone}
@@ -19,11 +19,11 @@ use Rattle.rules.specs.Steps.{runBook}
 use Rattle.rules.specs.Calls.Common.{writing}
 use Rattle.rules.specs.Calls.ReconcileChainTerminality.{outputObserved}
 use Rattle.rules.specs.Calls.ReconciliationInputCoins.{isReconciled, inputCoinsToReconcile, reconciliationInputCoins}
-use Rattle.coin_lists.specs.declared.Coins64.{Coins64}
-use Rattle.coin_lists.specs.Coins.{coinsOf, insertAll, InsertedInputs, rising-none}
-use Rattle.coin_lists.specs.ListLaws.{fold-append}
-use Rattle.coin_lists.specs.Writing.{encode-coins}
-use Rattle.written_answers.specs.Answers.{let-in, turned-away}
+use Rattle.part_coin_lists.specs.declared.Coins64.{Coins64}
+use Rattle.part_coin_lists.specs.Coins.{coinsOf, insertAll, InsertedInputs, rising-none}
+use Rattle.part_coin_lists.specs.ListLaws.{fold-append}
+use Rattle.part_coin_lists.specs.Writing.{encode-coins}
+use Rattle.part_written_answers.specs.Answers.{let-in, turned-away}
 
 abbrev pub inputsOf : SubmittedTx → List (List ℕ)
 inputsOf t = inputCoins (t .entry .«base_bundle»)

@@ -1,15 +1,15 @@
 // `replay_rollback_height`: the height of the replay epoch, if one is held; nothing changes.
 ghost use mathlib.Core.Path.{_≡_};
 ghost use mathlib.Core.Bool.{true};
-ghost use Rattle.book_data.specs.Model.{view};
-ghost use Rattle.book_data.specs.Sound.{soundb};
+ghost use Rattle.book.specs.Model.{view};
+ghost use Rattle.book.specs.Sound.{soundb};
 ghost use Rattle.rules.specs.Steps.{runBook};
 ghost use Rattle.rules.specs.Calls.Replay.{replayRollbackHeight};
-ghost use Rattle.replies.specs.Reply.{heightReply};
-use book_data::BookData;
-use replay::rollback_height;
-use replies::CallAnswer;
-use replies::HeightReply;
+ghost use Rattle.part_replies.specs.Reply.{heightReply};
+use book::BookData;
+use part_replay::rollback_height;
+use part_replies::CallAnswer;
+use part_replies::HeightReply;
 
 pub fn replay_rollback_height_sound(b: BookData) -> HeightReply
     requires { ⌜ soundb b ≡ true ⌝ }

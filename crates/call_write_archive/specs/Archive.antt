@@ -7,23 +7,23 @@ use native.Mathlib.Omega.{arith}
 use lib.Dec.{leb}
 use lib.ListN.{length}
 use borrow.Author.Tests.{leb-true, leb-false}
-use Rattle.wire.specs.Wire.{pick, overlay}
-use Rattle.book_data.specs.Model.{Book, view}
-use Rattle.book_data.specs.Sound.{soundb}
-use Rattle.book_data.specs.SoundLaws.{back-view}
-use Rattle.book_data.specs.declared.BookData.{BookData}
+use Rattle.codec_forms.specs.Wire.{pick, overlay}
+use Rattle.book.specs.Model.{Book, view}
+use Rattle.book.specs.Sound.{soundb}
+use Rattle.book.specs.SoundLaws.{back-view}
+use Rattle.book.specs.declared.BookData.{BookData}
 use Rattle.archive_form.specs.Encode.{encodeModel, encodeBook}
-use Rattle.archive.specs.declared.Wrote.{Wrote}
-use Rattle.archive.specs.declared.Wrote.the-variants.{Unsound, Short, Bytes}
-use Rattle.archive.specs.Answer.{refused, wrote, answerOf, writeAnswer, leftIn}
+use Rattle.archive_write_checked.specs.declared.Wrote.{Wrote}
+use Rattle.archive_write_checked.specs.declared.Wrote.the-variants.{Unsound, Short, Bytes}
+use Rattle.archive_write_checked.specs.Answer.{refused, wrote, answerOf, writeAnswer, leftIn}
 use Rattle.rules.specs.Rule.{undone, run}
 use Rattle.rules.specs.Steps.{runBook}
 use Rattle.rules.specs.Calls.Common.{writing}
 use Rattle.rules.specs.Calls.WriteArchive.{writeArchive}
-use Rattle.replies.specs.declared.CallAnswer.the-variants.{Done}
-use Rattle.replies.specs.declared.WrittenReply.{WrittenReply}
-use Rattle.replies.specs.Reply.{writtenReply}
-use Rattle.written_answers.specs.Answers.{Answers, answers-as, refused-is, writes, too-short}
+use Rattle.part_replies.specs.declared.CallAnswer.the-variants.{Done}
+use Rattle.part_replies.specs.declared.WrittenReply.{WrittenReply}
+use Rattle.part_replies.specs.Reply.{writtenReply}
+use Rattle.part_written_answers.specs.Answers.{Answers, answers-as, refused-is, writes, too-short}
 
 writes-archive : (room : ℕ) (m : Book) → runBook (writeArchive encodeModel room) m ≡ runBook (writing room (encodeModel m)) m
 unfolding run writeArchive

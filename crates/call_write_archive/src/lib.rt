@@ -2,18 +2,18 @@
 ghost use mathlib.Core.Path.{_≡_};
 ghost use mathlib.Core.Bool.{true};
 ghost use lib.ListN.{length};
-ghost use Rattle.book_data.specs.Model.{view};
-ghost use Rattle.book_data.specs.Sound.{soundb};
+ghost use Rattle.book.specs.Model.{view};
+ghost use Rattle.book.specs.Sound.{soundb};
 ghost use Rattle.archive_form.specs.Encode.{encodeModel};
 ghost use Rattle.rules.specs.Steps.{runBook};
 ghost use Rattle.rules.specs.Calls.WriteArchive.{writeArchive};
-ghost use Rattle.replies.specs.Reply.{writtenReply, bufferLeft};
-use archive::Wrote;
-use archive::write_if_sound;
-use book_data::BookData;
-use replies::CallAnswer;
-use replies::WrittenReply;
-use written_answers::refused_written;
+ghost use Rattle.part_replies.specs.Reply.{writtenReply, bufferLeft};
+use archive_write_checked::Wrote;
+use archive_write_checked::write_if_sound;
+use book::BookData;
+use part_replies::CallAnswer;
+use part_replies::WrittenReply;
+use part_written_answers::refused_written;
 
 pub fn write_archive_sound(b: BookData, out: &mut [u8]) -> WrittenReply
     requires { ⌜ soundb b ≡ true ⌝ }

@@ -3,11 +3,11 @@
 --   Call                   a call with its arguments (rules/Call)
 --   after, openedBook      the book that `open` gives, and the one that the methods leave, each called on the one before (submission/Calls)
 --   outcome, drainAnswer   what a call comes to, and the answer of `drain` (submission/Book, submission/Answers)
---   begun, ledgerAfter     the ledger at first, and after calls (ledger/Ledger, ledger/Theorem); its steps are in ledger/Steps
---   downTo, count          numbers one after the other (ledger/Account/Tokens), how many rows have a fate (ledger/Account/Counts)
---   fatesOf, fatesBy       the fates of a submission's tokens in the rows, and by what was emitted, removed and halted (ledger/Events)
---   Fits, Exact            rows against the submissions retained (ledger/Tidy), rows against slots (ledger/Account/Exact)
---   history                the tokens issued and to whom, the last first; `grown` adds some, `Chained` is about their predecessors (ledger/Tidy)
+--   begun, ledgerAfter     the ledger at first, and after calls (rules_ledger/Ledger, rules_ledger/Theorem); its steps are in rules_ledger/Steps
+--   downTo, count          numbers one after the other (rules_ledger/Account/Tokens), how many rows have a fate (rules_ledger/Account/Counts)
+--   fatesOf, fatesBy       the fates of a submission's tokens in the rows, and by what was emitted, removed and halted (rules_ledger/Events)
+--   Fits, Exact            rows against the submissions retained (rules_ledger/Tidy), rows against slots (rules_ledger/Account/Exact)
+--   history                the tokens issued and to whom, the last first; `grown` adds some, `Chained` is about their predecessors (rules_ledger/Tidy)
 --   handedOut              the submissions in a drain's answer; `grownBy` and `Named` say the two of these (Predecessors)
 use Prim.Native.Nat.{ℕ, _+_, _-_, _≤_}
 use mathlib.Core.Bool.{false}
@@ -15,23 +15,23 @@ use mathlib.Core.List.{List, [], _∷_, _++_, map, List·Memᴰ}
 use mathlib.Core.Logic.{_⊎_}
 use mathlib.Core.Path.{_≡_, _∙_}
 use lib.ListN.{length}
-use Rattle.book_data.specs.declared.SubmittedTx.{SubmittedTx}
-use Rattle.book_data.specs.Model.{Book, view}
-use Rattle.book_data.specs.Sound.{idOf}
+use Rattle.book.specs.declared.SubmittedTx.{SubmittedTx}
+use Rattle.book.specs.Model.{Book, view}
+use Rattle.book.specs.Sound.{idOf}
 use Rattle.archive_form.specs.Encode.{encodeModel}
 use Rattle.rules.specs.Books.{bookAfter}
 use Rattle.rules.specs.Call.{Call, Drain}
 use Rattle.rules.specs.Keyed.{pick}
 use Rattle.rules.specs.Opened.{opened}
 use Rattle.rules.specs.Rule.{DrainedSubmission, issuedBy}
-use Rattle.replies.specs.declared.CallAnswer.the-variants.{Done}
-use Rattle.ledger.specs.Account.Counts.{count}
-use Rattle.ledger.specs.Account.Exact.{Exact}
-use Rattle.ledger.specs.Account.Tokens.{downTo}
-use Rattle.ledger.specs.Events.{Event, eventsOf, fatesOf, fatesBy}
-use Rattle.ledger.specs.Ledger.{live, aside, displaced, struck, Row, Ledger, rowId, rowToken, begun}
-use Rattle.ledger.specs.Theorem.{Accounted, ledger-theorem, ledgerAfter, eventsAfter}
-use Rattle.ledger.specs.Tidy.{Fits, Open, Issue, history, grown, Chained}
+use Rattle.part_replies.specs.declared.CallAnswer.the-variants.{Done}
+use Rattle.rules_ledger.specs.Account.Counts.{count}
+use Rattle.rules_ledger.specs.Account.Exact.{Exact}
+use Rattle.rules_ledger.specs.Account.Tokens.{downTo}
+use Rattle.rules_ledger.specs.Events.{Event, eventsOf, fatesOf, fatesBy}
+use Rattle.rules_ledger.specs.Ledger.{live, aside, displaced, struck, Row, Ledger, rowId, rowToken, begun}
+use Rattle.rules_ledger.specs.Theorem.{Accounted, ledger-theorem, ledgerAfter, eventsAfter}
+use Rattle.rules_ledger.specs.Tidy.{Fits, Open, Issue, history, grown, Chained}
 use Rattle.submission.specs.declared.SubmissionBook.{SubmissionBook}
 use Rattle.submission.specs.declared.DrainAnswer.{DrainAnswer}
 use Rattle.submission.specs.Answers.{drainAnswer}

@@ -4,19 +4,19 @@ use Prim.Native.Nat.{ℕ}
 use mathlib.Core.Bool.{true}
 use mathlib.Core.List.{List}
 use mathlib.Core.Path.{_≡_}
-use Rattle.book_data.specs.declared.BookData.{BookData}
-use Rattle.book_data.specs.Model.{view, back}
-use Rattle.book_data.specs.Sound.{soundb}
-use Rattle.book_data.specs.SoundLaws.{sound-back}
-use Rattle.book_data.specs.Typed.{Every, U64}
+use Rattle.book.specs.declared.BookData.{BookData}
+use Rattle.book.specs.Model.{view, back}
+use Rattle.book.specs.Sound.{soundb}
+use Rattle.book.specs.SoundLaws.{sound-back}
+use Rattle.book.specs.Typed.{Every, U64}
 use Rattle.archive_form.specs.Encode.{encodeModel}
 use Rattle.archive_form.specs.Parse.{readArchive, book}
 use Rattle.rules.specs.Books.{callBook, bookAfter}
 use Rattle.rules.specs.Call.{Call}
 use Rattle.rules.specs.Opened.{opened}
-use Rattle.rule_laws.specs.Sound.Run.{sound-call-data, sound-opened, sound-after}
-use Rattle.typed_laws.specs.Theorems.{restored-after}
-use Rattle.typed_laws.specs.Typing.{TypedCall}
+use Rattle.rules_laws.specs.Sound.Run.{sound-call-data, sound-opened, sound-after}
+use Rattle.rules_typed.specs.Theorems.{restored-after}
+use Rattle.rules_typed.specs.Typing.{TypedCall}
 
 -- "Every call leaves a sound book."
 pub sound : (c : Call) (b : BookData) → soundb b ≡ true → soundb (back (callBook encodeModel c (view b))) ≡ true

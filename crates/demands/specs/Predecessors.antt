@@ -5,8 +5,8 @@ use mathlib.Core.Option.{Option, none, some}
 use mathlib.Core.Path.{_≡_, refl, sym, ap, _∙_}
 use native.Mathlib.Omega.{arith}
 use lib.ListN.{take, length-map}
-use Rattle.lists.specs.Laws.{take-cells}
-use Rattle.book_data.specs.Model.{Book}
+use Rattle.base_lists.specs.Laws.{take-cells}
+use Rattle.book.specs.Model.{Book}
 use Rattle.archive_form.specs.Encode.{encodeModel}
 use Rattle.rules.specs.Books.{issuedBook, bookAfter}
 use Rattle.rules.specs.Call.{Call, Value}
@@ -15,12 +15,12 @@ use Rattle.rules.specs.Opened.{opened}
 use Rattle.rules.specs.Rule.{Outcome, ended, undone, stopped, issuedBy}
 use Rattle.rules.specs.Rule as rule
 use Rattle.rules.specs.Steps.{runBook}
-use Rattle.submitted.specs.Drained.{tokenOf, tokenBack, drainedBack, zeroDrained}
-use Rattle.submitted.specs.declared.DrainedSubmission.{DrainedSubmission}
-use Rattle.drain_answers.specs.DrainReply.{drainedBy}
-use Rattle.replies.specs.Reply.{answerOf}
-use Rattle.replies.specs.declared.CallAnswer.the-variants.{Done}
-use Rattle.ledger.specs.Tidy.{Issue, lastTo, grown, Chained}
+use Rattle.part_submitted.specs.Drained.{tokenOf, tokenBack, drainedBack, zeroDrained}
+use Rattle.part_submitted.specs.declared.DrainedSubmission.{DrainedSubmission}
+use Rattle.part_drain_answers.specs.DrainReply.{drainedBy}
+use Rattle.part_replies.specs.Reply.{answerOf}
+use Rattle.part_replies.specs.declared.CallAnswer.the-variants.{Done}
+use Rattle.rules_ledger.specs.Tidy.{Issue, lastTo, grown, Chained}
 use Rattle.submission.specs.declared.SubmissionBook.{SubmissionBook}
 use Rattle.submission.specs.declared.DrainAnswer.{DrainAnswer}
 use Rattle.submission.specs.Answers.{drainAnswer}

@@ -1,7 +1,7 @@
 -- What a call, and a list of calls, makes of a book and answers.
 use Prim.Native.Nat.{ℕ}
 use mathlib.Core.List.{List, [], _∷_}
-use Rattle.book_data.specs.Model.{Book}
+use Rattle.book.specs.Model.{Book}
 use Rattle.rules.specs.Call.{Call, Value}
 use Rattle.rules.specs.Calls.{rules}
 use Rattle.rules.specs.Rule.{DrainedSubmission, full, run, Answer, answered, left, issuedBy}

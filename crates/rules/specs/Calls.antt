@@ -31,7 +31,7 @@ pub mod Attempt
 pub mod WriteArchive
 use Prim.Native.Nat.{ℕ}
 use mathlib.Core.List.{List}
-use Rattle.book_data.specs.Model.{Book, back}
+use Rattle.book.specs.Model.{Book, back}
 use Rattle.rules.specs.Call.{Call, Value}
 use Rattle.rules.specs.Calls.AbandonAttempt.{abandonAttempt}
 use Rattle.rules.specs.Calls.AbsentOutputsForIds.{absentOutputsForIds}

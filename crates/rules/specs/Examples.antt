@@ -1,18 +1,18 @@
 -- Lists of calls on a book, with what they must be answered and what they leave, by computation. Each stands for a misreading or a sham that
 -- the paper names; the paper's own specimens are in the crate specimens.
 pub mod Pieces
-use Rattle.sha256.specs.Fips
+use Rattle.base_sha256.specs.Fips
 use Prim.Native.Nat.{ℕ}
 use mathlib.Core.Bool.{true}
 use mathlib.Core.List.{List, [], _∷_, map}
 use mathlib.Core.Option.{none}
 use mathlib.Core.Path.{_≡_, refl, ap}
-use Rattle.lists.specs.Lists.{allb}
-use Rattle.book_data.specs.declared.OptionalId.the-variants.{NoId}
-use Rattle.book_data.specs.declared.SubmissionChainTerminality.the-variants.{Active, Landed}
-use Rattle.book_data.specs.Model.{Book}
-use Rattle.book_data.specs.Sound.{idOf, soundLists}
-use Rattle.book_data.specs.Zero.{zeroBundle, zeroFeeIntent}
+use Rattle.base_lists.specs.Lists.{allb}
+use Rattle.book.specs.declared.OptionalId.the-variants.{NoId}
+use Rattle.book.specs.declared.SubmissionChainTerminality.the-variants.{Active, Landed}
+use Rattle.book.specs.Model.{Book}
+use Rattle.book.specs.Sound.{idOf, soundLists}
+use Rattle.book.specs.Zero.{zeroBundle, zeroFeeIntent}
 use Rattle.rules.specs.Books.{bookAfter, answersBook}
 use Rattle.rules.specs.Call.{Call, NoRetainedState, FeeIntentDiffers, Applied, Stale, Value, noValue, failures, statusIs, idsAre, written}
 use Rattle.rules.specs.Calls.{rules}

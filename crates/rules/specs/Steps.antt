@@ -6,15 +6,15 @@ pub mod Notes
 use Prim.Native.Nat.{ℕ, suc}
 use mathlib.Core.Bool.{Bool, true, false, cond, not, _&&_}
 use mathlib.Core.List.{List, [], _∷_, _++_, map}
-use Rattle.lists.specs.Lists.{elemb}
-use Rattle.book_data.specs.Zero.{noSlots}
-use Rattle.book_data.specs.Model.{Book}
-use Rattle.book_data.specs.Sound.{idOf, soundIntent, readableBundle}
-use Rattle.book_data.specs.declared.SubmissionDeliveryGoal.{SubmissionDeliveryGoal}
-use Rattle.book_data.specs.declared.AttemptSlots.{AttemptSlots}
-use Rattle.book_data.specs.declared.SubmittedEntry.{SubmittedEntry}
-use Rattle.book_data.specs.declared.SubmittedTx.{SubmittedTx}
-use Rattle.book_data.specs.declared.PendingSubmissionIntent.{PendingSubmissionIntent}
+use Rattle.base_lists.specs.Lists.{elemb}
+use Rattle.book.specs.Zero.{noSlots}
+use Rattle.book.specs.Model.{Book}
+use Rattle.book.specs.Sound.{idOf, soundIntent, readableBundle}
+use Rattle.book.specs.declared.SubmissionDeliveryGoal.{SubmissionDeliveryGoal}
+use Rattle.book.specs.declared.AttemptSlots.{AttemptSlots}
+use Rattle.book.specs.declared.SubmittedEntry.{SubmittedEntry}
+use Rattle.book.specs.declared.SubmittedTx.{SubmittedTx}
+use Rattle.book.specs.declared.PendingSubmissionIntent.{PendingSubmissionIntent}
 use Rattle.rules.specs.Keyed.{pick, change, without}
 use Rattle.rules.specs.Parts.{currentFingerprint}
 use Rattle.rules.specs.Rule.{Rule, Revision, Note, Step, note, revise, retain, emit, remove, setAside, finalise, replay, Effect, Outcome, run}

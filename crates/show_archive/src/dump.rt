@@ -1,8 +1,8 @@
 // The bytes in hexadecimal, 16 to a line.
-use append::append_bytes;
-use book_report::say;
+use codec_append::append_bytes;
 use libc::STDOUT_FILENO;
-use text::append_spaced_hex;
+use tool_book_report::say;
+use tool_text::append_spaced_hex;
 
 // The last five digits of an offset.
 fn append_offset(out: &mut [u8], at: usize, n: usize) -> usize {

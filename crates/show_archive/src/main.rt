@@ -12,7 +12,7 @@ fn show(s: &[u8], more: bool, hex: bool) {
     let ok = r.ok;
     if ok {
         let book = r.book;
-        book_report::show_book(s.len(), book);
+        tool_book_report::show_book(s.len(), book);
     } else {
         refusal::show_refusal(s, r.place, more);
     }
@@ -76,13 +76,13 @@ fn say_usage() {
 fn is_option(i: usize) -> bool {
     let mut word = [0u8; 2];
     os::arg(i, &mut word);
-    lists::same(&word, b"--")
+    base_lists::same(&word, b"--")
 }
 
 fn is_hex_option(i: usize) -> bool {
     let mut word = [0u8; 5];
     let n = os::arg(i, &mut word);
-    lists::same(&word[..n], b"--hex")
+    base_lists::same(&word[..n], b"--hex")
 }
 
 // The file's name is the argument at `file`, and none stands at `end` or behind it.

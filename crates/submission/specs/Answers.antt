@@ -1,31 +1,31 @@
 -- What each method answers: the rules of its call behind the door, in the method's answer struct, beside the next book.
-use Rattle.book_data.specs.Model.{Book}
+use Rattle.book.specs.Model.{Book}
 use Rattle.rules.specs.Call.{Call, Value}
 use Rattle.rules.specs.Rule.{Outcome}
-use Rattle.replies.specs.Reply.{doneReply, statusReply, idsReply, flagReply, heightReply, attemptReply, feeIntentReply, finalizeReply, writtenReply}
-use Rattle.replies.specs.declared.DoneReply.{DoneReply}
+use Rattle.part_replies.specs.Reply.{doneReply, statusReply, idsReply, flagReply, heightReply, attemptReply, feeIntentReply, finalizeReply, writtenReply}
+use Rattle.part_replies.specs.declared.DoneReply.{DoneReply}
 use Rattle.submission.specs.declared.DoneAnswer.{DoneAnswer}
-use Rattle.replies.specs.declared.StatusReply.{StatusReply}
+use Rattle.part_replies.specs.declared.StatusReply.{StatusReply}
 use Rattle.submission.specs.declared.StatusAnswer.{StatusAnswer}
-use Rattle.replies.specs.declared.IdsReply.{IdsReply}
+use Rattle.part_replies.specs.declared.IdsReply.{IdsReply}
 use Rattle.submission.specs.declared.IdsAnswer.{IdsAnswer}
-use Rattle.replies.specs.declared.FlagReply.{FlagReply}
+use Rattle.part_replies.specs.declared.FlagReply.{FlagReply}
 use Rattle.submission.specs.declared.FlagAnswer.{FlagAnswer}
-use Rattle.replies.specs.declared.HeightReply.{HeightReply}
+use Rattle.part_replies.specs.declared.HeightReply.{HeightReply}
 use Rattle.submission.specs.declared.HeightAnswer.{HeightAnswer}
-use Rattle.replies.specs.declared.AttemptReply.{AttemptReply}
+use Rattle.part_replies.specs.declared.AttemptReply.{AttemptReply}
 use Rattle.submission.specs.declared.AttemptAnswer.{AttemptAnswer}
-use Rattle.replies.specs.declared.FeeIntentReply.{FeeIntentReply}
+use Rattle.part_replies.specs.declared.FeeIntentReply.{FeeIntentReply}
 use Rattle.submission.specs.declared.FeeIntentAnswer.{FeeIntentAnswer}
-use Rattle.replies.specs.declared.FinalizeReply.{FinalizeReply}
+use Rattle.part_replies.specs.declared.FinalizeReply.{FinalizeReply}
 use Rattle.submission.specs.declared.FinalizeAnswer.{FinalizeAnswer}
-use Rattle.replies.specs.declared.WrittenReply.{WrittenReply}
+use Rattle.part_replies.specs.declared.WrittenReply.{WrittenReply}
 use Rattle.submission.specs.declared.WrittenAnswer.{WrittenAnswer}
-use Rattle.drain_answers.specs.declared.DrainReply.{DrainReply}
+use Rattle.part_drain_answers.specs.declared.DrainReply.{DrainReply}
 use Rattle.submission.specs.declared.DrainAnswer.{DrainAnswer}
 use Rattle.submission.specs.declared.SubmissionBook.{SubmissionBook}
 use Rattle.submission.specs.Book.{bookOf, outcome}
-use Rattle.drain_answers.specs.DrainReply.{drainReply}
+use Rattle.part_drain_answers.specs.DrainReply.{drainReply}
 
 -- ---- a lower reply, with the book as one of ours
 abbrev pub doneFrom : DoneReply → DoneAnswer

@@ -1,13 +1,13 @@
 -- The book of the program, and what a call makes of it: the rules behind the door.
 use Prim.Native.Nat.{ℕ}
 use mathlib.Core.List.{List}
-use Rattle.book_data.specs.declared.BookData.{BookData}
-use Rattle.book_data.specs.Model.{Book}
+use Rattle.book.specs.declared.BookData.{BookData}
+use Rattle.book.specs.Model.{Book}
 use Rattle.archive_form.specs.Encode.{encodeModel}
 use Rattle.rules.specs.Call.{Call, Value}
 use Rattle.rules.specs.Calls.{rules}
 use Rattle.rules.specs.Rule.{Outcome}
-use Rattle.replies.specs.Reply.{outcomeOf, bookLeft, bufferLeft}
+use Rattle.part_replies.specs.Reply.{outcomeOf, bookLeft, bufferLeft}
 use Rattle.submission.specs.declared.SubmissionBook.{SubmissionBook}
 
 abbrev pub bookOf : BookData → SubmissionBook

@@ -3,8 +3,8 @@ use Prim.Native.Nat.{ℕ}
 use mathlib.Core.Bool.{Bool, true, cond}
 use mathlib.Core.List.{List, [], _∷_}
 use mathlib.Core.Path.{_≡_, refl, ap, sym, _∙_}
-use Rattle.book_data.specs.Model.{Book, view, back}
-use Rattle.book_data.specs.Sound.{soundb}
+use Rattle.book.specs.Model.{Book, view, back}
+use Rattle.book.specs.Sound.{soundb}
 use Rattle.archive_form.specs.Encode.{encodeModel}
 use Rattle.rules.specs.Books.{callBook, answerBook, bookAfter, answersBook}
 use Rattle.rules.specs.Call.{Call, Value}
@@ -12,10 +12,10 @@ use Rattle.rules.specs.Calls.{rules}
 use Rattle.rules.specs.Opened.{opened}
 use Rattle.rules.specs.Rule.{Outcome, ended, undone, stopped, Answer, answered, left}
 use Rattle.rules.specs.Steps.{runBook}
-use Rattle.rule_laws.specs.Sound.Run.{SoundBook, sound-call, sound-opened}
-use Rattle.ledger.specs.Theorem.{Accounted, ledger-theorem}
-use Rattle.replies.specs.Reply.{bookLeft}
-use Rattle.sound_steps.specs.Holds.{Holds, holds-view, holds-soundb}
+use Rattle.rules_laws.specs.Sound.Run.{SoundBook, sound-call, sound-opened}
+use Rattle.rules_ledger.specs.Theorem.{Accounted, ledger-theorem}
+use Rattle.part_replies.specs.Reply.{bookLeft}
+use Rattle.part_sound_laws.specs.Holds.{Holds, holds-view, holds-soundb}
 use Rattle.submission.specs.declared.SubmissionBook.{SubmissionBook}
 use Rattle.submission.specs.Book.{bookOf, outcome, next}
 use Rattle.submission.specs.Door.{sound-open, door-open}

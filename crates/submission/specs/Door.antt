@@ -4,16 +4,16 @@ use mathlib.Core.Bool.{Bool, true, false, cond}
 use mathlib.Core.List.{List}
 use mathlib.Core.Path.{_≡_, refl, ap, sym, _∙_}
 use borrow.Author.Tests.{eqb-false}
-use Rattle.wire.specs.Wire.{overlay}
-use Rattle.book_data.specs.declared.BookData.{BookData}
-use Rattle.book_data.specs.Model.{Book, view}
-use Rattle.book_data.specs.Sound.{soundb}
+use Rattle.codec_forms.specs.Wire.{overlay}
+use Rattle.book.specs.declared.BookData.{BookData}
+use Rattle.book.specs.Model.{Book, view}
+use Rattle.book.specs.Sound.{soundb}
 use Rattle.archive_form.specs.Encode.{encodeModel}
 use Rattle.rules.specs.Call.{Call, Value}
 use Rattle.rules.specs.Calls.{rules}
 use Rattle.rules.specs.Rule.{Rule, Outcome, undone}
 use Rattle.rules.specs.Steps.{runBook}
-use Rattle.replies.specs.Reply.{outcomeOf, bufferLeft}
+use Rattle.part_replies.specs.Reply.{outcomeOf, bufferLeft}
 use Rattle.submission.specs.declared.SubmissionBook.{SubmissionBook}
 use Rattle.submission.specs.declared.WrittenAnswer.{WrittenAnswer}
 use Rattle.submission.specs.Book.{outcome, bufferAfter}

@@ -3,10 +3,10 @@ mod refused;
 
 ghost use mathlib.Core.Path.{_≡_};
 ghost use lib.ListN.{length};
-ghost use Rattle.book_data.specs.Model.{back};
+ghost use Rattle.book.specs.Model.{back};
 ghost use Rattle.rules.specs.Call.{AbandonAttempt, AbsentOutputsForIds, AcknowledgeAttempt, ActiveIds, Attempt, BeginReplay, CausallyRolledBackIds, ClearLocalArtifacts, CollectRollbackReplayIds, Drain, DrainRetirements, EmitRetirement, FeeIntentForAttempt, FinalizeAttempt, FinishReplayIfAdvanced, Queue, QueueFeeReadiness, QueueRebroadcastEpoch, QueueRetainedDelivery, ReconcileChainTerminality, ReconciliationInputCoins, RelinquishCompletedAttempt, ReplayRollbackHeight, RestoreRuntime, RetainSubmitted, StopAttempt, WriteArchive};
 ghost use Rattle.rules.specs.Opened.{opened};
-ghost use Rattle.replies.specs.Values.{sourceOf};
+ghost use Rattle.part_replies.specs.Values.{sourceOf};
 ghost use Rattle.submission.specs.Book.{bookOf, bufferAfter};
 ghost use Rattle.submission.specs.Door.{doorNumber};
 ghost use Rattle.submission.specs.Answers.{doneAnswer, statusAnswer, idsAnswer, flagAnswer, heightAnswer, attemptAnswer, feeIntentAnswer, finalizeAnswer, writtenAnswer, drainAnswer, doneFrom, statusFrom, idsFrom, flagFrom, heightFrom, attemptFrom, feeIntentFrom, finalizeFrom, writtenFrom, drainFrom};
@@ -20,35 +20,35 @@ use crate::refused::height_refused;
 use crate::refused::ids_refused;
 use crate::refused::status_refused;
 use crate::refused::written_refused;
-use book_data::BookData;
-use book_data::DeliveryTrigger;
-use book_data::Height;
-use book_data::Ids64;
-use book_data::OptionalAttempt;
-use book_data::OptionalHeight;
-use book_data::PendingDelivery;
-use book_data::SpendBundle;
-use book_data::SubmissionDeliveryGoal;
-use book_data::SubmissionFeeIntent;
-use book_data::SubmissionId;
-use book_data::Token;
+use book::BookData;
+use book::DeliveryTrigger;
+use book::Height;
+use book::Ids64;
+use book::OptionalAttempt;
+use book::OptionalHeight;
+use book::PendingDelivery;
+use book::SpendBundle;
+use book::SubmissionDeliveryGoal;
+use book::SubmissionFeeIntent;
+use book::SubmissionId;
+use book::Token;
 use book_sound::is_sound;
-use drain_answers::DrainReply;
-use drain_answers::SubmissionDrainFailure;
-use replies::AttemptReply;
-use replies::CallAnswer;
-use replies::DoneReply;
-use replies::FeeIntentReply;
-use replies::FinalizeReply;
-use replies::FinalizedSubmission;
-use replies::FlagReply;
-use replies::HeightReply;
-use replies::IdsReply;
-use replies::StatusReply;
-use replies::SubmissionAttemptStatus;
-use replies::SubmissionFeeSource;
-use replies::WrittenReply;
-use submitted::DrainedSubmission;
+use part_drain_answers::DrainReply;
+use part_drain_answers::SubmissionDrainFailure;
+use part_replies::AttemptReply;
+use part_replies::CallAnswer;
+use part_replies::DoneReply;
+use part_replies::FeeIntentReply;
+use part_replies::FinalizeReply;
+use part_replies::FinalizedSubmission;
+use part_replies::FlagReply;
+use part_replies::HeightReply;
+use part_replies::IdsReply;
+use part_replies::StatusReply;
+use part_replies::SubmissionAttemptStatus;
+use part_replies::SubmissionFeeSource;
+use part_replies::WrittenReply;
+use part_submitted::DrainedSubmission;
 
 pub struct SubmissionBook {
     pub parts: BookData,
@@ -269,7 +269,7 @@ impl SubmissionBook {
     pub fn open(token: Token, id: SubmissionId) -> SubmissionBook
         ensures { λ r. ⌜ r ≡ bookOf (back (opened (token .0) (id .0))) ⌝ }
     {
-        let parts = open_book::open(token, id);
+        let parts = call_open::open(token, id);
         SubmissionBook { parts }
     }
 
@@ -291,7 +291,11 @@ impl SubmissionBook {
         if refusal != 0 {
             return done_refused(self, refusal);
         }
-        let r = rebroadcast_call::queue_rebroadcast_epoch_sound(self.parts, ids, trigger);
+        let r = call_queue_rebroadcast_epoch::queue_rebroadcast_epoch_sound(
+            self.parts,
+            ids,
+            trigger,
+        );
         done_answer(r)
     }
 
@@ -302,7 +306,7 @@ impl SubmissionBook {
         if refusal != 0 {
             return done_refused(self, refusal);
         }
-        let r = fee_readiness_call::queue_fee_readiness_sound(self.parts);
+        let r = call_queue_fee_readiness::queue_fee_readiness_sound(self.parts);
         done_answer(r)
     }
 
@@ -334,7 +338,7 @@ impl SubmissionBook {
         if refusal != 0 {
             return drain_refused(self, refusal);
         }
-        let r = drain::drain_sound(self.parts);
+        let r = call_drain::drain_sound(self.parts);
         drain_answer(r)
     }
 
@@ -350,7 +354,7 @@ impl SubmissionBook {
         if refusal != 0 {
             return finalize_refused(self, refusal);
         }
-        let r = finalize_call::finalize_attempt_sound(self.parts, token, source, joined);
+        let r = call_finalize_attempt::finalize_attempt_sound(self.parts, token, source, joined);
         finalize_answer(r)
     }
 
@@ -361,7 +365,7 @@ impl SubmissionBook {
         if refusal != 0 {
             return fee_intent_refused(self, refusal);
         }
-        let r = fee_intent_call::fee_intent_for_attempt_sound(self.parts, token);
+        let r = call_fee_intent_for_attempt::fee_intent_for_attempt_sound(self.parts, token);
         fee_intent_answer(r)
     }
 
@@ -372,7 +376,7 @@ impl SubmissionBook {
         if refusal != 0 {
             return status_refused(self, refusal);
         }
-        let r = acknowledge_call::acknowledge_attempt_sound(self.parts, token);
+        let r = call_acknowledge_attempt::acknowledge_attempt_sound(self.parts, token);
         status_answer(r)
     }
 
@@ -383,7 +387,7 @@ impl SubmissionBook {
         if refusal != 0 {
             return status_refused(self, refusal);
         }
-        let r = stop_call::stop_attempt_sound(self.parts, token);
+        let r = call_stop_attempt::stop_attempt_sound(self.parts, token);
         status_answer(r)
     }
 
@@ -394,7 +398,7 @@ impl SubmissionBook {
         if refusal != 0 {
             return status_refused(self, refusal);
         }
-        let r = abandon_call::abandon_attempt_sound(self.parts, token);
+        let r = call_abandon_attempt::abandon_attempt_sound(self.parts, token);
         status_answer(r)
     }
 
@@ -405,7 +409,10 @@ impl SubmissionBook {
         if refusal != 0 {
             return status_refused(self, refusal);
         }
-        let r = relinquish_call::relinquish_completed_attempt_sound(self.parts, token);
+        let r = call_relinquish_completed_attempt::relinquish_completed_attempt_sound(
+            self.parts,
+            token,
+        );
         status_answer(r)
     }
 
@@ -416,7 +423,7 @@ impl SubmissionBook {
         if refusal != 0 {
             return attempt_refused(self, refusal);
         }
-        let r = attempt_call::attempt_sound(self.parts, token);
+        let r = call_attempt::attempt_sound(self.parts, token);
         attempt_answer(r)
     }
 
@@ -427,7 +434,7 @@ impl SubmissionBook {
         if refusal != 0 {
             return ids_refused(self, refusal);
         }
-        let r = retain_call::retain_submitted_sound(self.parts, ids);
+        let r = call_retain_submitted::retain_submitted_sound(self.parts, ids);
         ids_answer(r)
     }
 
@@ -460,7 +467,7 @@ impl SubmissionBook {
         if refusal != 0 {
             return ids_refused(self, refusal);
         }
-        let r = active_ids_call::active_ids_sound(self.parts);
+        let r = call_active_ids::active_ids_sound(self.parts);
         ids_answer(r)
     }
 
@@ -542,7 +549,10 @@ impl SubmissionBook {
         if refusal != 0 {
             return done_refused(self, refusal);
         }
-        let r = replay_queue::collect_rollback_replay_ids_sound(self.parts, ids);
+        let r = call_collect_rollback_replay_ids::collect_rollback_replay_ids_sound(
+            self.parts,
+            ids,
+        );
         done_answer(r)
     }
 
@@ -553,7 +563,7 @@ impl SubmissionBook {
         if refusal != 0 {
             return done_refused(self, refusal);
         }
-        let r = clear_call::clear_local_artifacts_sound(self.parts);
+        let r = call_clear_local_artifacts::clear_local_artifacts_sound(self.parts);
         done_answer(r)
     }
 
@@ -564,7 +574,7 @@ impl SubmissionBook {
         if refusal != 0 {
             return done_refused(self, refusal);
         }
-        let r = restore_call::restore_runtime_sound(self.parts);
+        let r = call_restore_runtime::restore_runtime_sound(self.parts);
         done_answer(r)
     }
 

@@ -13,15 +13,15 @@ use crate::IdsAnswer;
 use crate::StatusAnswer;
 use crate::SubmissionBook;
 use crate::WrittenAnswer;
-use book_data::Ids64;
-use book_data::OptionalAttempt;
-use book_data::OptionalHeight;
-use book_data::SubmissionFeeIntent;
-use drain_answers::SubmissionDrainFailure;
-use finalize_call::zero_finalized;
-use replies::CallAnswer;
-use replies::SubmissionAttemptStatus;
-use submitted::DrainedSubmission;
+use book::Ids64;
+use book::OptionalAttempt;
+use book::OptionalHeight;
+use book::SubmissionFeeIntent;
+use call_finalize_attempt::zero_finalized;
+use part_drain_answers::SubmissionDrainFailure;
+use part_replies::CallAnswer;
+use part_replies::SubmissionAttemptStatus;
+use part_submitted::DrainedSubmission;
 
 pub fn done_refused(book: SubmissionBook, n: u8) -> DoneAnswer
     ensures { λ r. ⌜ r ≡ doneGiven book (undone n) ⌝ }

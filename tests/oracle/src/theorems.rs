@@ -314,15 +314,15 @@ const USES: [(&str, &str); 17] = [
     ("mathlib.Core.Path", "_≡_ refl"),
     ("Prim.Native.Nat", "ℕ"),
     ("lib.ListN", "replicate"),
-    ("Rattle.book_data.specs.Model", "Book"),
-    ("Rattle.book_data.specs.Zero", "zeros zeroOutput zeroSpend zeroBundle zeroHash zeroAttempt noAttempt baseVariant"),
-    ("Rattle.book_data.specs.declared.OptionalHeight.the-variants", "NoHeight"),
-    ("Rattle.book_data.specs.declared.OptionalId.the-variants", "NoId"),
-    ("Rattle.book_data.specs.declared.FeeIntentKind.the-variants", "AlreadyPaid NoFeeConfigured"),
-    ("Rattle.book_data.specs.declared.FeeResolution.the-variants", "Unresolved NotRequested Attached"),
-    ("Rattle.book_data.specs.declared.SubmissionChainTerminality.the-variants", "Active InputSpent Landed"),
-    ("Rattle.book_data.specs.declared.SubmissionDeliveryGoal.the-variants", "EnsureBroadcast FeeUpgrade"),
-    ("Rattle.book_data.specs.declared.DeliveryTrigger.the-variants", "Protocol FreshChain Rollback ProviderReadiness"),
+    ("Rattle.book.specs.Model", "Book"),
+    ("Rattle.book.specs.Zero", "zeros zeroOutput zeroSpend zeroBundle zeroHash zeroAttempt noAttempt baseVariant"),
+    ("Rattle.book.specs.declared.OptionalHeight.the-variants", "NoHeight"),
+    ("Rattle.book.specs.declared.OptionalId.the-variants", "NoId"),
+    ("Rattle.book.specs.declared.FeeIntentKind.the-variants", "AlreadyPaid NoFeeConfigured"),
+    ("Rattle.book.specs.declared.FeeResolution.the-variants", "Unresolved NotRequested Attached"),
+    ("Rattle.book.specs.declared.SubmissionChainTerminality.the-variants", "Active InputSpent Landed"),
+    ("Rattle.book.specs.declared.SubmissionDeliveryGoal.the-variants", "EnsureBroadcast FeeUpgrade"),
+    ("Rattle.book.specs.declared.DeliveryTrigger.the-variants", "Protocol FreshChain Rollback ProviderReadiness"),
     (
         "Rattle.rules.specs.Call",
         "Call NoSource Joined JoinFailed SourceFailed NoRetainedState FeeIntentDiffers InvalidRetainedState IntentDiffers \
@@ -347,12 +347,12 @@ fn uses(text: &str, shared: &str) -> String {
             false => format!("use {module}.{{{}}}\n", names.join(", ")),
         }
     };
-    let pieces = line(("Rattle.recorded_lists.specs.Pieces", PIECES));
-    let shared = line(("Rattle.recorded_lists.specs.Shared", shared));
+    let pieces = line(("Rattle.rules_recorded_lists.specs.Pieces", PIECES));
+    let shared = line(("Rattle.rules_recorded_lists.specs.Shared", shared));
     let general: String = USES.into_iter().map(line).collect();
     let play =
-        "use Rattle.rules.specs.Opened.{opened}\nuse Rattle.recorded_lists.specs.Play.{play}\n";
-    format!("use Rattle.sha256.specs.Fips\n{general}{play}{pieces}{shared}")
+        "use Rattle.rules.specs.Opened.{opened}\nuse Rattle.rules_recorded_lists.specs.Play.{play}\n";
+    format!("use Rattle.base_sha256.specs.Fips\n{general}{play}{pieces}{shared}")
 }
 
 const UNFOLDING: &str =
@@ -397,9 +397,9 @@ use mathlib.Core.List.{List, [], _∷_, _++_}
 use Prim.Native.Nat.{ℕ}
 use lib.ListN.{replicate}
 use mathlib.Core.Bool.{true, false}
-use Rattle.book_data.specs.Zero.{zeros, zeroOutput, zeroSpend}
-use Rattle.book_data.specs.declared.SpendBundle.{SpendBundle}
-use Rattle.recorded_lists.specs.Pieces.{num, output, spend, unreadable, spendCells, bundleOf, bundleCells}
+use Rattle.book.specs.Zero.{zeros, zeroOutput, zeroSpend}
+use Rattle.book.specs.declared.SpendBundle.{SpendBundle}
+use Rattle.rules_recorded_lists.specs.Pieces.{num, output, spend, unreadable, spendCells, bundleOf, bundleCells}
 ";
 
 fn put(path: &Path, text: &str) {
@@ -407,11 +407,11 @@ fn put(path: &Path, text: &str) {
     fs::write(path, text).expect("a file");
 }
 
-/// Writes the chosen lists into the crate `recorded_lists`, with the names that they share, and
+/// Writes the chosen lists into the crate `rules_recorded_lists`, with the names that they share, and
 /// prints what is covered.
 pub fn write(seed: u64, bounds: &Bounds, crates: &Path, command: &str) {
     let chosen = choose((0..bounds.pool).map(|number| candidate(seed, number)).collect(), bounds);
-    let folder = crates.join("recorded_lists/specs");
+    let folder = crates.join("rules_recorded_lists/specs");
     let made = format!("-- Made by `{command}`.\n");
     let mut names = Names::default();
     let mut table = Table::default();

@@ -1,5 +1,5 @@
 -- Every cell is zero.
-use Rattle.book_data.specs.Model.{back}
+use Rattle.book.specs.Model.{back}
 use Rattle.archive_read.specs.Archive.{zeroBook}
 use borrow.Author.Needs.{needs}
 use Rattle.archive_read.proofs.zero_book.Statement.{statement}

@@ -3,9 +3,9 @@ use native.Mathlib.Omega.{arith}
 use mathlib.Core.Path.{_≡_, ap}
 use Prim.Native.Nat.{_-_, _≤_}
 use lib.ListN.{length}
-use Rattle.lists.specs.Laws.{take-cut}
-use Rattle.wire.specs.Wire.{encMany}
-use Rattle.wire.specs.Puts.{size-as, Sizing, sizing-start, sizing-more, sizing-done}
+use Rattle.base_lists.specs.Laws.{take-cut}
+use Rattle.codec_forms.specs.Wire.{encMany}
+use Rattle.codec_forms.specs.Puts.{size-as, Sizing, sizing-start, sizing-more, sizing-done}
 use Rattle.archive_form.specs.Encode.{encodeSubmitted}
 use Rattle.archive_size.proofs.size_submissions.Statement.{statement}
 use Rattle.archive_size.proofs.size_submissions.Tie as tie

@@ -1,6 +1,6 @@
 -- The loop carries `Fits` of the elements so far.
-use Rattle.wire.specs.Wire.{encMany}
-use Rattle.append.specs.Fits.{Fits, each-start, each-more, each-done}
+use Rattle.codec_forms.specs.Wire.{encMany}
+use Rattle.codec_append.specs.Fits.{Fits, each-start, each-more, each-done}
 use Rattle.archive_form.specs.Encode.{encodeSubmitted}
 use borrow.Author.Needs.{needs}
 use native.Mathlib.Omega.{arith}

@@ -1,6 +1,6 @@
 -- The loop carries `Fits` of the elements so far.
-use Rattle.wire.specs.Wire.{be, encMany}
-use Rattle.append.specs.Fits.{Fits, fits-join, fits-as, each-start, each-more}
+use Rattle.codec_forms.specs.Wire.{be, encMany}
+use Rattle.codec_append.specs.Fits.{Fits, fits-join, fits-as, each-start, each-more}
 use Rattle.archive_write.specs.Sections.{list-form, whole-list, count-byte}
 use borrow.Author.Needs.{needs}
 use native.Mathlib.Omega.{arith}

@@ -1,5 +1,5 @@
 -- Each item follows the one before it (`fits-join`).
-use Rattle.append.specs.Fits.{fits-join}
+use Rattle.codec_append.specs.Fits.{fits-join}
 use borrow.Author.Needs.{needs}
 use Rattle.archive_write.proofs.write_numbers.Statement.{statement}
 use Rattle.archive_write.proofs.write_numbers.Tie as tie

@@ -1,7 +1,7 @@
 -- Each item follows the one before it (`fits-join`).
-use Rattle.lists.specs.Laws.{count-cut}
-use Rattle.wire.specs.Wire.{be}
-use Rattle.append.specs.Fits.{fits-join, fits-as}
+use Rattle.base_lists.specs.Laws.{count-cut}
+use Rattle.codec_forms.specs.Wire.{be}
+use Rattle.codec_append.specs.Fits.{fits-join, fits-as}
 use Rattle.archive_form.specs.Encode.{encodeDelivery}
 use Rattle.archive_write.specs.Sections.{list-form}
 use borrow.Author.Needs.{needs}

@@ -1,4 +1,4 @@
-use Rattle.book_data.specs.Sound.{readableBundle}
+use Rattle.book.specs.Sound.{readableBundle}
 use borrow.Author.Needs.{needs}
 use Rattle.book_sound.proofs.is_readable_bundle.Statement.{statement}
 use Rattle.book_sound.proofs.is_readable_bundle.Tie as tie

@@ -1,4 +1,4 @@
-use Rattle.book_data.specs.Sound.{soundb}
+use Rattle.book.specs.Sound.{soundb}
 use borrow.Author.Needs.{needs}
 use Rattle.book_sound.proofs.is_sound.Statement.{statement}
 use Rattle.book_sound.proofs.is_sound.Tie as tie

@@ -1,5 +1,5 @@
-use Rattle.book_data.specs.Sound.{soundAttempt}
-use Rattle.book_data.specs.Counted.{chose-first, chose-second}
+use Rattle.book.specs.Sound.{soundAttempt}
+use Rattle.book.specs.Counted.{chose-first, chose-second}
 use borrow.Author.Needs.{needs}
 use Rattle.book_sound.proofs.is_sound_attempt.Statement.{statement}
 use Rattle.book_sound.proofs.is_sound_attempt.Tie as tie

@@ -1,6 +1,6 @@
-use Rattle.book_data.specs.Zero.{isZeroSpend}
-use Rattle.book_data.specs.Sound.{soundBundle, soundSpend}
-use Rattle.lists.specs.Lists.{allb, tailOf}
+use Rattle.book.specs.Zero.{isZeroSpend}
+use Rattle.book.specs.Sound.{soundBundle, soundSpend}
+use Rattle.base_lists.specs.Lists.{allb, tailOf}
 use borrow.Author.Needs.{needs}
 use mathlib.Core.Bool.{Bool, _&&_, and-assoc}
 use mathlib.Core.Path.{sym, ap, _∙_}

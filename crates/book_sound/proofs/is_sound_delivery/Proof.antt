@@ -1,4 +1,4 @@
-use Rattle.book_data.specs.Sound.{soundDelivery}
+use Rattle.book.specs.Sound.{soundDelivery}
 use borrow.Author.Needs.{needs}
 use Rattle.book_sound.proofs.is_sound_delivery.Statement.{statement}
 use Rattle.book_sound.proofs.is_sound_delivery.Tie as tie

@@ -1,4 +1,4 @@
-use Rattle.book_data.specs.Sound.{soundEntry}
+use Rattle.book.specs.Sound.{soundEntry}
 use borrow.Author.Needs.{needs}
 use Rattle.book_sound.proofs.is_sound_entry.Statement.{statement}
 use Rattle.book_sound.proofs.is_sound_entry.Tie as tie

@@ -1,4 +1,4 @@
-use Rattle.book_data.specs.Sound.{soundFeeIntent}
+use Rattle.book.specs.Sound.{soundFeeIntent}
 use borrow.Author.Needs.{needs}
 use Rattle.book_sound.proofs.is_sound_fee_intent.Statement.{statement}
 use Rattle.book_sound.proofs.is_sound_fee_intent.Tie as tie

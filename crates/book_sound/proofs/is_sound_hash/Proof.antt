@@ -1,4 +1,4 @@
-use Rattle.book_data.specs.Sound.{soundHash}
+use Rattle.book.specs.Sound.{soundHash}
 use borrow.Author.Needs.{needs}
 use Rattle.book_sound.proofs.is_sound_hash.Statement.{statement}
 use Rattle.book_sound.proofs.is_sound_hash.Tie as tie

@@ -1,4 +1,4 @@
-use Rattle.book_data.specs.Sound.{soundIntent}
+use Rattle.book.specs.Sound.{soundIntent}
 use borrow.Author.Needs.{needs}
 use Rattle.book_sound.proofs.is_sound_intent.Statement.{statement}
 use Rattle.book_sound.proofs.is_sound_intent.Tie as tie

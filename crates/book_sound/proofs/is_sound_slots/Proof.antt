@@ -1,4 +1,4 @@
-use Rattle.book_data.specs.Sound.{soundSlots}
+use Rattle.book.specs.Sound.{soundSlots}
 use borrow.Author.Needs.{needs}
 use Rattle.book_sound.proofs.is_sound_slots.Statement.{statement}
 use Rattle.book_sound.proofs.is_sound_slots.Tie as tie

@@ -1,4 +1,4 @@
-use Rattle.book_data.specs.Sound.{soundSpend}
+use Rattle.book.specs.Sound.{soundSpend}
 use borrow.Author.Needs.{needs}
 use Rattle.book_sound.proofs.is_sound_spend.Statement.{statement}
 use Rattle.book_sound.proofs.is_sound_spend.Tie as tie

@@ -1,4 +1,4 @@
-use Rattle.book_data.specs.Sound.{soundSubmitted}
+use Rattle.book.specs.Sound.{soundSubmitted}
 use borrow.Author.Needs.{needs}
 use Rattle.book_sound.proofs.is_sound_submitted.Statement.{statement}
 use Rattle.book_sound.proofs.is_sound_submitted.Tie as tie

@@ -1,5 +1,5 @@
-use Rattle.book_data.specs.Sound.{soundVariant}
-use Rattle.book_data.specs.Counted.{chose-first, chose-second}
+use Rattle.book.specs.Sound.{soundVariant}
+use Rattle.book.specs.Counted.{chose-first, chose-second}
 use borrow.Author.Needs.{needs}
 use Rattle.book_sound.proofs.is_sound_variant.Statement.{statement}
 use Rattle.book_sound.proofs.is_sound_variant.Tie as tie

@@ -1,7 +1,7 @@
 use native.Mathlib.Nat.{min-le-right}
-use Rattle.lists.specs.Lists.{allb}
-use Rattle.lists.specs.Laws.{all-turn, all-done, counted-step, counted-end, take-cut}
-use Rattle.book_data.specs.declared.CoinSpend.{CoinSpend}
+use Rattle.base_lists.specs.Lists.{allb}
+use Rattle.base_lists.specs.Laws.{all-turn, all-done, counted-step, counted-end, take-cut}
+use Rattle.book.specs.declared.CoinSpend.{CoinSpend}
 use borrow.Author.Needs.{needs}
 use mathlib.Core.Path.{_≡_, refl, ap, _∙_}
 use mathlib.Core.Bool.{Bool, _&&_}

@@ -1,4 +1,4 @@
-use Rattle.book_data.specs.Sound.{soundCells}
+use Rattle.book.specs.Sound.{soundCells}
 use borrow.Author.Needs.{needs}
 use Rattle.book_sound.proofs.sound_cells.Statement.{statement}
 use Rattle.book_sound.proofs.sound_cells.Tie as tie

@@ -1,8 +1,8 @@
 use lib.Dec.{ltb}
-use Rattle.lists.specs.Lists.{allb, elemb, distinctb}
-use Rattle.lists.specs.Laws.{take-cells}
-use Rattle.book_data.specs.Sound.{soundLists, idOf}
-use Rattle.book_data.specs.Model.{view, list16}
+use Rattle.base_lists.specs.Lists.{allb, elemb, distinctb}
+use Rattle.base_lists.specs.Laws.{take-cells}
+use Rattle.book.specs.Sound.{soundLists, idOf}
+use Rattle.book.specs.Model.{view, list16}
 use borrow.Author.Needs.{needs}
 use mathlib.Core.Path.{_≡_, ap, _∙_}
 use mathlib.Core.Bool.{_&&_}

@@ -1,5 +1,5 @@
-use Rattle.book_data.specs.Zero.{isZeroSpend}
-use Rattle.book_data.specs.Sound.{soundSpend}
+use Rattle.book.specs.Zero.{isZeroSpend}
+use Rattle.book.specs.Sound.{soundSpend}
 use borrow.Author.Needs.{needs}
 use mathlib.Core.Path.{_≡_}
 use mathlib.Core.Bool.{_&&_}

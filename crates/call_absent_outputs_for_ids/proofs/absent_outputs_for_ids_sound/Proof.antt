@@ -1,8 +1,8 @@
 -- Too many ids and a bad list are refused, else the outputs laid out are written as the rules write them.
 use borrow.Author.Tests.{not-true, not-false}
-use Rattle.book_data.specs.Model.{view}
-use Rattle.book_cells.specs.Normal.{sound-normal}
-use Rattle.written_answers.specs.Answers.{answers-as, refused-is, front}
+use Rattle.book.specs.Model.{view}
+use Rattle.part_lookup.specs.Normal.{sound-normal}
+use Rattle.part_written_answers.specs.Answers.{answers-as, refused-is, front}
 use Rattle.call_absent_outputs_for_ids.specs.Outputs.{many-ids, outputs-bad, outputs-good}
 use borrow.Author.Needs.{needs}
 use native.Mathlib.Omega.{arith}

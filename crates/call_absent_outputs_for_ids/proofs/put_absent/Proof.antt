@@ -1,6 +1,6 @@
 -- Nothing is put, or the bundle's outputs that are listed, by whether the submission is listed.
 use borrow.Author.Tests.{not-true, not-false}
-use Rattle.coin_string.specs.CoinList.{coinsIn}
+use Rattle.base_coin_string.specs.CoinList.{coinsIn}
 use Rattle.call_absent_outputs_for_ids.specs.Outputs.{put-none-of, put-those-of}
 use mathlib.Core.Path.{sym, _∙_}
 use borrow.Author.Needs.{needs}

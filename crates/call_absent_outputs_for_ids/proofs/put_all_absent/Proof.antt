@@ -1,8 +1,8 @@
 -- The coins put so far, with the absent outputs of the submissions left, make the whole list.
-use Rattle.lists.specs.Laws.{counted-step, counted-end}
-use Rattle.coin_string.specs.CoinList.{coinsIn}
-use Rattle.book_data.specs.Model.{view}
-use Rattle.book_cells.specs.Normal.{sizes}
+use Rattle.base_lists.specs.Laws.{counted-step, counted-end}
+use Rattle.base_coin_string.specs.CoinList.{coinsIn}
+use Rattle.book.specs.Model.{view}
+use Rattle.part_lookup.specs.Normal.{sizes}
 use Rattle.call_absent_outputs_for_ids.specs.Outputs.{absentOfAll, Collecting, collecting-start, collecting-turn, collecting-done, short-of}
 use borrow.Author.Needs.{needs}
 use native.Mathlib.Omega.{arith}

@@ -1,6 +1,6 @@
 -- The epoch that `begin` answers is put into the book, by one law on what `begin` answers.
 use borrow.Author.Needs.{needs}
-use Rattle.book_cells.specs.Normal.{sound-normal}
+use Rattle.part_lookup.specs.Normal.{sound-normal}
 use Rattle.call_begin_replay.specs.Beginning.{begun-normal, begin-is}
 use Rattle.call_begin_replay.proofs.begin_replay_sound.Statement.{statement}
 use Rattle.call_begin_replay.proofs.begin_replay_sound.Tie as tie

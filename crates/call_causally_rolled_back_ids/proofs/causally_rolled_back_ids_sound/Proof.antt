@@ -1,10 +1,10 @@
 -- The tests of the lists decide between refusal 2 and the ids found, put in rising order.
 use borrow.Author.Tests.{not-true, not-false}
-use Rattle.coin_string.specs.CoinIds.{idsIn}
-use Rattle.coin_string.specs.CoinList.{coinsIn}
-use Rattle.book_data.specs.Model.{view}
-use Rattle.book_cells.specs.Normal.{sound-normal}
-use Rattle.replies.specs.Reply.{idsReply}
+use Rattle.base_coin_string.specs.CoinIds.{idsIn}
+use Rattle.base_coin_string.specs.CoinList.{coinsIn}
+use Rattle.book.specs.Model.{view}
+use Rattle.part_lookup.specs.Normal.{sound-normal}
+use Rattle.part_replies.specs.Reply.{idsReply}
 use Rattle.call_causally_rolled_back_ids.specs.RolledBack.{lists-told, found-count, up-count, up-ids, rolled-back-shut, rolled-back-reply}
 use mathlib.Core.Path.{ap, _∙_}
 use borrow.Author.Needs.{needs}

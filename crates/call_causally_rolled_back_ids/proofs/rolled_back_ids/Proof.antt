@@ -1,14 +1,14 @@
 -- The ids collected so far are those of the submissions passed that the chain has rolled back.
-use Rattle.lists.specs.Laws.{rest-step}
+use Rattle.base_lists.specs.Laws.{rest-step}
 use lib.ListN.{drop-of-length-le, length, drop}
-use Rattle.coin_string.specs.CoinIds.{idsIn}
-use Rattle.coin_string.specs.CoinList.{coinsIn}
-use Rattle.book_data.specs.Zero.{zeroSubmitted}
-use Rattle.book_data.specs.Model.{view}
-use Rattle.book_data.specs.Sound.{idOf}
-use Rattle.book_data.specs.declared.SubmittedTx.{SubmittedTx}
-use Rattle.book_cells.specs.Normal.{sound-normal, sizes, submitted-are}
-use Rattle.ids.specs.Collect.{Collecting, collect-start, collect-keep, collect-skip, collect-all}
+use Rattle.base_coin_string.specs.CoinIds.{idsIn}
+use Rattle.base_coin_string.specs.CoinList.{coinsIn}
+use Rattle.book.specs.Zero.{zeroSubmitted}
+use Rattle.book.specs.Model.{view}
+use Rattle.book.specs.Sound.{idOf}
+use Rattle.book.specs.declared.SubmittedTx.{SubmittedTx}
+use Rattle.part_lookup.specs.Normal.{sound-normal, sizes, submitted-are}
+use Rattle.part_ids.specs.Collect.{Collecting, collect-start, collect-keep, collect-skip, collect-all}
 use Rattle.call_causally_rolled_back_ids.specs.RolledBack.{isRolledBack}
 use borrow.Author.Needs.{needs}
 use native.Mathlib.Omega.{arith}

@@ -1,5 +1,5 @@
 -- The ids in the cells are the list that the rules hand out, and the book without them is what they leave.
-use Rattle.book_cells.specs.Normal.{sound-normal}
+use Rattle.part_lookup.specs.Normal.{sound-normal}
 use Rattle.call_drain_retirements.specs.Draining.{drain-is}
 use Rattle.call_drain_retirements.proofs.drain_retirements_sound.Statement.{statement}
 use Rattle.call_drain_retirements.proofs.drain_retirements_sound.Tie as tie

@@ -1,7 +1,7 @@
 -- One law for each of the two answers, told apart by whether the retirement would be a 65th.
 use borrow.Author.Needs.{needs}
 use mathlib.Core.Path.{_∙_}
-use Rattle.book_cells.specs.Normal.{sound-normal}
+use Rattle.part_lookup.specs.Normal.{sound-normal}
 use Rattle.call_emit_retirement.specs.Emitting.{emit-full, emit-is}
 use Rattle.call_emit_retirement.proofs.emit_retirement_sound.Statement.{statement}
 use Rattle.call_emit_retirement.proofs.emit_retirement_sound.Tie as tie

@@ -1,6 +1,6 @@
 -- The epoch that `finish_if_advanced` leaves is put into the book, by one law on what it leaves.
 use borrow.Author.Needs.{needs}
-use Rattle.book_cells.specs.Normal.{sound-normal}
+use Rattle.part_lookup.specs.Normal.{sound-normal}
 use Rattle.call_finish_replay_if_advanced.specs.Finishing.{finished-normal, finish-is}
 use Rattle.call_finish_replay_if_advanced.proofs.finish_replay_if_advanced_sound.Statement.{statement}
 use Rattle.call_finish_replay_if_advanced.proofs.finish_replay_if_advanced_sound.Tie as tie

@@ -1,10 +1,10 @@
 -- Refused 3 by the test of the delivery, else what `enqueue` ends with is settled.
 use mathlib.Core.Path.{sym, _∙_}
 use borrow.Author.Tests.{not-true, not-false}
-use Rattle.book_data.specs.Model.{view}
+use Rattle.book.specs.Model.{view}
 use Rattle.rules.specs.Steps.{runBook}
 use Rattle.rules.specs.Calls.Queue as rules
-use Rattle.offering.specs.Ends.{refused-is, settled-is}
+use Rattle.part_offer.specs.Ends.{refused-is, settled-is}
 use Rattle.call_queue.specs.Queueing.{queue-damaged, queue-taken}
 use borrow.Author.Needs.{needs}
 use Rattle.call_queue.proofs.queue_sound.Statement.{statement}

@@ -1,11 +1,11 @@
 -- The rules are those of the offer and an end of the turn, so what `offer` ends with is settled.
 use mathlib.Core.Path.{_∙_}
-use Rattle.book_data.specs.Model.{view}
+use Rattle.book.specs.Model.{view}
 use Rattle.rules.specs.Call.{noValue}
 use Rattle.rules.specs.Steps.{runBook}
 use Rattle.rules.specs.Calls.Offer as rules
 use Rattle.rules.specs.Calls.QueueRetainedDelivery.{queueRetainedDelivery}
-use Rattle.offering.specs.Ends.{ends-then, settled-is}
+use Rattle.part_offer.specs.Ends.{ends-then, settled-is}
 use borrow.Author.Needs.{needs}
 use Rattle.call_queue_retained_delivery.proofs.queue_retained_delivery_sound.Statement.{statement}
 use Rattle.call_queue_retained_delivery.proofs.queue_retained_delivery_sound.Tie as tie

@@ -1,5 +1,5 @@
 -- The submission stored halted is one fact, from which each later step of the rules is taken in turn.
-use Rattle.book_cells.specs.Normal.{sound-normal}
+use Rattle.part_lookup.specs.Normal.{sound-normal}
 use Rattle.call_reconcile_chain_terminality.specs.Halt.{stored-by, stored-normal, unmarked-normal, unqueued-normal, halted-by}
 use borrow.Author.Needs.{needs}
 use Rattle.call_reconcile_chain_terminality.proofs.halt.Statement.{statement}

@@ -1,14 +1,14 @@
 -- One law for each of the four ways that the tests leave, applied to the submission as it stands in the book.
-use Rattle.lists.specs.Lists.{elemb}
-use Rattle.coin_string.specs.CoinIds.{idsIn}
-use Rattle.coin_string.specs.CoinList.{coinsIn}
-use Rattle.book_data.specs.Zero.{zeroSubmitted}
-use Rattle.book_data.specs.Model.{view}
-use Rattle.book_data.specs.Sound.{idOf}
-use Rattle.book_data.specs.declared.SubmittedTx.{SubmittedTx}
-use Rattle.book_data.specs.declared.SubmissionChainTerminality.{SubmissionChainTerminality}
+use Rattle.base_lists.specs.Lists.{elemb}
+use Rattle.base_coin_string.specs.CoinIds.{idsIn}
+use Rattle.base_coin_string.specs.CoinList.{coinsIn}
+use Rattle.book.specs.Zero.{zeroSubmitted}
+use Rattle.book.specs.Model.{view}
+use Rattle.book.specs.Sound.{idOf}
+use Rattle.book.specs.declared.SubmittedTx.{SubmittedTx}
+use Rattle.book.specs.declared.SubmissionChainTerminality.{SubmissionChainTerminality}
 use Rattle.rules.specs.Calls.ReconcileChainTerminality.{outputObserved, inputSpent, spentAs, halt}
-use Rattle.book_cells.specs.Normal.{sound-normal}
+use Rattle.part_lookup.specs.Normal.{sound-normal}
 use Rattle.call_reconcile_chain_terminality.specs.Halt.{Judged, unchanged-by}
 use Rattle.call_reconcile_chain_terminality.specs.Judge.{test-of, as-landed, as-spent, as-active, as-before}
 use mathlib.Core.Path.{ap, _∙_, subst}

@@ -1,13 +1,13 @@
 -- The run of what is left to judge, over the book so far, is the whole run.
 use mathlib.Core.Bool.{true}
-use Rattle.coin_string.specs.CoinIds.{idsIn}
-use Rattle.coin_string.specs.CoinList.{coinsIn}
-use Rattle.book_data.specs.Model.{view}
-use Rattle.book_data.specs.Sound.{soundb}
+use Rattle.base_coin_string.specs.CoinIds.{idsIn}
+use Rattle.base_coin_string.specs.CoinList.{coinsIn}
+use Rattle.book.specs.Model.{view}
+use Rattle.book.specs.Sound.{soundb}
 use Rattle.rules.specs.Steps.{runBook}
 use Rattle.rules.specs.Calls.ReconcileChainTerminality.{judgeEach}
-use Rattle.replies.specs.Reply.{doneReply}
-use Rattle.book_cells.specs.Normal.{sound-normal, submitted-are}
+use Rattle.part_replies.specs.Reply.{doneReply}
+use Rattle.part_lookup.specs.Normal.{sound-normal, submitted-are}
 use Rattle.call_reconcile_chain_terminality.specs.Judge.{Left, left-over, left-turn, left-done, done-reply}
 use borrow.Author.Needs.{needs}
 use native.Mathlib.Omega.{arith}

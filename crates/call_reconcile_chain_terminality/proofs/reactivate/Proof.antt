@@ -1,5 +1,5 @@
 -- The submission stored Active at its place is the rules' revision by id.
-use Rattle.book_cells.specs.Normal.{sound-normal}
+use Rattle.part_lookup.specs.Normal.{sound-normal}
 use Rattle.call_reconcile_chain_terminality.specs.Halt.{reactivated-by}
 use borrow.Author.Needs.{needs}
 use Rattle.call_reconcile_chain_terminality.proofs.reactivate.Statement.{statement}

@@ -1,7 +1,7 @@
 -- The tests of the lists decide between refusal 2 and the run over all submissions, as in the rules.
 use borrow.Author.Tests.{not-true, not-false}
-use Rattle.book_data.specs.Model.{view}
-use Rattle.replies.specs.Reply.{doneReply}
+use Rattle.book.specs.Model.{view}
+use Rattle.part_replies.specs.Reply.{doneReply}
 use Rattle.call_reconcile_chain_terminality.specs.Judge.{lists-told, reconcile-open, reconcile-shut}
 use mathlib.Core.Path.{ap, _∙_}
 use borrow.Author.Needs.{needs}

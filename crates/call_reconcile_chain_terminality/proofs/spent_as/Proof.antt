@@ -1,6 +1,6 @@
 -- The rules' test is the code's, by what `is_landed` answers.
 use mathlib.Core.Bool.{Bool, not, cond, _&&_}
-use Rattle.book_data.specs.declared.SubmissionChainTerminality.the-variants.{InputSpent, Landed}
+use Rattle.book.specs.declared.SubmissionChainTerminality.the-variants.{InputSpent, Landed}
 use mathlib.Core.Path.{sym, ap, _∙_}
 use borrow.Author.Needs.{needs}
 use Rattle.call_reconcile_chain_terminality.proofs.spent_as.Statement.{statement}

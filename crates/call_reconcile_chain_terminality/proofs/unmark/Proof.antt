@@ -1,5 +1,5 @@
 -- The epoch without the id is normal, and putting it into the book is the rules' step.
-use Rattle.book_change.specs.ChangeLaws.{epoch-normal}
+use Rattle.part_change.specs.ChangeLaws.{epoch-normal}
 use Rattle.call_reconcile_chain_terminality.specs.Halt.{removed-normal, unmarked-by}
 use Rattle.call_reconcile_chain_terminality.proofs.unmark.Statement.{statement}
 use Rattle.call_reconcile_chain_terminality.proofs.unmark.Tie as tie

@@ -1,10 +1,10 @@
 -- The coins gathered so far, with those of the submissions left, make the whole list.
-use Rattle.lists.specs.Laws.{counted-step, counted-end}
-use Rattle.lists.specs.Lists.{filterb, flatMap}
-use Rattle.coin_string.specs.CoinList.{coinsIn}
-use Rattle.book_data.specs.Model.{view}
-use Rattle.book_data.specs.declared.SubmittedTx.{SubmittedTx}
-use Rattle.book_cells.specs.Normal.{sizes}
+use Rattle.base_lists.specs.Laws.{counted-step, counted-end}
+use Rattle.base_lists.specs.Lists.{filterb, flatMap}
+use Rattle.base_coin_string.specs.CoinList.{coinsIn}
+use Rattle.book.specs.Model.{view}
+use Rattle.book.specs.declared.SubmittedTx.{SubmittedTx}
+use Rattle.part_lookup.specs.Normal.{sizes}
 use Rattle.rules.specs.CoinLists.{risingCoins}
 use Rattle.rules.specs.Calls.ReconciliationInputCoins.{isReconciled}
 use Rattle.call_reconciliation_input_coins.specs.Inputs.{inputsOf, Gathering, gathering-start, gathering-turn, gathering-done, to-reconcile}

@@ -1,6 +1,6 @@
 -- The rules ask whether the submission has landed and whether an output is listed, and so does the code.
 use borrow.Author.Tests.{not-true, not-false}
-use Rattle.coin_string.specs.CoinList.{coinsIn}
+use Rattle.base_coin_string.specs.CoinList.{coinsIn}
 use Rattle.call_reconciliation_input_coins.specs.Inputs.{not-landed, landed}
 use mathlib.Core.Path.{sym, _∙_}
 use borrow.Author.Needs.{needs}

@@ -1,10 +1,10 @@
 -- A bad list is refused, else the coins gathered are laid out and written as the rules write them.
 use borrow.Author.Tests.{not-true, not-false}
-use Rattle.book_data.specs.Model.{view}
-use Rattle.book_cells.specs.Normal.{sound-normal}
-use Rattle.wire.specs.Wire.{encMany}
+use Rattle.book.specs.Model.{view}
+use Rattle.part_lookup.specs.Normal.{sound-normal}
+use Rattle.codec_forms.specs.Wire.{encMany}
 use Rattle.rules.specs.CoinLists.{encodeCoin}
-use Rattle.written_answers.specs.Answers.{answers-as, refused-is, front}
+use Rattle.part_written_answers.specs.Answers.{answers-as, refused-is, front}
 use Rattle.call_reconciliation_input_coins.specs.Inputs.{inputs-bad, inputs-good}
 use borrow.Author.Needs.{needs}
 use native.Mathlib.Omega.{arith}

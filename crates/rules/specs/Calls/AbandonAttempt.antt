@@ -1,7 +1,7 @@
 -- `abandon_attempt`: the submission of a live token is removed.
 use Prim.Native.Nat.{ℕ}
-use Rattle.book_data.specs.declared.SubmittedTx.{SubmittedTx}
-use Rattle.book_data.specs.Sound.{idOf}
+use Rattle.book.specs.declared.SubmittedTx.{SubmittedTx}
+use Rattle.book.specs.Sound.{idOf}
 use Rattle.rules.specs.Call.{Applied, Stale, Value, statusIs}
 use Rattle.rules.specs.Calls.Common.{withLive, withdraw}
 use Rattle.rules.specs.Rule.{done, Rule, _>>=_, _>>_, endTurn}

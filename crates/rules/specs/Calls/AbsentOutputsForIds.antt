@@ -2,11 +2,11 @@
 use Prim.Native.Nat.{ℕ}
 use mathlib.Core.Bool.{cond, _&&_}
 use mathlib.Core.List.{List}
-use Rattle.lists.specs.Lists.{filterb, flatMap, elemb}
-use Rattle.coin_string.specs.CoinList.{coinsIn, coinListb}
-use Rattle.book_data.specs.declared.SubmittedEntry.{SubmittedEntry}
-use Rattle.book_data.specs.Sound.{idOf}
-use Rattle.bundle_coins.specs.Coins.{expectedOutputCoins}
+use Rattle.base_lists.specs.Lists.{filterb, flatMap, elemb}
+use Rattle.base_coin_string.specs.CoinList.{coinsIn, coinListb}
+use Rattle.book.specs.declared.SubmittedEntry.{SubmittedEntry}
+use Rattle.book.specs.Sound.{idOf}
+use Rattle.book_coins.specs.Coins.{expectedOutputCoins}
 use Rattle.rules.specs.Call.{Value}
 use Rattle.rules.specs.Calls.Common.{writing}
 use Rattle.rules.specs.CoinLists.{encodeCoins}

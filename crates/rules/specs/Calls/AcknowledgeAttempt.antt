@@ -1,9 +1,9 @@
 -- `acknowledge_attempt`: refusals 4, 6, 8; "Acknowledging also drops queue entries of that id."
 use Prim.Native.Nat.{ℕ}
 use mathlib.Core.Bool.{cond, not}
-use Rattle.lists.specs.Bytes.{eqs}
-use Rattle.book_data.specs.declared.SubmittedTx.{SubmittedTx}
-use Rattle.book_data.specs.Sound.{idOf}
+use Rattle.base_lists.specs.Bytes.{eqs}
+use Rattle.book.specs.declared.SubmittedTx.{SubmittedTx}
+use Rattle.book.specs.Sound.{idOf}
 use Rattle.rules.specs.Call.{Applied, Stale, Value, statusIs}
 use Rattle.rules.specs.Calls.Common.{withLive}
 use Rattle.rules.specs.Parts.{currentFingerprint}

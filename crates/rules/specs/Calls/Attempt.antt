@@ -1,7 +1,7 @@
 -- `attempt`: the live attempt of a token, or none; it has no refusal 4.
 use Prim.Native.Nat.{ℕ}
 use mathlib.Core.Option.{Option, none, some}
-use Rattle.book_data.specs.declared.DeliveryAttempt.{DeliveryAttempt}
+use Rattle.book.specs.declared.DeliveryAttempt.{DeliveryAttempt}
 use Rattle.rules.specs.Call.{Value, attemptIs}
 use Rattle.rules.specs.Calls.Common.{Found, live, aside, gone, neverIssued, find}
 use Rattle.rules.specs.Rule.{done, Rule, _>>=_, _>>_, book}

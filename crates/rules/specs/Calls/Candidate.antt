@@ -4,15 +4,15 @@ use mathlib.Core.Bool.{cond, not}
 use mathlib.Core.List.{List, [], _∷_, map}
 use mathlib.Core.Option.{Option, none, some}
 use lib.Dec.{eqb}
-use Rattle.lists.specs.Bytes.{eqs}
-use Rattle.lists.specs.Lists.{filterb, elemb}
-use Rattle.book_data.specs.declared.SubmittedTx.{SubmittedTx}
-use Rattle.book_data.specs.declared.PendingDelivery.{PendingDelivery}
-use Rattle.book_data.specs.declared.OptionalId.{OptionalId}
-use Rattle.book_data.specs.declared.OptionalId.the-variants.{NoId, Of}
-use Rattle.book_data.specs.declared.SubmissionDeliveryGoal.{SubmissionDeliveryGoal}
-use Rattle.book_data.specs.Model.{Book}
-use Rattle.book_data.specs.Sound.{readableBundle, idOf}
+use Rattle.base_lists.specs.Bytes.{eqs}
+use Rattle.base_lists.specs.Lists.{filterb, elemb}
+use Rattle.book.specs.declared.SubmittedTx.{SubmittedTx}
+use Rattle.book.specs.declared.PendingDelivery.{PendingDelivery}
+use Rattle.book.specs.declared.OptionalId.{OptionalId}
+use Rattle.book.specs.declared.OptionalId.the-variants.{NoId, Of}
+use Rattle.book.specs.declared.SubmissionDeliveryGoal.{SubmissionDeliveryGoal}
+use Rattle.book.specs.Model.{Book}
+use Rattle.book.specs.Sound.{readableBundle, idOf}
 use Rattle.rules.specs.Call.{Cause, NoRetainedState, IdCollides, OutputsUnreadable, IdsExhausted}
 use Rattle.rules.specs.Calls.Common.{withdraw}
 use Rattle.rules.specs.Calls.Plan.{Memory, withEmitted, withRemoved, withFailure, last64, missOf, wanted}

@@ -2,14 +2,14 @@
 use Prim.Native.Nat.{ℕ}
 use mathlib.Core.Bool.{Bool, cond, not, _&&_, _||_}
 use mathlib.Core.List.{List, map}
-use Rattle.lists.specs.Lists.{allb, anyb, filterb, rising}
-use Rattle.coin_string.specs.Coin.{coinIdOf}
-use Rattle.coin_string.specs.CoinIds.{idListb, idsIn}
-use Rattle.coin_string.specs.CoinList.{coinsIn, coinListb}
-use Rattle.book_data.specs.declared.SpendBundle.{SpendBundle}
-use Rattle.book_data.specs.declared.SubmittedEntry.{SubmittedEntry}
-use Rattle.book_data.specs.Sound.{idOf}
-use Rattle.bundle_coins.specs.Coins.{inputCoinIds, expectedOutputCoins}
+use Rattle.base_lists.specs.Lists.{allb, anyb, filterb, rising}
+use Rattle.base_coin_string.specs.Coin.{coinIdOf}
+use Rattle.base_coin_string.specs.CoinIds.{idListb, idsIn}
+use Rattle.base_coin_string.specs.CoinList.{coinsIn, coinListb}
+use Rattle.book.specs.declared.SpendBundle.{SpendBundle}
+use Rattle.book.specs.declared.SubmittedEntry.{SubmittedEntry}
+use Rattle.book.specs.Sound.{idOf}
+use Rattle.book_coins.specs.Coins.{inputCoinIds, expectedOutputCoins}
 use Rattle.rules.specs.Call.{Value, idsAre}
 use Rattle.rules.specs.Doors.{among}
 use Rattle.rules.specs.Parts.{activeEntry, isInputSpent}

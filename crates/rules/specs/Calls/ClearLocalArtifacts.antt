@@ -1,7 +1,7 @@
 -- `clear_local_artifacts`: every submission is removed and retired, rising; queue and replay epoch are cleared.
 use mathlib.Core.List.{map}
-use Rattle.lists.specs.Lists.{rising}
-use Rattle.book_data.specs.Sound.{idOf}
+use Rattle.base_lists.specs.Lists.{rising}
+use Rattle.book.specs.Sound.{idOf}
 use Rattle.rules.specs.Call.{Value, noValue}
 use Rattle.rules.specs.Calls.Common.{withdrawEach}
 use Rattle.rules.specs.Rule.{done, unqueueAll, endEpoch, note, Rule, _>>=_, _>>_, book, step}

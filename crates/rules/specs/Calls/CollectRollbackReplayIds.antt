@@ -2,11 +2,11 @@
 use Prim.Native.Nat.{ℕ}
 use mathlib.Core.Bool.{cond}
 use mathlib.Core.List.{List, [], _∷_, map}
-use Rattle.lists.specs.Lists.{filterb, elemb}
-use Rattle.book_data.specs.declared.SubmissionDeliveryGoal.the-variants.{EnsureBroadcast}
-use Rattle.book_data.specs.declared.DeliveryTrigger.the-variants.{Rollback}
-use Rattle.book_data.specs.Model.{Book}
-use Rattle.book_data.specs.Sound.{idOf}
+use Rattle.base_lists.specs.Lists.{filterb, elemb}
+use Rattle.book.specs.declared.SubmissionDeliveryGoal.the-variants.{EnsureBroadcast}
+use Rattle.book.specs.declared.DeliveryTrigger.the-variants.{Rollback}
+use Rattle.book.specs.Model.{Book}
+use Rattle.book.specs.Sound.{idOf}
 use Rattle.rules.specs.Call.{Value, noValue}
 use Rattle.rules.specs.Calls.Offer.{offer}
 use Rattle.rules.specs.Doors.{idsOk}

@@ -4,10 +4,10 @@ use mathlib.Core.Bool.{Bool, true, false, cond, _&&_}
 use mathlib.Core.List.{List, [], _∷_}
 use lib.Dec.{eqb, ltb, leb}
 use lib.ListN.{length, set}
-use Rattle.lists.specs.Lists.{anyb, filterb}
-use Rattle.book_data.specs.declared.OptionalAttempt.{OptionalAttempt}
-use Rattle.book_data.specs.declared.SubmittedTx.{SubmittedTx}
-use Rattle.book_data.specs.Model.{Book}
+use Rattle.base_lists.specs.Lists.{anyb, filterb}
+use Rattle.book.specs.declared.OptionalAttempt.{OptionalAttempt}
+use Rattle.book.specs.declared.SubmittedTx.{SubmittedTx}
+use Rattle.book.specs.Model.{Book}
 use Rattle.rules.specs.Call.{Value, written}
 use Rattle.rules.specs.Rule.{done, retire, note, remove, Rule, undo, _>>=_, _>>_, book, step, endTurn}
 

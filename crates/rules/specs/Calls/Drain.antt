@@ -2,10 +2,10 @@
 use Prim.Native.Nat.{ℕ, suc}
 use mathlib.Core.Bool.{Bool, false, cond}
 use mathlib.Core.List.{List, [], _∷_}
-use Rattle.lists.specs.Lists.{elemb}
-use Rattle.book_data.specs.declared.PendingDelivery.{PendingDelivery}
-use Rattle.book_data.specs.declared.OptionalId.{OptionalId}
-use Rattle.book_data.specs.declared.OptionalId.the-variants.{NoId, Of}
+use Rattle.base_lists.specs.Lists.{elemb}
+use Rattle.book.specs.declared.PendingDelivery.{PendingDelivery}
+use Rattle.book.specs.declared.OptionalId.{OptionalId}
+use Rattle.book.specs.declared.OptionalId.the-variants.{NoId, Of}
 use Rattle.rules.specs.Call.{Value, failures}
 use Rattle.rules.specs.Calls.Candidate.{candidate}
 use Rattle.rules.specs.Calls.Plan.{Memory, blank}

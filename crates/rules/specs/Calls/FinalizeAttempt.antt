@@ -2,11 +2,11 @@
 use Prim.Native.Nat.{ℕ}
 use mathlib.Core.Bool.{Bool, true, false, cond, not}
 use mathlib.Core.Option.{none, some}
-use Rattle.lists.specs.Bytes.{eqs}
-use Rattle.book_data.specs.declared.SpendBundle.{SpendBundle}
-use Rattle.book_data.specs.declared.SubmittedTx.{SubmittedTx}
-use Rattle.book_data.specs.Sound.{soundBundle, idOf}
-use Rattle.book_data.specs.Zero.{isZeroBundle}
+use Rattle.base_lists.specs.Bytes.{eqs}
+use Rattle.book.specs.declared.SpendBundle.{SpendBundle}
+use Rattle.book.specs.declared.SubmittedTx.{SubmittedTx}
+use Rattle.book.specs.Sound.{soundBundle, idOf}
+use Rattle.book.specs.Zero.{isZeroBundle}
 use Rattle.rules.specs.Call.{FeeSource, NoSource, Joined, JoinFailed, SourceFailed, FinalizedSubmission, Value, finalized}
 use Rattle.rules.specs.Calls.Common.{withLive}
 use Rattle.rules.specs.Calls.Finalized.{unusedFee, currentFinal, attachedFinal}

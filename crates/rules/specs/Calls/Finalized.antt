@@ -1,10 +1,10 @@
 -- `FinalizedSubmission`, as `finalize_attempt` answers it.
 use mathlib.Core.Bool.{true, false, not, _&&_}
-use Rattle.book_data.specs.declared.SpendBundle.{SpendBundle}
-use Rattle.book_data.specs.declared.SubmittedEntry.{SubmittedEntry}
-use Rattle.book_data.specs.declared.SubmissionDeliveryGoal.{SubmissionDeliveryGoal}
-use Rattle.book_data.specs.Zero.{isEnsureBroadcast}
-use Rattle.spend.specs.Forms.{variantFingerprint}
+use Rattle.book.specs.declared.SpendBundle.{SpendBundle}
+use Rattle.book.specs.declared.SubmittedEntry.{SubmittedEntry}
+use Rattle.book.specs.declared.SubmissionDeliveryGoal.{SubmissionDeliveryGoal}
+use Rattle.book.specs.Zero.{isEnsureBroadcast}
+use Rattle.archive_bundle_form.specs.Forms.{variantFingerprint}
 use Rattle.rules.specs.Call.{FeeAttached, FeeUnused, FeeNotRequested, FinalizedSubmission}
 use Rattle.rules.specs.Parts.{currentBundle, currentAppliedFee, currentFingerprint, holdsHash, currentAcknowledged}
 

@@ -3,11 +3,11 @@ use Prim.Native.Nat.{ℕ}
 use mathlib.Core.Bool.{Bool, cond, not, _&&_}
 use mathlib.Core.List.{List, [], _∷_, _++_}
 use mathlib.Core.Option.{Option, none, some}
-use Rattle.lists.specs.Bytes.{eqs}
-use Rattle.book_data.specs.declared.SubmittedEntry.{SubmittedEntry}
-use Rattle.book_data.specs.declared.PendingSubmissionIntent.{PendingSubmissionIntent}
-use Rattle.book_data.specs.declared.SubmissionDeliveryGoal.{SubmissionDeliveryGoal}
-use Rattle.book_data.specs.Zero.{isEnsureBroadcast}
+use Rattle.base_lists.specs.Bytes.{eqs}
+use Rattle.book.specs.declared.SubmittedEntry.{SubmittedEntry}
+use Rattle.book.specs.declared.PendingSubmissionIntent.{PendingSubmissionIntent}
+use Rattle.book.specs.declared.SubmissionDeliveryGoal.{SubmissionDeliveryGoal}
+use Rattle.book.specs.Zero.{isEnsureBroadcast}
 use Rattle.rules.specs.Call.{Cause, FeeIntentDiffers, InvalidRetainedState, IntentDiffers, Failure}
 use Rattle.rules.specs.Parts.{currentAcknowledged, feeUnresolved, activeEntry, sameFeeIntent, validate}
 

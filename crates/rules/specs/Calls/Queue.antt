@@ -1,7 +1,7 @@
 -- `queue`: a delivery goes to the end of the queue. Refusal 3 for what is out of range or damaged in an unused cell.
 use mathlib.Core.Bool.{cond}
-use Rattle.book_data.specs.declared.PendingDelivery.{PendingDelivery}
-use Rattle.book_data.specs.Sound.{soundDelivery}
+use Rattle.book.specs.declared.PendingDelivery.{PendingDelivery}
+use Rattle.book.specs.Sound.{soundDelivery}
 use Rattle.rules.specs.Call.{Value, noValue}
 use Rattle.rules.specs.Rule.{done, enqueue, note, Rule, undo, _>>=_, _>>_, step, endTurn}
 

@@ -1,11 +1,11 @@
 -- `queue_fee_readiness`: every Active submission with an unresolved fee is offered, in retained order.
 use mathlib.Core.Bool.{_&&_}
 use mathlib.Core.List.{List, [], _∷_}
-use Rattle.lists.specs.Lists.{filterb}
-use Rattle.book_data.specs.declared.SubmittedTx.{SubmittedTx}
-use Rattle.book_data.specs.declared.DeliveryTrigger.{DeliveryTrigger}
-use Rattle.book_data.specs.declared.DeliveryTrigger.the-variants.{ProviderReadiness}
-use Rattle.book_data.specs.Sound.{idOf}
+use Rattle.base_lists.specs.Lists.{filterb}
+use Rattle.book.specs.declared.SubmittedTx.{SubmittedTx}
+use Rattle.book.specs.declared.DeliveryTrigger.{DeliveryTrigger}
+use Rattle.book.specs.declared.DeliveryTrigger.the-variants.{ProviderReadiness}
+use Rattle.book.specs.Sound.{idOf}
 use Rattle.rules.specs.Call.{Value, noValue}
 use Rattle.rules.specs.Calls.Offer.{offer, goalFor}
 use Rattle.rules.specs.Parts.{feeUnresolved, activeEntry}

@@ -1,7 +1,7 @@
 -- `queue_retained_delivery`, as a call.
 use Prim.Native.Nat.{ℕ}
-use Rattle.book_data.specs.declared.SubmissionDeliveryGoal.{SubmissionDeliveryGoal}
-use Rattle.book_data.specs.declared.DeliveryTrigger.{DeliveryTrigger}
+use Rattle.book.specs.declared.SubmissionDeliveryGoal.{SubmissionDeliveryGoal}
+use Rattle.book.specs.declared.DeliveryTrigger.{DeliveryTrigger}
 use Rattle.rules.specs.Call.{Value, noValue}
 use Rattle.rules.specs.Calls.Offer.{offer}
 use Rattle.rules.specs.Rule.{done, Rule, _>>=_, _>>_, endTurn}

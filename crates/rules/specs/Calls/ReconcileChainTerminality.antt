@@ -2,16 +2,16 @@
 use Prim.Native.Nat.{ℕ}
 use mathlib.Core.Bool.{Bool, cond, not, _&&_}
 use mathlib.Core.List.{List, [], _∷_}
-use Rattle.lists.specs.Lists.{anyb, elemb}
-use Rattle.coin_string.specs.CoinIds.{idListb, idsIn}
-use Rattle.coin_string.specs.CoinList.{coinsIn, coinListb}
-use Rattle.book_data.specs.declared.SubmittedEntry.{SubmittedEntry}
-use Rattle.book_data.specs.declared.SubmittedTx.{SubmittedTx}
-use Rattle.book_data.specs.declared.SubmissionChainTerminality.{SubmissionChainTerminality}
-use Rattle.book_data.specs.declared.SubmissionChainTerminality.the-variants.{Active, InputSpent, Landed}
-use Rattle.book_data.specs.Model.{back}
-use Rattle.book_data.specs.Sound.{idOf}
-use Rattle.bundle_coins.specs.Coins.{inputCoinIds, expectedOutputCoins}
+use Rattle.base_lists.specs.Lists.{anyb, elemb}
+use Rattle.base_coin_string.specs.CoinIds.{idListb, idsIn}
+use Rattle.base_coin_string.specs.CoinList.{coinsIn, coinListb}
+use Rattle.book.specs.declared.SubmittedEntry.{SubmittedEntry}
+use Rattle.book.specs.declared.SubmittedTx.{SubmittedTx}
+use Rattle.book.specs.declared.SubmissionChainTerminality.{SubmissionChainTerminality}
+use Rattle.book.specs.declared.SubmissionChainTerminality.the-variants.{Active, InputSpent, Landed}
+use Rattle.book.specs.Model.{back}
+use Rattle.book.specs.Sound.{idOf}
+use Rattle.book_coins.specs.Coins.{inputCoinIds, expectedOutputCoins}
 use Rattle.rules.specs.Call.{Value, noValue}
 use Rattle.rules.specs.Doors.{idsOk, among}
 use Rattle.rules.specs.Parts.{isLanded}

@@ -3,11 +3,11 @@
 use Prim.Native.Nat.{ℕ}
 use mathlib.Core.Bool.{Bool, cond, not, _||_}
 use mathlib.Core.List.{List}
-use Rattle.lists.specs.Lists.{anyb, filterb, flatMap}
-use Rattle.coin_string.specs.CoinList.{coinsIn, coinListb}
-use Rattle.book_data.specs.declared.SubmittedEntry.{SubmittedEntry}
-use Rattle.book_data.specs.Model.{Book}
-use Rattle.bundle_coins.specs.Coins.{inputCoins, expectedOutputCoins}
+use Rattle.base_lists.specs.Lists.{anyb, filterb, flatMap}
+use Rattle.base_coin_string.specs.CoinList.{coinsIn, coinListb}
+use Rattle.book.specs.declared.SubmittedEntry.{SubmittedEntry}
+use Rattle.book.specs.Model.{Book}
+use Rattle.book_coins.specs.Coins.{inputCoins, expectedOutputCoins}
 use Rattle.rules.specs.Call.{Value}
 use Rattle.rules.specs.Calls.Common.{writing}
 use Rattle.rules.specs.CoinLists.{risingCoins, encodeCoins}

@@ -2,9 +2,9 @@
 use Prim.Native.Nat.{ℕ}
 use mathlib.Core.Bool.{Bool, true, false, cond}
 use lib.Dec.{eqb, ltb}
-use Rattle.book_data.specs.declared.Height.{Height}
-use Rattle.book_data.specs.declared.OptionalHeight.{OptionalHeight}
-use Rattle.book_data.specs.declared.OptionalHeight.the-variants.{NoHeight, At}
+use Rattle.book.specs.declared.Height.{Height}
+use Rattle.book.specs.declared.OptionalHeight.{OptionalHeight}
+use Rattle.book.specs.declared.OptionalHeight.the-variants.{NoHeight, At}
 use Rattle.rules.specs.Call.{Value, noValue, flag, heightIs}
 use Rattle.rules.specs.Rule.{done, beginEpoch, endEpoch, note, Rule, _>>=_, _>>_, book, step}
 

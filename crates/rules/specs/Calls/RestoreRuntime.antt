@@ -1,7 +1,7 @@
 -- `restore_runtime`: each live attempt is set aside.
 use Prim.Native.Nat.{ℕ}
 use mathlib.Core.List.{List, [], _∷_, map}
-use Rattle.book_data.specs.Sound.{idOf}
+use Rattle.book.specs.Sound.{idOf}
 use Rattle.rules.specs.Call.{Value, noValue}
 use Rattle.rules.specs.Rule.{done, setAside, Rule, _>>=_, _>>_, book, step}
 

@@ -2,9 +2,9 @@
 use Prim.Native.Nat.{ℕ}
 use mathlib.Core.Bool.{cond}
 use mathlib.Core.List.{List, map}
-use Rattle.lists.specs.Lists.{filterb, elemb, rising}
-use Rattle.book_data.specs.Model.{Book}
-use Rattle.book_data.specs.Sound.{idOf}
+use Rattle.base_lists.specs.Lists.{filterb, elemb, rising}
+use Rattle.book.specs.Model.{Book}
+use Rattle.book.specs.Sound.{idOf}
 use Rattle.rules.specs.Call.{Value, idsAre}
 use Rattle.rules.specs.Calls.Common.{withdrawEach}
 use Rattle.rules.specs.Doors.{idsOk}

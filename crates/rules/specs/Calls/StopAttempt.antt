@@ -1,7 +1,7 @@
 -- `stop_attempt`: "Stopping changes the two attempt slots of that one submission and nothing else."
 use Prim.Native.Nat.{ℕ}
-use Rattle.book_data.specs.declared.SubmittedTx.{SubmittedTx}
-use Rattle.book_data.specs.Sound.{idOf}
+use Rattle.book.specs.declared.SubmittedTx.{SubmittedTx}
+use Rattle.book.specs.Sound.{idOf}
 use Rattle.rules.specs.Call.{Applied, Stale, Value, statusIs}
 use Rattle.rules.specs.Calls.Common.{withLive}
 use Rattle.rules.specs.Rule.{done, setAside, Rule, _>>=_, _>>_, step}

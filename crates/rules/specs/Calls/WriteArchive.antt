@@ -1,7 +1,7 @@
 -- Archive writing, for an archive form handed in: the whole archive, or 12.
 use Prim.Native.Nat.{ℕ}
 use mathlib.Core.List.{List}
-use Rattle.book_data.specs.Model.{Book}
+use Rattle.book.specs.Model.{Book}
 use Rattle.rules.specs.Call.{Value}
 use Rattle.rules.specs.Calls.Common.{writing}
 use Rattle.rules.specs.Rule.{Rule, _>>=_, _>>_, book}

@@ -4,26 +4,26 @@ use mathlib.Core.Bool.{true, false}
 use mathlib.Core.List.{List, [], _∷_}
 use mathlib.Core.Option.{Option}
 use lib.ListN.{replicate}
-use Rattle.book_data.specs.declared.Height.{Height}
-use Rattle.book_data.specs.declared.SubmissionFeeIntent.{SubmissionFeeIntent}
-use Rattle.book_data.specs.declared.AttemptSlots.{AttemptSlots}
-use Rattle.book_data.specs.declared.SubmittedEntry.{SubmittedEntry}
-use Rattle.book_data.specs.declared.SubmittedTx.{SubmittedTx}
-use Rattle.book_data.specs.declared.PendingSubmissionIntent.{PendingSubmissionIntent}
-use Rattle.book_data.specs.declared.PendingDelivery.{PendingDelivery}
-use Rattle.book_data.specs.declared.OptionalHeight.{OptionalHeight}
-use Rattle.book_data.specs.declared.OptionalHeight.the-variants.{NoHeight, At}
-use Rattle.book_data.specs.declared.OptionalId.{OptionalId}
-use Rattle.book_data.specs.declared.OptionalId.the-variants.{NoId, Of}
-use Rattle.book_data.specs.declared.FeeIntentKind.the-variants.{AlreadyPaid, NoFeeConfigured, Attach}
-use Rattle.book_data.specs.declared.SubmissionDeliveryGoal.the-variants.{EnsureBroadcast}
-use Rattle.book_data.specs.declared.DeliveryTrigger.the-variants.{Protocol}
-use Rattle.book_data.specs.declared.SubmissionChainTerminality.{SubmissionChainTerminality}
-use Rattle.book_data.specs.declared.SubmissionChainTerminality.the-variants.{Active, Landed}
-use Rattle.book_data.specs.declared.FeeResolution.the-variants.{Unresolved, NotRequested}
-use Rattle.book_data.specs.Model.{Book}
-use Rattle.book_data.specs.Zero.{zeros, zeroOutput, zeroSpend, zeroBundle, zeroFeeIntent, zeroHash, noAttempt, noSlots, baseVariant}
-use Rattle.spend.specs.Forms.{variantFingerprint}
+use Rattle.book.specs.declared.Height.{Height}
+use Rattle.book.specs.declared.SubmissionFeeIntent.{SubmissionFeeIntent}
+use Rattle.book.specs.declared.AttemptSlots.{AttemptSlots}
+use Rattle.book.specs.declared.SubmittedEntry.{SubmittedEntry}
+use Rattle.book.specs.declared.SubmittedTx.{SubmittedTx}
+use Rattle.book.specs.declared.PendingSubmissionIntent.{PendingSubmissionIntent}
+use Rattle.book.specs.declared.PendingDelivery.{PendingDelivery}
+use Rattle.book.specs.declared.OptionalHeight.{OptionalHeight}
+use Rattle.book.specs.declared.OptionalHeight.the-variants.{NoHeight, At}
+use Rattle.book.specs.declared.OptionalId.{OptionalId}
+use Rattle.book.specs.declared.OptionalId.the-variants.{NoId, Of}
+use Rattle.book.specs.declared.FeeIntentKind.the-variants.{AlreadyPaid, NoFeeConfigured, Attach}
+use Rattle.book.specs.declared.SubmissionDeliveryGoal.the-variants.{EnsureBroadcast}
+use Rattle.book.specs.declared.DeliveryTrigger.the-variants.{Protocol}
+use Rattle.book.specs.declared.SubmissionChainTerminality.{SubmissionChainTerminality}
+use Rattle.book.specs.declared.SubmissionChainTerminality.the-variants.{Active, Landed}
+use Rattle.book.specs.declared.FeeResolution.the-variants.{Unresolved, NotRequested}
+use Rattle.book.specs.Model.{Book}
+use Rattle.book.specs.Zero.{zeros, zeroOutput, zeroSpend, zeroBundle, zeroFeeIntent, zeroHash, noAttempt, noSlots, baseVariant}
+use Rattle.archive_bundle_form.specs.Forms.{variantFingerprint}
 use Rattle.rules.specs.Call.{Call, Cause, Failure, FeeAttached, FinalizedSubmission, Value, noValue}
 use Rattle.rules.specs.Parts.{intentOf}
 use Rattle.rules.specs.Rule.{Relationship, DrainedSubmission, Answer, answer}

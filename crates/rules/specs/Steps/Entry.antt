@@ -2,20 +2,20 @@
 use Prim.Native.Nat.{ℕ}
 use mathlib.Core.Bool.{Bool, true, false, cond}
 use mathlib.Core.List.{List}
-use Rattle.book_data.specs.Zero.{zeroHash, baseVariant}
-use Rattle.book_data.specs.Sound.{soundBundle, isAttach}
-use Rattle.book_data.specs.declared.SubmissionId.{SubmissionId}
-use Rattle.book_data.specs.declared.OptionalHeight.{OptionalHeight}
-use Rattle.book_data.specs.declared.SpendBundle.{SpendBundle}
-use Rattle.book_data.specs.declared.SubmissionChainTerminality.{SubmissionChainTerminality}
-use Rattle.book_data.specs.declared.SubmissionChainTerminality.the-variants.{Active}
-use Rattle.book_data.specs.declared.FeeResolution.{FeeResolution}
-use Rattle.book_data.specs.declared.FeeResolution.the-variants.{Unresolved, NotRequested, Attached}
-use Rattle.book_data.specs.declared.OptionalHash.{OptionalHash}
-use Rattle.book_data.specs.declared.SubmissionBroadcastVariant.{SubmissionBroadcastVariant}
-use Rattle.book_data.specs.declared.SubmissionStatus.{SubmissionStatus}
-use Rattle.book_data.specs.declared.SubmittedEntry.{SubmittedEntry}
-use Rattle.book_data.specs.declared.PendingSubmissionIntent.{PendingSubmissionIntent}
+use Rattle.book.specs.Zero.{zeroHash, baseVariant}
+use Rattle.book.specs.Sound.{soundBundle, isAttach}
+use Rattle.book.specs.declared.SubmissionId.{SubmissionId}
+use Rattle.book.specs.declared.OptionalHeight.{OptionalHeight}
+use Rattle.book.specs.declared.SpendBundle.{SpendBundle}
+use Rattle.book.specs.declared.SubmissionChainTerminality.{SubmissionChainTerminality}
+use Rattle.book.specs.declared.SubmissionChainTerminality.the-variants.{Active}
+use Rattle.book.specs.declared.FeeResolution.{FeeResolution}
+use Rattle.book.specs.declared.FeeResolution.the-variants.{Unresolved, NotRequested, Attached}
+use Rattle.book.specs.declared.OptionalHash.{OptionalHash}
+use Rattle.book.specs.declared.SubmissionBroadcastVariant.{SubmissionBroadcastVariant}
+use Rattle.book.specs.declared.SubmissionStatus.{SubmissionStatus}
+use Rattle.book.specs.declared.SubmittedEntry.{SubmittedEntry}
+use Rattle.book.specs.declared.PendingSubmissionIntent.{PendingSubmissionIntent}
 use Rattle.rules.specs.Parts.{intentOf, minExpiry}
 use Rattle.rules.specs.Rule.{Revision, tighten, acknowledge, attach, terminality, reopen}
 

@@ -3,14 +3,14 @@ use Prim.Native.Nat.{ℕ}
 use mathlib.Core.Bool.{Bool, true, false, cond, not, _&&_}
 use mathlib.Core.List.{List, [], _∷_, _++_}
 use lib.Dec.{eqb}
-use Rattle.lists.specs.Lists.{filterb, elemb, insertUp, pushNew}
-use Rattle.book_data.specs.Sound.{soundDelivery}
-use Rattle.book_data.specs.declared.SubmissionId.{SubmissionId}
-use Rattle.book_data.specs.declared.OptionalId.{OptionalId}
-use Rattle.book_data.specs.declared.OptionalId.the-variants.{NoId, Of}
-use Rattle.book_data.specs.declared.OptionalHeight.{OptionalHeight}
-use Rattle.book_data.specs.declared.OptionalHeight.the-variants.{NoHeight, At}
-use Rattle.book_data.specs.declared.PendingDelivery.{PendingDelivery}
+use Rattle.base_lists.specs.Lists.{filterb, elemb, insertUp, pushNew}
+use Rattle.book.specs.Sound.{soundDelivery}
+use Rattle.book.specs.declared.SubmissionId.{SubmissionId}
+use Rattle.book.specs.declared.OptionalId.{OptionalId}
+use Rattle.book.specs.declared.OptionalId.the-variants.{NoId, Of}
+use Rattle.book.specs.declared.OptionalHeight.{OptionalHeight}
+use Rattle.book.specs.declared.OptionalHeight.the-variants.{NoHeight, At}
+use Rattle.book.specs.declared.PendingDelivery.{PendingDelivery}
 use Rattle.rules.specs.Rule.{Note, enqueue, unqueue, retire, unreplay, unqueueAll, unretireAll, beginEpoch, endEpoch}
 
 pub record Rest : Type 0 where

@@ -3,14 +3,14 @@ use Prim.Native.Nat.{ℕ}
 use mathlib.Core.Bool.{Bool, true, false, cond}
 use mathlib.Core.List.{List}
 use mathlib.Core.Option.{Option, none, some}
-use Rattle.lists.specs.Bytes.{eqs}
-use Rattle.book_data.specs.Zero.{zeroHash, noAttempt, isEnsureBroadcast}
-use Rattle.book_data.specs.declared.Token.{Token}
-use Rattle.book_data.specs.declared.SubmissionDeliveryGoal.{SubmissionDeliveryGoal}
-use Rattle.book_data.specs.declared.DeliveryAttempt.{DeliveryAttempt}
-use Rattle.book_data.specs.declared.OptionalAttempt.{OptionalAttempt}
-use Rattle.book_data.specs.declared.AttemptSlots.{AttemptSlots}
-use Rattle.book_data.specs.declared.SubmittedEntry.{SubmittedEntry}
+use Rattle.base_lists.specs.Bytes.{eqs}
+use Rattle.book.specs.Zero.{zeroHash, noAttempt, isEnsureBroadcast}
+use Rattle.book.specs.declared.Token.{Token}
+use Rattle.book.specs.declared.SubmissionDeliveryGoal.{SubmissionDeliveryGoal}
+use Rattle.book.specs.declared.DeliveryAttempt.{DeliveryAttempt}
+use Rattle.book.specs.declared.OptionalAttempt.{OptionalAttempt}
+use Rattle.book.specs.declared.AttemptSlots.{AttemptSlots}
+use Rattle.book.specs.declared.SubmittedEntry.{SubmittedEntry}
 use Rattle.rules.specs.Parts.{currentBundle, currentFingerprint, openFeeIntent}
 use Rattle.rules.specs.Rule.{Relationship, Initial, Exact, NewerFeeBearing, Other, DrainedSubmission}
 

@@ -1,4 +1,4 @@
-//! Books, calls and answers as antt terms, by the short forms of `recorded_lists`' `Pieces.antt`.
+//! Books, calls and answers as antt terms, by the short forms of `rules_recorded_lists`' `Pieces.antt`.
 
 use std::collections::BTreeMap;
 

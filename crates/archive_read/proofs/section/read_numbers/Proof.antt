@@ -1,7 +1,7 @@
 -- The count 2, and the two numbers behind it.
 use Rattle.archive_form.specs.Parse.{parseNumbers}
 use Rattle.archive_read.specs.Sections.{two-reads}
-use Rattle.cursor.specs.Cursor.{reads-then, ends}
+use Rattle.codec_cursor.specs.Cursor.{reads-then, ends}
 use borrow.Author.Needs.{needs}
 use Rattle.archive_read.proofs.section.read_numbers.Statement.{statement}
 use Rattle.archive_read.proofs.section.read_numbers.Tie as tie

@@ -1,7 +1,7 @@
 -- The entries fill their cells one behind the other.
 use Rattle.archive_form.specs.Parse.{parseDelivery}
-use Rattle.book_data.specs.Zero.{zeroDelivery}
-use Rattle.cursor.specs.Cells.{Filled, filled-start, filled-more, filled-list}
+use Rattle.book.specs.Zero.{zeroDelivery}
+use Rattle.codec_cursor.specs.Cells.{Filled, filled-start, filled-more, filled-list}
 use native.Mathlib.Omega.{arith}
 use Prim.Native.Nat.{_-_}
 use borrow.Author.Needs.{needs}

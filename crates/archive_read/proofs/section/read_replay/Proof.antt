@@ -1,8 +1,8 @@
 -- A number that must be above the last and retained.
 use mathlib.Core.Bool.{_&&_}
-use Rattle.lists.specs.Lists.{elemb}
+use Rattle.base_lists.specs.Lists.{elemb}
 use Rattle.archive_form.specs.Parse.{above, parseReplayed}
-use Rattle.cursor.specs.Cursor.{reads-checked}
+use Rattle.codec_cursor.specs.Cursor.{reads-checked}
 use borrow.Author.Needs.{needs}
 use Rattle.archive_read.proofs.section.read_replay.Statement.{statement}
 use Rattle.archive_read.proofs.section.read_replay.Tie as tie

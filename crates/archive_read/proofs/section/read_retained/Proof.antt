@@ -1,8 +1,8 @@
 -- The submissions fill their cells, each with the ids and tokens of those before it in hand.
 use native.Mathlib.Nat.{sub-zero}
 use Rattle.archive_form.specs.Parse.{parseSubmitted}
-use Rattle.book_data.specs.Zero.{zeroSubmitted}
-use Rattle.cursor.specs.Cells.{Filled, filled-start, filled-more}
+use Rattle.book.specs.Zero.{zeroSubmitted}
+use Rattle.codec_cursor.specs.Cells.{Filled, filled-start, filled-more}
 use Rattle.archive_read.specs.Sections.{Seen, seen-start, seen-room, seen-more, after-seen, retained-done}
 use native.Mathlib.Omega.{arith}
 use Prim.Native.Nat.{_-_}

@@ -1,8 +1,8 @@
 -- The bytes are passed behind the test of the room.
 use native.Mathlib.Omega.{arith}
 use mathlib.Core.List.{[]}
-use Rattle.wire_bytes.specs.Reading.{has-long}
-use Rattle.cursor.specs.Items.{run-refused}
+use Rattle.codec_bytes.specs.Reading.{has-long}
+use Rattle.codec_cursor.specs.Items.{run-refused}
 use Rattle.archive_walk.specs.Skips.{skips, run-passed}
 use borrow.Author.Needs.{needs}
 use Rattle.archive_walk.proofs.skip.skip.Statement.{statement}

@@ -1,7 +1,7 @@
 -- The spends are passed one behind the other.
 use Prim.Native.Nat.{_-_}
 use native.Mathlib.Omega.{arith}
-use Rattle.book_data.specs.Zero.{zeroSpend}
+use Rattle.book.specs.Zero.{zeroSpend}
 use Rattle.archive_form.specs.Parse.{parseSpend, parseBundle}
 use Rattle.archive_walk.specs.Skips.{Passing, passing-start, passing-more, passing-list, skips, skips-then, skips-end}
 use borrow.Author.Needs.{needs}

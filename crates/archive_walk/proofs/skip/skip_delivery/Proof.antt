@@ -1,7 +1,7 @@
 -- The parts one behind the other.
 use Rattle.archive_form.specs.Parse.{parseDelivery, parseId, parseHeight, parseTrigger, parseGoal, triggerOf, goalOf}
-use Rattle.book_data.specs.declared.OptionalHeight.the-variants.{NoHeight}
-use Rattle.book_data.specs.declared.OptionalId.the-variants.{NoId}
+use Rattle.book.specs.declared.OptionalHeight.the-variants.{NoHeight}
+use Rattle.book.specs.declared.OptionalId.the-variants.{NoId}
 use Rattle.archive_walk.specs.Skips.{skips, skips-then, skips-mapped, skips-optional, skips-number, skips-end}
 use borrow.Author.Needs.{needs}
 use Rattle.archive_walk.proofs.skip.skip_delivery.Statement.{statement}

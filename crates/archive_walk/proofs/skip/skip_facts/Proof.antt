@@ -1,7 +1,7 @@
 -- The parts one behind the other.
 use Rattle.archive_form.specs.Parse.{parseFacts, parseResolution, parseHash, parseChain, parseHeight, resolutionOf, chainOf}
-use Rattle.book_data.specs.Zero.{zeroHash}
-use Rattle.book_data.specs.declared.OptionalHeight.the-variants.{NoHeight}
+use Rattle.book.specs.Zero.{zeroHash}
+use Rattle.book.specs.declared.OptionalHeight.the-variants.{NoHeight}
 use Rattle.archive_walk.specs.Skips.{skips, skips-then, skips-mapped, skips-optional, skips-number, skips-end}
 use borrow.Author.Needs.{needs}
 use Rattle.archive_walk.proofs.skip.skip_facts.Statement.{statement}

@@ -1,5 +1,5 @@
 -- One law for each kind.
-use Rattle.spend_read.specs.Parts.{fee-attach}
+use Rattle.archive_bundle_read.specs.Parts.{fee-attach}
 use Rattle.archive_walk.specs.Skips.{skips, skips-number, fee-small}
 use native.Mathlib.Omega.{arith}
 use borrow.Author.Needs.{needs}

@@ -1,7 +1,7 @@
 -- The outputs are passed one behind the other.
 use Prim.Native.Nat.{_-_}
 use native.Mathlib.Omega.{arith}
-use Rattle.book_data.specs.Zero.{zeroOutput}
+use Rattle.book.specs.Zero.{zeroOutput}
 use Rattle.archive_form.specs.Parse.{parseOutput}
 use Rattle.archive_walk.specs.Skips.{Passing, passing-start, passing-more, passing-list}
 use borrow.Author.Needs.{needs}

@@ -1,5 +1,5 @@
 -- The mark decides between an unreadable run and outputs.
-use Rattle.spend_read.specs.Runs.{run-unreadable, run-readable}
+use Rattle.archive_bundle_read.specs.Runs.{run-unreadable, run-readable}
 use Rattle.archive_walk.specs.Skips.{skips}
 use borrow.Author.Needs.{needs}
 use Rattle.archive_walk.proofs.skip.skip_run.Statement.{statement}

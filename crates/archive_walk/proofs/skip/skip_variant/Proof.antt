@@ -1,7 +1,7 @@
 -- The mark decides between no fee bundle and one with its fee.
 use Rattle.archive_form.specs.Parse.{parseVariant}
-use Rattle.book_data.specs.Zero.{baseVariant}
-use Rattle.cursor.specs.Cursor.{reads-absent}
+use Rattle.book.specs.Zero.{baseVariant}
+use Rattle.codec_cursor.specs.Cursor.{reads-absent}
 use Rattle.archive_walk.specs.Skips.{skips, skips-then, skips-number, skips-end, skips-present}
 use borrow.Author.Needs.{needs}
 use Rattle.archive_walk.proofs.skip.skip_variant.Statement.{statement}

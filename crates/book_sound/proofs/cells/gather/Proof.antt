@@ -1,9 +1,9 @@
 use native.Mathlib.Nat.{min-le-right}
-use Rattle.lists.specs.Lists.{allb, cells, flatMap}
-use Rattle.lists.specs.Laws.{all-turn-by, all-done, counted-step, counted-end, take-cut, count-cut, flat-turn, flat-done}
-use Rattle.book_data.specs.Sound.{soundSubmitted, idOf, tokensOf}
-use Rattle.book_data.specs.Counted.{map-step}
-use Rattle.book_data.specs.declared.SubmittedTx.{SubmittedTx}
+use Rattle.base_lists.specs.Lists.{allb, cells, flatMap}
+use Rattle.base_lists.specs.Laws.{all-turn-by, all-done, counted-step, counted-end, take-cut, count-cut, flat-turn, flat-done}
+use Rattle.book.specs.Sound.{soundSubmitted, idOf, tokensOf}
+use Rattle.book.specs.Counted.{map-step}
+use Rattle.book.specs.declared.SubmittedTx.{SubmittedTx}
 use borrow.Author.Needs.{needs}
 use mathlib.Core.Path.{_≡_, refl, sym, ap, _∙_}
 use mathlib.Core.Bool.{_&&_}

@@ -1,5 +1,5 @@
 use borrow.Author.Needs.{needs}
-use Rattle.lists.specs.Laws.{push-twice}
+use Rattle.base_lists.specs.Laws.{push-twice}
 use lib.ListN.{take}
 use Rattle.book_sound.proofs.cells.push_attempts.Statement.{statement}
 use Rattle.book_sound.proofs.cells.push_attempts.Tie as tie

@@ -1,5 +1,5 @@
 use mathlib.Core.List.{append-nil}
-use Rattle.lists.specs.Laws.{store-step}
+use Rattle.base_lists.specs.Laws.{store-step}
 use borrow.Author.Needs.{needs}
 use mathlib.Core.Path.{sym}
 use Rattle.book_sound.proofs.cells.push_if.Statement.{statement}

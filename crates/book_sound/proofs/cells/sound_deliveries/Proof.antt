@@ -1,7 +1,7 @@
 use native.Mathlib.Nat.{min-le-right}
-use Rattle.lists.specs.Lists.{allb}
-use Rattle.lists.specs.Laws.{all-turn-by, all-done, counted-step, counted-end, take-cut}
-use Rattle.book_data.specs.Sound.{soundDelivery}
+use Rattle.base_lists.specs.Lists.{allb}
+use Rattle.base_lists.specs.Laws.{all-turn-by, all-done, counted-step, counted-end, take-cut}
+use Rattle.book.specs.Sound.{soundDelivery}
 use borrow.Author.Needs.{needs}
 use mathlib.Core.Path.{_≡_, refl, ap, _∙_}
 use mathlib.Core.Bool.{_&&_}

@@ -1,5 +1,5 @@
 use native.Mathlib.Nat.{min-le-right, sub-zero}
-use Rattle.lists.specs.Laws.{take-min}
+use Rattle.base_lists.specs.Laws.{take-min}
 use borrow.Author.Needs.{needs}
 use mathlib.Core.Path.{refl}
 use lib.ListN.{length}

@@ -1,5 +1,5 @@
 use mathlib.Core.Path.{refl}
-use Rattle.spend_read.specs.Parts.{after-three}
+use Rattle.archive_bundle_read.specs.Parts.{after-three}
 use Rattle.c_api.specs.Laws.{sourceFrom}
 use borrow.Author.Needs.{needs}
 use Rattle.c_api.proofs.attempts.source_from.Statement.{statement}

@@ -1,6 +1,6 @@
 -- One law of specs/Arguments for each way out, in the order of the checks.
 use Rattle.c_api.specs.Arguments.{queue-absent, queue-bad, queue-done}
-use Rattle.boundary.specs.Arguments.{bytes-bad, bytes-over, bytes-got}
+use Rattle.c_boundary.specs.Arguments.{bytes-bad, bytes-over, bytes-got}
 use borrow.Author.Tests.{not-true, not-false}
 use Rattle.archive_form.specs.Parse.{parseDelivery}
 use borrow.Author.Needs.{needs}

@@ -2,7 +2,7 @@
 use Rattle.c_api.specs.Functions.{fee-readiness-did}
 use borrow.Author.Tests.{not-true, not-false}
 use Rattle.rules.specs.Calls.QueueFeeReadiness.{queueFeeReadiness}
-use Rattle.boundary.specs.Forms.{gives-book-absent, done-given, noForm}
+use Rattle.c_boundary.specs.Forms.{gives-book-absent, done-given, noForm}
 use borrow.Author.Needs.{needs}
 use Rattle.c_api.proofs.queue.submission_book_queue_fee_readiness.Statement.{statement}
 use Rattle.c_api.proofs.queue.submission_book_queue_fee_readiness.Tie as tie

@@ -1,7 +1,7 @@
 -- One law of specs/Arguments for each way out, in the order of the checks.
 use borrow.Author.Tests.{not-true, not-false}
 use Rattle.archive_form.specs.Parse.{parseTrigger}
-use Rattle.boundary.specs.Arguments.{byte-bad, byte-got}
+use Rattle.c_boundary.specs.Arguments.{byte-bad, byte-got}
 use Rattle.c_api.specs.Arguments.{epoch-absent, epoch-long, epoch-bad, epoch-done}
 use borrow.Author.Needs.{needs}
 use Rattle.c_api.proofs.queue.submission_book_queue_rebroadcast_epoch.Statement.{statement}

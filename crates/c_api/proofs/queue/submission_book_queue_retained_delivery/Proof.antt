@@ -1,6 +1,6 @@
 -- One law of specs/Arguments for each way out, in the order of the checks.
 use Rattle.c_api.specs.Arguments.{delivery-absent, trigger-bad, goal-bad, delivery-done}
-use Rattle.boundary.specs.Arguments.{byte-bad, byte-got}
+use Rattle.c_boundary.specs.Arguments.{byte-bad, byte-got}
 use borrow.Author.Tests.{not-true, not-false}
 use Rattle.archive_form.specs.Parse.{parseTrigger, parseGoal}
 use borrow.Author.Needs.{needs}

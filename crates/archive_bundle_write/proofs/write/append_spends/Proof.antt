@@ -1,0 +1,46 @@
+-- The loop carries `Fits` of the elements so far.
+use Rattle.codec_forms.specs.Wire.{encMany}
+use Rattle.codec_append.specs.Fits.{Fits, each-start, each-more, each-done}
+use Rattle.archive_bundle_form.specs.Forms.{encodeSpend}
+use borrow.Author.Needs.{needs}
+use native.Mathlib.Omega.{arith}
+use mathlib.Core.Path.{_≡_}
+use Prim.Native.Nat.{_-_, _≤_}
+use lib.ListN.{length, take}
+use Rattle.archive_bundle_write.proofs.write.append_spends.Statement.{statement}
+use Rattle.archive_bundle_write.proofs.write.append_spends.Tie as tie
+
+abbrev Inv-loop : tie.InvT-loop
+Inv-loop out₀ at n a k e₀ i₀ out e i = Fits (encMany encodeSpend (take i a)) at out₀ out e × (i ≤ k) × (k ≤ 4)
+
+abbrev μ-loop : tie.MeasureT-loop
+μ-loop out₀ at n a k e₀ i₀ out e i = k - i
+
+loop-holds : tie.Need-loop-holds Inv-loop μ-loop
+loop-holds c = (each-start encodeSpend (c .before .before .args .t3) (c .before .before .args .at) (c .before .before .args .out .now), omega arith, omega (arith, c .at-most .ensures))
+
+loop-again : tie.Need-loop-again Inv-loop μ-loop
+loop-again c =
+    let the-args = c .before .before .before .before .before .before .before .before .before .args in
+    let the-loop = c .before .before .before .before .before .before .loop in
+    let the-append-spend = c .before .before .append-spend in
+    let the-loop-test = c .before .before .before .before .before .loop-test in
+    let l : length (the-args .t3) ≡ 4 = search needs in
+    (each-more _ encodeSpend (the-args .t3) (the-loop .i) (omega (arith, l, the-loop .inv .2)) (the-loop .inv .0) (the-append-spend .ensures), omega (arith, the-loop-test .taken), the-loop .inv .2)
+
+same-length : tie.Need-same-length Inv-loop μ-loop
+same-length c = c .before .loop .inv .0 .long
+
+returns : tie.Need-returns Inv-loop μ-loop
+returns c =
+    let the-args = c .before .before .before .before .args in
+    let the-at-most = c .before .before .at-most in
+    let l : length (the-args .t3) ≡ 4 = search needs in
+    each-done encodeSpend (the-args .t3) 4 (the-args .n) (the-at-most .result) (c .before .loop .i) l (the-at-most .ensures) (c .before .loop .inv .1) (c .loop-test .left) (c .before .loop .inv .0)
+
+pub append-spends-spec : {M : Type 1} → statement M
+append-spends-spec =
+    tie.close
+    (tie.spec
+    Inv-loop μ-loop (λ c κs. search needs) loop-holds (λ c. search needs) (λ c. search needs) (λ c κs. search needs) (λ c. search needs) (λ c. search needs) loop-again
+    same-length returns)

@@ -1,0 +1,79 @@
+use lib.ListN.{drop-of-length-le}
+use Rattle.base_lists.specs.Bytes.{rest-step}
+use Rattle.base_coin_string.specs.Order.{orderOf}
+use Rattle.base_coin_string.specs.OrderLaws.{Left, longer, shorter, as-long, below, above, equal}
+use borrow.Author.Needs.{needs}
+use native.Mathlib.Omega.{arith}
+use mathlib.Core.Path.{_≡_, refl, sym, ap, _∙_, subst}
+use mathlib.Core.List.{List, [], _∷_, _++_}
+use Prim.Native.Nat.{ℕ, zero, suc, _+_, _-_, _*_, _/_, _%_, _^_, _≤_, _<_}
+use lib.ListN.{length, getD, take, drop, set}
+use Rattle.base_coin_string.proofs.compare.Statement.{statement}
+use Rattle.base_coin_string.proofs.compare.Tie as tie
+use Rattle.base_coin_string.proofs.compare.Reads as reads
+use Rattle.base_coin_string.proofs.compare.Lts as lts
+
+abbrev Inv-loop : tie.InvT-loop
+Inv-loop a b i₀ i = (i ≤ length a) × Left (orderOf a b) (drop i a) (drop i b)
+
+abbrev μ-loop : tie.MeasureT-loop
+μ-loop a b i₀ i = length a - i
+
+loop-holds : tie.Need-loop-holds Inv-loop μ-loop
+loop-holds c = (search needs, record { is = refl })
+
+returns : tie.Need-returns Inv-loop μ-loop
+returns c = longer (c .before .before .loop .inv .1) (rest-step (c .before .before .before .args .a .now) (c .before .before .loop .i) 0 (c .before .loop-test .taken)) (drop-of-length-le (c .before .before .before .args .b .now) {i = c .before .before .loop .i} (c .if1 .taken))
+
+shared-slice-read-if2 : tie.Need-shared-slice-read-if2 Inv-loop μ-loop
+shared-slice-read-if2 c = search needs
+
+shared-slice-read-if2-2 : tie.Need-shared-slice-read-if2-2 Inv-loop μ-loop
+shared-slice-read-if2-2 c = search needs
+
+returns-2 : tie.Need-returns-2 Inv-loop μ-loop
+returns-2 c = below (c .before .before .before .before .before .loop .inv .1) (rest-step (c .before .before .before .before .before .before .args .a .now) (c .before .before .before .before .before .loop .i) 0 (c .before .before .before .before .loop-test .taken)) (rest-step (c .before .before .before .before .before .before .args .b .now) (c .before .before .before .before .before .loop .i) 0 (c .before .before .before .if1 .left)) (c .if2 .taken)
+
+shared-slice-read-if3 : tie.Need-shared-slice-read-if3 Inv-loop μ-loop
+shared-slice-read-if3 c = search needs
+
+shared-slice-read-if3-2 : tie.Need-shared-slice-read-if3-2 Inv-loop μ-loop
+shared-slice-read-if3-2 c = search needs
+
+returns-3 : tie.Need-returns-3 Inv-loop μ-loop
+returns-3 c = above (c .before .before .before .before .before .before .before .before .loop .inv .1) (rest-step (c .before .before .before .before .before .before .before .before .before .args .a .now) (c .before .before .before .before .before .before .before .before .loop .i) 0 (c .before .before .before .before .before .before .before .loop-test .taken)) (rest-step (c .before .before .before .before .before .before .before .before .before .args .b .now) (c .before .before .before .before .before .before .before .before .loop .i) 0 (c .before .before .before .before .before .before .if1 .left)) (c .if3 .taken) (c .before .before .before .if2 .left)
+
+add-i : tie.Need-add-i Inv-loop μ-loop
+add-i c = search needs
+
+loop-less : tie.Need-loop-less Inv-loop μ-loop
+loop-less c = search needs
+
+loop-again : tie.Need-loop-again Inv-loop μ-loop
+loop-again c = (search needs, equal (c .before .before .before .before .before .before .before .before .loop .inv .1) (rest-step (c .before .before .before .before .before .before .before .before .before .args .a .now) (c .before .before .before .before .before .before .before .before .loop .i) 0 (c .before .before .before .before .before .before .before .loop-test .taken)) (rest-step (c .before .before .before .before .before .before .before .before .before .args .b .now) (c .before .before .before .before .before .before .before .before .loop .i) 0 (c .before .before .before .before .before .before .if1 .left)) (c .before .before .before .if2 .left) (c .if3 .left))
+
+returns-4 : tie.Need-returns-4 Inv-loop μ-loop
+returns-4 c = shorter (c .before .before .loop .inv .1) (drop-of-length-le (c .before .before .before .args .a .now) {i = c .before .before .loop .i} (c .before .loop-test .left)) (rest-step (c .before .before .before .args .b .now) (c .before .before .loop .i) 0 (c .if4 .taken))
+
+returns-5 : tie.Need-returns-5 Inv-loop μ-loop
+returns-5 c = as-long (c .before .before .loop .inv .1) (drop-of-length-le (c .before .before .before .args .a .now) {i = c .before .before .loop .i} (c .before .loop-test .left)) (drop-of-length-le (c .before .before .before .args .b .now) {i = c .before .before .loop .i} (c .if4 .left))
+
+pub compare-spec : {M : Type 1} → statement M
+compare-spec =
+    tie.close
+    (tie.spec
+    Inv-loop
+    μ-loop
+    loop-holds
+    returns
+    shared-slice-read-if2
+    shared-slice-read-if2-2
+    returns-2
+    shared-slice-read-if3
+    shared-slice-read-if3-2
+    returns-3
+    add-i
+    loop-less
+    loop-again
+    returns-4
+    returns-5)

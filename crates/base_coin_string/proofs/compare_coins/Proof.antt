@@ -1,0 +1,61 @@
+use native.Mathlib.Nat.{sub-zero}
+use Rattle.base_lists.specs.Laws.{take-min}
+use Rattle.base_coin_string.specs.Order.{orderOf}
+use native.Mathlib.Omega.{arith}
+use mathlib.Core.Path.{_≡_, refl, sym, ap, _∙_, subst}
+use mathlib.Core.List.{List, [], _∷_, _++_}
+use Prim.Native.Nat.{ℕ, zero, suc, _+_, _-_, _*_, _/_, _%_, _^_, _≤_, _<_}
+use lib.ListN.{length, getD, take, drop, set}
+use borrow.Author.Needs.{needs}
+use Rattle.base_coin_string.proofs.compare_coins.Statement.{statement}
+use Rattle.base_coin_string.proofs.compare_coins.Tie as tie
+use Rattle.base_coin_string.proofs.compare_coins.Reads as reads
+use Rattle.base_coin_string.proofs.compare_coins.Lts as lts
+use Rattle.base_coin_string.proofs.compare.Reads as compare-reads
+use Rattle.base_coin_string.proofs.within.Reads as within-reads
+
+within-requires : tie.Need-within-requires
+within-requires c κs = search needs
+
+within-requires-2 : tie.Need-within-requires-2
+within-requires-2 c κs = search needs
+
+sub-compare : tie.Need-sub-compare
+sub-compare c = search needs
+
+part-compare-start : tie.Need-part-compare-start
+part-compare-start c = search needs
+
+part-compare-end : tie.Need-part-compare-end
+part-compare-end c = let h : length (c .before .before .before .before .before .args .a .bytes) ≡ 73 = search needs in omega (arith, c .before .before .before .before .within .ensures)
+
+sub-compare-2 : tie.Need-sub-compare-2
+sub-compare-2 c = search needs
+
+part-compare-start-2 : tie.Need-part-compare-start-2
+part-compare-start-2 c = search needs
+
+part-compare-end-2 : tie.Need-part-compare-end-2
+part-compare-end-2 c = let h : length (c .before .before .before .before .before .before .before .args .b .bytes) ≡ 73 = search needs in omega (arith, c .before .before .before .before .before .within2 .ensures)
+
+compare-requires : tie.Need-compare-requires
+compare-requires c κs = search needs
+
+returns : tie.Need-returns
+returns c = let a = c .before .before .before .before .before .before .before .before .before .args .a in let b = c .before .before .before .before .before .before .before .before .before .args .b in let l : length (a .bytes) ≡ 73 = search needs in let m : length (b .bytes) ≡ 73 = search needs in
+    simp sub-zero at (c .compare .ensures) ∙ (λ j. orderOf (take (c .before .before .before .before .before .before .before .before .within .ensures j) (a .bytes)) (take (c .before .before .before .before .before .before .before .within2 .ensures j) (b .bytes))) ∙ (λ j. orderOf (take-min 73 (a .len) (a .bytes) l j) (take-min 73 (b .len) (b .bytes) m j))
+
+pub compare-coins-spec : {M : Type 1} → statement M
+compare-coins-spec =
+    tie.close
+    (tie.spec
+    within-requires
+    within-requires-2
+    sub-compare
+    part-compare-start
+    part-compare-end
+    sub-compare-2
+    part-compare-start-2
+    part-compare-end-2
+    compare-requires
+    returns)

@@ -1,0 +1,39 @@
+use native.Mathlib.Nat.{sub-zero}
+use Rattle.base_lists.specs.Laws.{take-min}
+use Rattle.base_coin_string.specs.Coin.{coinIdOf}
+use native.Mathlib.Omega.{arith}
+use mathlib.Core.Path.{_≡_, refl, sym, ap, _∙_, subst}
+use mathlib.Core.List.{List, [], _∷_, _++_}
+use Prim.Native.Nat.{ℕ, zero, suc, _+_, _-_, _*_, _/_, _%_, _^_, _≤_, _<_}
+use lib.ListN.{length, getD, take, drop, set}
+use borrow.Author.Needs.{needs}
+use Rattle.base_coin_string.proofs.to_coin_id.Statement.{statement}
+use Rattle.base_coin_string.proofs.to_coin_id.Tie as tie
+use Rattle.base_coin_string.proofs.to_coin_id.Reads as reads
+use Rattle.base_coin_string.proofs.to_coin_id.Lts as lts
+use Rattle.base_coin_string.proofs.within.Reads as within-reads
+use Rattle.base_sha256.proofs.sha256.Reads as sha256-reads
+
+within-requires : tie.Need-within-requires
+within-requires c κs = search needs
+
+sub-sha256 : tie.Need-sub-sha256
+sub-sha256 c = search needs
+
+part-sha256-start : tie.Need-part-sha256-start
+part-sha256-start c = search needs
+
+part-sha256-end : tie.Need-part-sha256-end
+part-sha256-end c = search needs
+
+sha256-requires : tie.Need-sha256-requires
+sha256-requires c κs = search needs
+
+returns : tie.Need-returns
+returns c = let b = c .before .before .before .before .args .t1 in let n = c .before .before .before .before .args .len in let l : length b ≡ 73 = search needs in
+    rw sub-zero at (c .sha256 .ensures) ∙ ap (λ (k : ℕ). coinIdOf (take k b)) (c .before .before .before .within .ensures) ∙ ap coinIdOf (take-min 73 n b l)
+
+pub to-coin-id-spec : {M : Type 1} → statement M
+to-coin-id-spec =
+    tie.close
+    (tie.spec within-requires sub-sha256 part-sha256-start part-sha256-end sha256-requires returns)

@@ -1,0 +1,66 @@
+use mathlib.Core.Bool.{Bool, true, _&&_}
+use Prim.Native.Nat.{ℕ, _+_, _-_, _≤_, _<_}
+use lib.Dec.{ltb}
+use lib.ListN.{length, drop, getD, drop-of-length-le}
+use Rattle.base_lists.specs.Lists.{allb, isZero, elemb, distinctb}
+use Rattle.base_lists.specs.Laws.{elem-turn, elem-hit, rest-step}
+use mathlib.Core.Path.{_≡_, refl, sym, ap, _∙_, subst}
+use native.Mathlib.Omega.{arith}
+use borrow.Author.Needs.{needs}
+use Rattle.base_lists.proofs.contains.Statement.{statement}
+use Rattle.base_lists.proofs.contains.Tie as tie
+use Rattle.base_lists.proofs.contains.Reads as reads
+use Rattle.base_lists.proofs.contains.Lts as lts
+
+abbrev Inv-loop : tie.InvT-loop
+Inv-loop s x i₀ i = (i ≤ length s) × (elemb x s ≡ elemb x (drop i s))
+
+abbrev μ-loop : tie.MeasureT-loop
+μ-loop s x i₀ i = length s - i
+
+-- src/lib.rt:10:5
+loop-holds : tie.Need-loop-holds Inv-loop μ-loop
+loop-holds c = (search needs, refl)
+
+-- src/lib.rt:11:12
+mul-if1 : tie.Need-mul-if1 Inv-loop μ-loop
+mul-if1 c = search needs
+
+-- src/lib.rt:11:12
+shared-slice-read-if1 : tie.Need-shared-slice-read-if1 Inv-loop μ-loop
+shared-slice-read-if1 c = search needs
+
+-- src/lib.rt:12:13
+returns : tie.Need-returns Inv-loop μ-loop
+returns c = elem-hit (c .before .before .before .before .args .x) (rest-step (c .before .before .before .before .args .s .now) (c .before .before .before .loop .i) 0 (c .before .before .loop-test .taken)) (c .if1 .taken) (c .before .before .before .loop .inv .1)
+
+-- src/lib.rt:14:9
+add-i : tie.Need-add-i Inv-loop μ-loop
+add-i c = search needs
+
+-- src/lib.rt:10:5
+loop-less : tie.Need-loop-less Inv-loop μ-loop
+loop-less c = search needs
+
+-- src/lib.rt:10:5
+loop-again : tie.Need-loop-again Inv-loop μ-loop
+loop-again c = (search needs, elem-turn (c .before .before .before .before .args .x) (rest-step (c .before .before .before .before .args .s .now) (c .before .before .before .loop .i) 0 (c .before .before .loop-test .taken)) (c .if1 .left) (c .before .before .before .loop .inv .1))
+
+-- src/lib.rt:6:1
+returns-2 : tie.Need-returns-2 Inv-loop μ-loop
+returns-2 c = sym (c .before .loop .inv .1 ∙ ap (elemb (c .before .before .args .x)) (drop-of-length-le (c .before .before .args .s .now) {i = c .before .loop .i} (c .loop-test .left)))
+
+pub contains-spec : {M : Type 1} → statement M
+contains-spec =
+    tie.close
+    (tie.spec
+    Inv-loop
+    μ-loop
+    loop-holds
+    mul-if1
+    shared-slice-read-if1
+    returns
+    add-i
+    loop-less
+    loop-again
+    returns-2)

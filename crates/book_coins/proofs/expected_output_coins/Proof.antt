@@ -1,0 +1,77 @@
+use native.Mathlib.Nat.{min-le-right}
+use Rattle.base_lists.specs.Laws.{counted-step, counted-end, take-cut}
+use Rattle.base_lists.specs.Lists.{flatMap}
+use mathlib.Core.List.{map}
+use Rattle.book.specs.Sound.{outputsOf}
+use Rattle.book.specs.declared.CoinSpend.{CoinSpend}
+use Rattle.book_coins.specs.declared.OutputCoins.{OutputCoins}
+use Rattle.book_coins.specs.Coins.{outputCoin, expectedOutputCoins}
+use Rattle.book_coins.specs.Laws.{noSpend}
+use Rattle.book_coins.specs.Outputs.{outputCells, Laying, laying-start, laying-turn, laying-done}
+use Rattle.book_coins.proofs.Lengths.{spends-long}
+use borrow.Author.Needs.{needs}
+use native.Mathlib.Omega.{arith}
+use mathlib.Core.Path.{_≡_, ap, _∙_}
+use mathlib.Core.List.{List}
+use Prim.Native.Nat.{_-_, _*_, _≤_}
+use lib.ListN.{length, take, drop}
+use Rattle.book_coins.proofs.expected_output_coins.Statement.{statement}
+use Rattle.book_coins.proofs.expected_output_coins.Tie as tie
+
+abbrev Inv-loop : tie.InvT-loop
+Inv-loop spends n acc₀ i₀ acc i = (i ≤ n) × (n ≤ 4) × (length spends ≡ 4) × (acc .count ≤ 4 * i) × Laying (flatMap (λ s. map (outputCoin s) (outputsOf s)) (take n spends)) acc (drop i (take n spends))
+
+abbrev μ-loop : tie.MeasureT-loop
+μ-loop spends n acc₀ i₀ acc i = n - i
+
+at-most-four-requires : tie.Need-at-most-four-requires Inv-loop μ-loop
+at-most-four-requires c κs = search needs
+
+no-outputs-requires : tie.Need-no-outputs-requires Inv-loop μ-loop
+no-outputs-requires c κs = search needs
+
+loop-holds : tie.Need-loop-holds Inv-loop μ-loop
+loop-holds c = (search needs, rw (c .before .at-most-four .ensures) (min-le-right (c .before .before .before .args .b .count) 4), search (needs, spends-long), omega (arith, ap (λ (r : OutputCoins). r .count) (c .no-outputs .ensures)), laying-start (take (c .before .at-most-four .result) (c .before .before .before .args .b .spends)) (c .no-outputs .ensures))
+
+mul-s : tie.Need-mul-s Inv-loop μ-loop
+mul-s c = search needs
+
+array-copy-out-s : tie.Need-array-copy-out-s Inv-loop μ-loop
+array-copy-out-s c = search needs
+
+push-outputs-requires : tie.Need-push-outputs-requires Inv-loop μ-loop
+push-outputs-requires c κs = omega (arith, c .before .before .loop .inv .3, c .before .before .loop .inv .1, c .before .loop-test .taken)
+
+add-i : tie.Need-add-i Inv-loop μ-loop
+add-i c = search needs
+
+loop-less : tie.Need-loop-less Inv-loop μ-loop
+loop-less c = search needs
+
+loop-again : tie.Need-loop-again Inv-loop μ-loop
+loop-again c = (search needs, c .before .before .before .loop .inv .1, c .before .before .before .loop .inv .2, omega (arith, c .before .before .before .loop .inv .3, c .push-outputs .ensures .few), laying-turn (c .before .before .before .loop .inv .4) (counted-step (c .before .before .before .before .before .before .before .args .b .spends) (c .before .before .before .before .before .at-most-four .result) (c .before .before .before .loop .i) noSpend (c .before .before .loop-test .taken) (omega (arith, c .before .before .before .loop .inv .1, c .before .before .before .loop .inv .2))) (c .push-outputs .ensures))
+
+returns : tie.Need-returns Inv-loop μ-loop
+unfolding expectedOutputCoins
+returns c = let b = c .before .before .before .before .before .args .b in (
+  laying-done (c .before .loop .inv .4) (counted-end (b .spends) (c .before .before .before .at-most-four .result) (c .before .loop .i) (c .loop-test .left) (omega (arith, c .before .loop .inv .1, c .before .loop .inv .2)))
+      ∙ ap (λ (ss : List CoinSpend). outputCells (flatMap (λ s. map (outputCoin s) (outputsOf s)) ss)) (take-cut 4 (b .count) (c .before .before .before .at-most-four .result) (b .spends) (c .before .loop .inv .2) (c .before .before .before .at-most-four .ensures)),
+  omega (arith, c .before .loop .inv .0, c .before .loop .inv .1, c .before .loop .inv .3),
+)
+
+pub expected-output-coins-spec : {M : Type 1} → statement M
+expected-output-coins-spec =
+    tie.close
+    (tie.spec
+    Inv-loop
+    μ-loop
+    at-most-four-requires
+    no-outputs-requires
+    loop-holds
+    mul-s
+    array-copy-out-s
+    push-outputs-requires
+    add-i
+    loop-less
+    loop-again
+    returns)

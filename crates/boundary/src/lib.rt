@@ -1,2 +1,0 @@
-// The book in lent bytes: its archive behind 8 bytes of its length. A call reads the book, makes its answer, and puts both back. Definitions
-// and laws; the code stands in boundary_read, boundary_write and above.

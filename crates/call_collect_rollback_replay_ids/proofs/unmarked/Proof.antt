@@ -1,0 +1,14 @@
+use Rattle.book.specs.Model.{view}
+use Rattle.part_lookup.specs.Normal.{sound-normal, sizes}
+use Rattle.call_collect_rollback_replay_ids.proofs.unmarked.Statement.{statement}
+use Rattle.call_collect_rollback_replay_ids.proofs.unmarked.Tie as tie
+
+keep16-requires : tie.Need-keep16-requires
+keep16-requires c κs = (c .before .before .pre .1, c .before .before .pre .2, sizes (c .before .before .args .b) (sound-normal (c .before .before .args .b) (c .before .before .pre .0)) .replayed)
+
+returns : tie.Need-returns
+unfolding view
+returns c = c .keep16 .ensures
+
+pub unmarked-spec : {M : Type 1} → statement M
+unmarked-spec = tie.close (tie.spec keep16-requires returns)

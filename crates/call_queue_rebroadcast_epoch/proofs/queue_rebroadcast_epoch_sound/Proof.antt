@@ -1,0 +1,24 @@
+use mathlib.Core.Path.{_∙_}
+use Rattle.book.specs.Model.{view}
+use Rattle.rules.specs.Call.{noValue}
+use Rattle.rules.specs.Steps.{runBook}
+use Rattle.rules.specs.Calls.QueueRebroadcastEpoch as rules
+use Rattle.part_offer.specs.Ends.{refused-is, ends-as, settled-is}
+use Rattle.call_queue_rebroadcast_epoch.specs.Rebroadcast.{epoch-long, epoch-taken}
+use borrow.Author.Needs.{needs}
+use Rattle.call_queue_rebroadcast_epoch.proofs.queue_rebroadcast_epoch_sound.Statement.{statement}
+use Rattle.call_queue_rebroadcast_epoch.proofs.queue_rebroadcast_epoch_sound.Tie as tie
+
+returns : tie.Need-returns
+returns c = c .refused .ensures ∙ refused-is (c .before .before .before .args .b) 2 (runBook (rules.queueRebroadcastEpoch (c .before .before .before .args .ids .now) (c .before .before .before .args .trigger)) (view (c .before .before .before .args .b))) (epoch-long (c .before .before .before .args .ids .now) (c .before .before .before .args .trigger) (view (c .before .before .before .args .b)) (c .before .if1 .taken))
+
+rebroadcast-requires : tie.Need-rebroadcast-requires
+rebroadcast-requires c κs = c .before .before .pre
+
+returns-2 : tie.Need-returns-2
+returns-2 c = c .settled .ensures ∙ settled-is (c .before .before .before .before .args .b) (c .before .rebroadcast .result .full) (c .before .rebroadcast .result .book) (runBook (rules.queueRebroadcastEpoch (c .before .before .before .before .args .ids .now) (c .before .before .before .before .args .trigger)) (view (c .before .before .before .before .args .b)))
+    (ends-as noValue (c .before .rebroadcast .result .book) (runBook (rules.rebroadcast (c .before .before .before .before .args .trigger) (c .before .before .before .before .args .ids .now)) (view (c .before .before .before .before .args .b))) (c .before .rebroadcast .result .full) (epoch-taken (c .before .before .before .before .args .ids .now) (c .before .before .before .before .args .trigger) (view (c .before .before .before .before .args .b)) (c .before .before .if1 .left)) (c .before .rebroadcast .ensures))
+
+pub queue-rebroadcast-epoch-sound-spec : {M : Type 1} → statement M
+queue-rebroadcast-epoch-sound-spec =
+    tie.close (tie.spec (λ c κs. search needs) returns rebroadcast-requires (λ c κs. search needs) returns-2)

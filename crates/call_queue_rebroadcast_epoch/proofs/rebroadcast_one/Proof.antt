@@ -1,0 +1,45 @@
+use mathlib.Core.Path.{sym, ap, _∙_}
+use Rattle.book.specs.declared.SubmissionDeliveryGoal.{SubmissionDeliveryGoal}
+use Rattle.book.specs.declared.SubmittedTx.{SubmittedTx}
+use Rattle.book.specs.Model.{view}
+use Rattle.rules.specs.Steps.{runBook}
+use Rattle.rules.specs.Calls.Offer.{offer, goalFor}
+use Rattle.part_lookup.specs.Normal.{sound-normal}
+use Rattle.part_lookup.specs.Place.{hasId}
+use Rattle.part_lookup.specs.PlaceLaws.{at-first}
+use Rattle.part_offer.specs.Ends.{stays, ends-as}
+use Rattle.call_queue_rebroadcast_epoch.specs.Rebroadcast.{rebroadcastOne, rebroadcast-absent, rebroadcast-at}
+use borrow.Author.Needs.{needs}
+use Rattle.call_queue_rebroadcast_epoch.proofs.rebroadcast_one.Statement.{statement}
+use Rattle.call_queue_rebroadcast_epoch.proofs.rebroadcast_one.Tie as tie
+
+position-of-requires : tie.Need-position-of-requires
+position-of-requires c κs = sound-normal (c .args .b) (c .pre)
+
+returns : tie.Need-returns
+returns c = stays tt (c .before .before .before .args .b) (runBook (rebroadcastOne (c .before .before .before .args .trigger) (c .before .before .before .args .id .0)) (view (c .before .before .before .args .b))) (c .before .before .before .pre) (rebroadcast-absent (c .before .before .before .args .b) (c .before .before .before .args .trigger) (c .before .before .before .args .id .0) (sym (c .before .before .position-of .ensures) ∙ c .enum-told .given .1))
+
+submitted-at-requires : tie.Need-submitted-at-requires
+submitted-at-requires c κs = (sound-normal (c .before .before .before .before .args .b) (c .before .before .before .before .pre), at-first (hasId (c .before .before .before .before .args .id .0)) (view (c .before .before .before .before .args .b) .submitted) (sym (c .before .before .before .position-of .ensures) ∙ c .before .place .given .1) .within)
+
+offer-requires : tie.Need-offer-requires
+offer-requires c κs = c .before .before .before .before .before .before .before .pre
+
+returns-2 : tie.Need-returns-2
+returns-2 c = ends-as tt (c .offer .result .book) (runBook (offer (c .before .before .before .before .before .before .before .before .args .id .0) (c .before .before .before .before .before .before .before .before .args .trigger) (c .before .goal-for .result)) (view (c .before .before .before .before .before .before .before .before .args .b))) (c .offer .result .full)
+    (rebroadcast-at (c .before .before .before .before .before .before .before .before .args .b) (c .before .before .before .before .before .before .before .before .args .trigger) (c .before .before .before .before .before .before .before .before .args .id .0) _ (sym (c .before .before .before .before .before .before .before .position-of .ensures) ∙ c .before .before .before .before .before .place .given .1)
+    ∙ ap (λ (g : SubmissionDeliveryGoal). runBook (offer (c .before .before .before .before .before .before .before .before .args .id .0) (c .before .before .before .before .before .before .before .before .args .trigger) g) (view (c .before .before .before .before .before .before .before .before .args .b))) (ap (λ (t : SubmittedTx). goalFor (t .entry)) (sym (c .before .before .before .submitted-at .ensures)) ∙ sym (c .before .goal-for .ensures)))
+    (c .offer .ensures)
+
+pub rebroadcast-one-spec : {M : Type 1} → statement M
+rebroadcast-one-spec =
+    tie.close
+    (tie.spec
+    position-of-requires
+    (λ c. search needs)
+    (λ c. search needs)
+    returns
+    submitted-at-requires
+    (λ c κs. search needs)
+    offer-requires
+    returns-2)

@@ -1,0 +1,26 @@
+use borrow.Author.Needs.{needs}
+use mathlib.Core.Path.{sym, ap, _∙_}
+use Rattle.book.specs.Model.{view}
+use Rattle.rules.specs.Call.{Applied, Stale}
+use Rattle.part_replies.specs.Reply.{statusReply}
+use Rattle.part_lookup.specs.Normal.{sound-normal}
+use Rattle.part_attempt_answers.specs.Answers.{status-ended}
+use Rattle.call_relinquish_completed_attempt.specs.Relinquishing.{relinquish-never, relinquish-issued}
+use Rattle.call_relinquish_completed_attempt.proofs.relinquish_completed_attempt_sound.Statement.{statement}
+use Rattle.call_relinquish_completed_attempt.proofs.relinquish_completed_attempt_sound.Tie as tie
+
+find-attempt-requires : tie.Need-find-attempt-requires
+find-attempt-requires c κs = sound-normal (c .args .b) (c .pre)
+
+returns : tie.Need-returns
+returns c = c .status-refused .ensures ∙ ap (statusReply (c .before .before .before .before .args .b)) (relinquish-never (c .before .before .before .before .args .t .0) (view (c .before .before .before .before .args .b)) (c .before .before .before .find-attempt .ensures) (sym (c .before .before .is-never-issued .ensures) ∙ c .before .if1 .taken))
+
+returns-2 : tie.Need-returns-2
+returns-2 c = c .status-done .ensures ∙ status-ended (c .before .before .before .before .before .before .args .b) Applied (sound-normal (c .before .before .before .before .before .before .args .b) (c .before .before .before .before .before .before .pre) .held) (relinquish-issued (c .before .before .before .before .before .before .args .t .0) (view (c .before .before .before .before .before .before .args .b)) (c .before .before .before .before .before .find-attempt .ensures) (sym (c .before .before .before .before .is-never-issued .ensures) ∙ c .before .before .before .if1 .left) (sym (c .before .before .is-set-aside .ensures) ∙ c .before .if2 .taken))
+
+returns-3 : tie.Need-returns-3
+returns-3 c = c .status-done2 .ensures ∙ status-ended (c .before .before .before .before .before .before .args .b) Stale (sound-normal (c .before .before .before .before .before .before .args .b) (c .before .before .before .before .before .before .pre) .held) (relinquish-issued (c .before .before .before .before .before .before .args .t .0) (view (c .before .before .before .before .before .before .args .b)) (c .before .before .before .before .before .find-attempt .ensures) (sym (c .before .before .before .before .is-never-issued .ensures) ∙ c .before .before .before .if1 .left) (sym (c .before .before .is-set-aside .ensures) ∙ c .before .if2 .left))
+
+pub relinquish-completed-attempt-sound-spec : {M : Type 1} → statement M
+relinquish-completed-attempt-sound-spec =
+    tie.close (tie.spec find-attempt-requires (λ c κs. search needs) (λ c κs. search needs) returns (λ c κs. search needs) (λ c κs. search needs) returns-2 (λ c κs. search needs) returns-3)

@@ -1,0 +1,19 @@
+use borrow.Author.Needs.{needs}
+use mathlib.Core.Path.{_∙_}
+use Rattle.part_lookup.specs.Normal.{sound-normal}
+use Rattle.call_stop_attempt.specs.Stopping.{stop-answer}
+use Rattle.call_stop_attempt.proofs.stop_live.Statement.{statement}
+use Rattle.call_stop_attempt.proofs.stop_live.Tie as tie
+
+submitted-at-requires : tie.Need-submitted-at-requires
+submitted-at-requires c κs = (sound-normal (c .args .b) (c .pre .0), c .pre .1)
+
+store-submitted-requires : tie.Need-store-submitted-requires
+store-submitted-requires c κs = (sound-normal (c .before .before .before .args .b) (c .before .before .before .pre .0), c .before .before .before .pre .1)
+
+returns : tie.Need-returns
+returns c = c .status-done .ensures ∙ stop-answer (c .before .before .before .before .before .args .b) (c .before .before .before .before .before .pre .0) (c .before .before .before .before .before .args .k) (c .before .before .before .before .before .pre .1) (c .before .before .before .before .submitted-at .ensures) (c .before .before .stop-lent .ensures) (c .before .store-submitted .ensures)
+
+pub stop-live-spec : {M : Type 1} → statement M
+stop-live-spec =
+    tie.close (tie.spec submitted-at-requires (λ c κs. search needs) store-submitted-requires (λ c κs. search needs) returns)

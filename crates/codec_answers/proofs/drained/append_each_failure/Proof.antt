@@ -1,0 +1,63 @@
+use Rattle.codec_forms.specs.Wire.{encMany}
+use Rattle.codec_append.specs.Fits.{FitsWithin, within-start, within-more, within-done}
+use Rattle.codec_answers.specs.Drain.{encodeFailed}
+use borrow.Author.Needs.{needs}
+use native.Mathlib.Omega.{arith}
+use mathlib.Core.Path.{_≡_, refl}
+use Prim.Native.Nat.{_-_, _*_, _≤_}
+use lib.ListN.{length, take}
+use Rattle.codec_answers.proofs.drained.append_each_failure.Statement.{statement}
+use Rattle.codec_answers.proofs.drained.append_each_failure.Tie as tie
+
+abbrev Inv-loop : tie.InvT-loop
+Inv-loop out₀ at n a k e₀ i₀ out e i = FitsWithin (i * 59) (encMany encodeFailed (take i a)) at out₀ out e × (i ≤ k) × (k ≤ 16) × (length out ≡ length out₀)
+
+abbrev μ-loop : tie.MeasureT-loop
+μ-loop out₀ at n a k e₀ i₀ out e i = k - i
+
+at-most-requires : tie.Need-at-most-requires Inv-loop μ-loop
+at-most-requires c κs = search needs
+
+loop-holds : tie.Need-loop-holds Inv-loop μ-loop
+loop-holds c = (within-start 59 encodeFailed (c .before .before .args .t3) (c .before .before .args .at) (c .before .before .args .out .now), omega arith, omega (arith, c .at-most .ensures), refl)
+
+mul-f : tie.Need-mul-f Inv-loop μ-loop
+mul-f c = search needs
+
+array-copy-out-f : tie.Need-array-copy-out-f Inv-loop μ-loop
+array-copy-out-f c = search needs
+
+append-drain-failure-requires : tie.Need-append-drain-failure-requires Inv-loop μ-loop
+append-drain-failure-requires c κs = search needs
+
+add-i : tie.Need-add-i Inv-loop μ-loop
+add-i c = search needs
+
+loop-less : tie.Need-loop-less Inv-loop μ-loop
+loop-less c = search needs
+
+loop-again : tie.Need-loop-again Inv-loop μ-loop
+loop-again c = let l : length (c .before .before .before .before .before .before .before .before .before .args .t3) ≡ 16 = search needs in (within-more 59 _ encodeFailed (c .before .before .before .before .before .before .before .before .before .args .t3) (c .before .before .before .before .before .before .loop .i) (omega (arith, l, c .before .before .before .before .before .before .loop .inv .2)) (c .before .before .before .before .before .before .loop .inv .0) (c .before .before .append-drain-failure .ensures), omega arith, c .before .before .before .before .before .before .loop .inv .2, search needs)
+
+same-length : tie.Need-same-length Inv-loop μ-loop
+same-length c = c .before .loop .inv .3
+
+returns : tie.Need-returns Inv-loop μ-loop
+returns c = let l : length (c .before .before .before .before .args .t3) ≡ 16 = search needs in within-done 59 encodeFailed (c .before .before .before .before .args .t3) (c .before .before .before .before .args .n) (c .before .before .at-most .result) (c .before .loop .i) l (c .before .before .at-most .ensures) (c .before .loop .inv .1) (c .loop-test .left) (c .before .loop .inv .0)
+
+pub append-each-failure-spec : {M : Type 1} → statement M
+append-each-failure-spec =
+    tie.close
+    (tie.spec
+    Inv-loop
+    μ-loop
+    at-most-requires
+    loop-holds
+    mul-f
+    array-copy-out-f
+    append-drain-failure-requires
+    add-i
+    loop-less
+    loop-again
+    same-length
+    returns)

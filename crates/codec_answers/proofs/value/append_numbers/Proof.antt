@@ -1,0 +1,62 @@
+use Rattle.codec_forms.specs.Wire.{be, encMany}
+use Rattle.codec_append.specs.Fits.{Fits, each-start, each-more, each-done}
+use borrow.Author.Needs.{needs}
+use native.Mathlib.Omega.{arith}
+use mathlib.Core.Path.{_≡_, refl}
+use Prim.Native.Nat.{_-_, _≤_}
+use lib.ListN.{length, take}
+use Rattle.codec_answers.proofs.value.append_numbers.Statement.{statement}
+use Rattle.codec_answers.proofs.value.append_numbers.Tie as tie
+
+abbrev Inv-loop : tie.InvT-loop
+Inv-loop out₀ at n a k e₀ i₀ out e i = Fits (encMany (be 8) (take i a)) at out₀ out e × (i ≤ k) × (k ≤ 64) × (length out ≡ length out₀)
+
+abbrev μ-loop : tie.MeasureT-loop
+μ-loop out₀ at n a k e₀ i₀ out e i = k - i
+
+at-most-requires : tie.Need-at-most-requires Inv-loop μ-loop
+at-most-requires c κs = search needs
+
+loop-holds : tie.Need-loop-holds Inv-loop μ-loop
+loop-holds c = let l : length (c .before .before .args .t3) ≡ 64 = search needs in (each-start (be 8) (c .before .before .args .t3) (c .before .before .args .at) (c .before .before .args .out .now), omega arith, omega (arith, c .at-most .ensures), refl)
+
+mul-append-number : tie.Need-mul-append-number Inv-loop μ-loop
+mul-append-number c = search needs
+
+array-read-append-number : tie.Need-array-read-append-number Inv-loop μ-loop
+array-read-append-number c = search needs
+
+append-number-requires : tie.Need-append-number-requires Inv-loop μ-loop
+append-number-requires c κs = search needs
+
+add-i : tie.Need-add-i Inv-loop μ-loop
+add-i c = search needs
+
+loop-less : tie.Need-loop-less Inv-loop μ-loop
+loop-less c = search needs
+
+loop-again : tie.Need-loop-again Inv-loop μ-loop
+loop-again c = let l : length (c .before .before .before .before .before .before .before .before .args .t3) ≡ 64 = search needs in (each-more 0 (be 8) (c .before .before .before .before .before .before .before .before .args .t3) (c .before .before .before .before .before .loop .i) (omega (arith, l, c .before .before .before .before .before .loop .inv .2)) (c .before .before .before .before .before .loop .inv .0) (c .before .before .append-number .ensures), omega arith, c .before .before .before .before .before .loop .inv .2, search needs)
+
+same-length : tie.Need-same-length Inv-loop μ-loop
+same-length c = c .before .loop .inv .3
+
+returns : tie.Need-returns Inv-loop μ-loop
+returns c = let l : length (c .before .before .before .before .args .t3) ≡ 64 = search needs in each-done (be 8) (c .before .before .before .before .args .t3) 64 (c .before .before .before .before .args .n) (c .before .before .at-most .result) (c .before .loop .i) l (c .before .before .at-most .ensures) (c .before .loop .inv .1) (c .loop-test .left) (c .before .loop .inv .0)
+
+pub append-numbers-spec : {M : Type 1} → statement M
+append-numbers-spec =
+    tie.close
+    (tie.spec
+    Inv-loop
+    μ-loop
+    at-most-requires
+    loop-holds
+    mul-append-number
+    array-read-append-number
+    append-number-requires
+    add-i
+    loop-less
+    loop-again
+    same-length
+    returns)

@@ -1,0 +1,110 @@
+-- The answer of a drain, as docs/DRIVER.md lays it out.
+use mathlib.Core.Path.{_≡_, refl, sym, ap, _∙_}
+use mathlib.Core.List.{List, _++_}
+use mathlib.Core.Option.{Option, none, some}
+use Prim.Native.Nat.{ℕ, _≤_, min}
+use native.Mathlib.Omega.{arith}
+use lib.ListN.{length, take, length-append}
+use Rattle.archive_form.specs.Lengths.{id-size}
+use Rattle.codec_forms.specs.Wire.{be, encMany}
+use Rattle.codec_forms.specs.Number.{be-length}
+use Rattle.codec_forms.specs.Puts.{Size}
+use Rattle.archive_bundle_form.specs.Forms.{encodeBundle, encodeHeight, encodeFeeIntent}
+use Rattle.archive_form.specs.Encode.{encodeId}
+use Rattle.book.specs.declared.OptionalId.{OptionalId}
+use Rattle.book.specs.declared.OptionalId.the-variants as optional
+use Rattle.rules.specs.Call as call
+use Rattle.part_submitted.specs.declared.OptionalToken.{OptionalToken}
+use Rattle.part_submitted.specs.declared.OptionalToken.the-variants.{NoToken, Of}
+use Rattle.part_submitted.specs.declared.DrainedSubmission.{DrainedSubmission}
+use Rattle.part_drain_answers.specs.Failures.{causeOf, failureOf, idMeans}
+use Rattle.part_drain_answers.specs.declared.SubmissionDrainFailure.{SubmissionDrainFailure}
+use Rattle.codec_answers.specs.Forms.{relationshipNumber, encodeToken, encodeDrained}
+
+abbrev pub stageNumber : call.Stage → ℕ
+stageNumber call.Fingerprint = 0
+stageNumber call.RetainedState = 1
+stageNumber call.ExpectedOutputs = 2
+stageNumber call.SubmissionIdSource = 3
+
+-- a mark, and the id where it is 1
+abbrev pub encodeOptional : Option ℕ → List ℕ
+encodeOptional none = be 1 0
+encodeOptional (some i) = be 1 1 ++ be 8 i
+
+-- candidate index, retained id, candidate id, intent fingerprint, stage
+unfoldable pub encodeFailure : call.Failure → List ℕ
+unfolding be
+encodeFailure f =
+    be 8 (f .index) ++ encodeOptional (call.retainedId f) ++ encodeOptional (some (f .candidateId)) ++ f .intentFingerprint ++ be 1 (stageNumber (call.stageOf (f .cause)))
+
+unfoldable pub encodeFailed : SubmissionDrainFailure → List ℕ
+unfolding encodeFailure failureOf
+encodeFailed f = encodeFailure (failureOf f)
+
+-- the count, and the first n of 16 cells
+unfoldable pub encodeSubmissions : ℕ → List DrainedSubmission → List ℕ
+unfolding be encMany encodeDrained
+encodeSubmissions n a = be 1 (min n 16) ++ encMany encodeDrained (take n a)
+
+unfoldable pub encodeFailures : ℕ → List SubmissionDrainFailure → List ℕ
+unfolding be encMany encodeFailed
+encodeFailures n a = be 1 (min n 16) ++ encMany encodeFailed (take n a)
+
+-- ---- lengths
+token-most : (t : OptionalToken) → length (encodeToken t) ≤ 9
+unfolding encodeToken
+token-most NoToken = omega (arith, be-length 1 0)
+token-most (Of t) = omega (arith, length-append (be 1 1) (be 8 (t .0)), be-length 1 1, be-length 8 (t .0))
+
+pub drained-most : (d : DrainedSubmission) {i j k : ℕ} → Size (encodeBundle (d .bundle)) 1073 i → Size (encodeHeight (d .expiry)) 9 j → Size (encodeFeeIntent (d .«fee_intent»)) 41 k → length (encodeDrained d) ≤ 1149
+unfolding encodeDrained
+drained-most d s t u =
+    let a = be 8 (d .id .0) in
+    let b = be 8 (d .«attempt_token» .0) in
+    let p = encodeToken (d .«predecessor_attempt_token») in
+    let r = be 1 (relationshipNumber (d .relationship)) in
+    let x = encodeBundle (d .bundle) in
+    let y = encodeHeight (d .expiry) in
+    let z = encodeFeeIntent (d .«fee_intent») in
+    omega (
+      arith,
+      length-append (a ++ b ++ p ++ r ++ x ++ y) z,
+      length-append (a ++ b ++ p ++ r ++ x) y,
+      length-append (a ++ b ++ p ++ r) x,
+      length-append (a ++ b ++ p) r,
+      length-append (a ++ b) p,
+      length-append a b,
+      be-length 8 (d .id .0),
+      be-length 8 (d .«attempt_token» .0),
+      token-most (d .«predecessor_attempt_token»),
+      be-length 1 (relationshipNumber (d .relationship)),
+      s .is,
+      s .few,
+      t .is,
+      t .few,
+      u .is,
+      u .few,
+    )
+
+pub failure-most : (n : ℕ) (i j : OptionalId) (h : List ℕ) (k : ℕ) → length h ≡ 32 → length (be 8 n ++ encodeId i ++ encodeId j ++ h ++ be 1 k) ≤ 59
+failure-most n i j h k e =
+    let a = be 8 n in
+    let b = encodeId i in
+    let c = encodeId j in
+    let d = be 1 k in
+    omega (arith, length-append (a ++ b ++ c ++ h) d, length-append (a ++ b ++ c) h, length-append (a ++ b) c, length-append a b, be-length 8 n, be-length 1 k, id-size i, id-size j)
+
+-- ---- what the parts of a failure are
+id-optional : (i : OptionalId) → encodeId i ≡ encodeOptional (idMeans i)
+unfolding encodeId
+id-optional optional.NoId = refl
+id-optional (optional.Of i) = refl
+
+pub failed-parts : (f : SubmissionDrainFailure) (r : OptionalId) (k : ℕ) → idMeans r ≡ call.retainedId (failureOf f) → k ≡ stageNumber (call.stageOf (causeOf (f .cause))) → be 8 (f .«candidate_index») ++ encodeId r ++ encodeId (optional.Of (f .«candidate_id»)) ++ f .«intent_fingerprint» ++ be 1 k ≡ encodeFailed f
+unfolding encodeFailed encodeFailure failureOf encodeId
+failed-parts f r k e q =
+    let x = be 8 (f .«candidate_index») in
+    let i = be 1 1 ++ be 8 (f .«candidate_id» .0) in
+    let h = f .«intent_fingerprint» in
+    ap (λ (l : List ℕ). x ++ l ++ i ++ h ++ be 1 k) (id-optional r ∙ ap encodeOptional e) ∙ ap (λ (n : ℕ). x ++ encodeOptional (call.retainedId (failureOf f)) ++ i ++ h ++ be 1 n) q

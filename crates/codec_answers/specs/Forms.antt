@@ -1,0 +1,86 @@
+-- The answers of docs/DRIVER.md that have no archive form.
+use mathlib.Core.Path.{_≡_, sym, ap}
+use mathlib.Core.Bool.{Bool, true, false}
+use mathlib.Core.List.{List, _++_}
+use Prim.Native.Nat.{ℕ, min}
+use lib.ListN.{take}
+use Rattle.codec_forms.specs.Wire.{be, encMany}
+use Rattle.archive_bundle_form.specs.Forms.{encodeBundle, encodeHeight, encodeFeeIntent}
+use Rattle.book.specs.declared.Ids64.{Ids64}
+use Rattle.part_replies.specs.declared.CallAnswer.{CallAnswer}
+use Rattle.part_replies.specs.declared.CallAnswer.the-variants.{Done, Refused}
+use Rattle.part_replies.specs.declared.SubmissionAttemptStatus.{SubmissionAttemptStatus}
+use Rattle.part_replies.specs.declared.SubmissionAttemptStatus.the-variants.{Applied, Stale}
+use Rattle.part_replies.specs.declared.FeeSourceDisposition.{FeeSourceDisposition}
+use Rattle.part_replies.specs.declared.FeeSourceDisposition.the-variants.{Attached, Unused, NotRequested}
+use Rattle.part_replies.specs.declared.FinalizedSubmission.{FinalizedSubmission}
+use Rattle.part_slots.specs.declared.SubmissionAttemptRelationship.{SubmissionAttemptRelationship}
+use Rattle.part_slots.specs.declared.SubmissionAttemptRelationship.the-variants.{Initial, Exact, NewerFeeBearing, Other}
+use Rattle.book.specs.declared.Token.{Token}
+use Rattle.part_submitted.specs.declared.OptionalToken.{OptionalToken}
+use Rattle.part_submitted.specs.declared.OptionalToken.the-variants.{NoToken, Of}
+use Rattle.part_submitted.specs.declared.DrainedSubmission.{DrainedSubmission}
+
+abbrev pub flagNumber : Bool → ℕ
+flagNumber false = 0
+flagNumber true = 1
+
+abbrev pub refusalNumber : CallAnswer → ℕ
+refusalNumber Done = 0
+refusalNumber (Refused n) = n
+
+abbrev pub statusNumber : SubmissionAttemptStatus → ℕ
+statusNumber Applied = 0
+statusNumber Stale = 1
+
+abbrev pub dispositionNumber : FeeSourceDisposition → ℕ
+dispositionNumber Attached = 0
+dispositionNumber Unused = 1
+dispositionNumber NotRequested = 2
+
+abbrev pub relationshipNumber : SubmissionAttemptRelationship → ℕ
+relationshipNumber Initial = 0
+relationshipNumber Exact = 1
+relationshipNumber NewerFeeBearing = 2
+relationshipNumber Other = 3
+
+-- count, ids of 8 bytes
+unfoldable pub encodeIds : Ids64 → List ℕ
+unfolding be encMany
+encodeIds i = be 1 (min (i .count) 64) ++ encMany (be 8) (take (i .count) (i .items))
+
+unfoldable pub encodeToken : OptionalToken → List ℕ
+unfolding be
+encodeToken NoToken = be 1 0
+encodeToken (Of t) = be 1 1 ++ be 8 (t .0)
+
+pub token-no : (t : OptionalToken) → t ≡ NoToken → be 1 0 ≡ encodeToken t
+unfolding encodeToken
+token-no t e = sym (ap encodeToken e)
+
+pub token-of : (t : OptionalToken) (x : Token) → t ≡ Of x → be 1 1 ++ be 8 (x .0) ≡ encodeToken t
+unfolding encodeToken
+token-of t x e = sym (ap encodeToken e)
+
+-- id, token, predecessor, relationship, bundle, expiry, fee intent
+unfoldable pub encodeDrained : DrainedSubmission → List ℕ
+unfolding be encodeToken encodeBundle encodeHeight encodeFeeIntent
+encodeDrained d =
+    be 8 (d .id .0)
+    ++ be 8 (d .«attempt_token» .0)
+    ++ encodeToken (d .«predecessor_attempt_token»)
+    ++ be 1 (relationshipNumber (d .relationship))
+    ++ encodeBundle (d .bundle)
+    ++ encodeHeight (d .expiry)
+    ++ encodeFeeIntent (d .«fee_intent»)
+
+-- bundle, applied fee, warning, disposition, variant fingerprint, should-broadcast
+unfoldable pub encodeFinal : FinalizedSubmission → List ℕ
+unfolding be encodeBundle
+encodeFinal f =
+    encodeBundle (f .bundle)
+    ++ be 8 (f .«applied_fee»)
+    ++ be 1 (flagNumber (f .warning))
+    ++ be 1 (dispositionNumber (f .disposition))
+    ++ f .«variant_fingerprint»
+    ++ be 1 (flagNumber (f .«should_broadcast»))

@@ -1,0 +1,124 @@
+// The values that calls answer.
+ghost use mathlib.Core.Path.{_≡_};
+ghost use lib.ListN.{take};
+ghost use Rattle.codec_forms.specs.Wire.{be, encMany, encOpt};
+ghost use Rattle.archive_bundle_form.specs.Forms.{encodeFeeIntent};
+ghost use Rattle.codec_append.specs.Fits.{Fits};
+ghost use Rattle.codec_answers.specs.Forms.{refusalNumber, statusNumber, dispositionNumber, encodeIds, encodeFinal};
+use crate::part::append_flag;
+use archive_bundle_write::write::append_bundle;
+use archive_bundle_write::write::append_fee_intent;
+use base_lists::at_most;
+use book::Ids64;
+use book::SubmissionFeeIntent;
+use codec_append::append_byte;
+use codec_append::append_bytes;
+use codec_append::append_number;
+use part_replies::CallAnswer;
+use part_replies::FeeSourceDisposition;
+use part_replies::FinalizedSubmission;
+use part_replies::SubmissionAttemptStatus;
+
+// 0, or the refusal's number.
+pub fn refusal_number(a: CallAnswer) -> u8
+    ensures { λ r. ⌜ r ≡ refusalNumber a ⌝ }
+{
+    match a {
+        CallAnswer::Done => 0,
+        CallAnswer::Refused(n) => n,
+    }
+}
+
+pub fn status_number(s: SubmissionAttemptStatus) -> u8
+    ensures { λ r. ⌜ r ≡ statusNumber s ⌝ }
+{
+    match s {
+        SubmissionAttemptStatus::Applied => 0,
+        SubmissionAttemptStatus::Stale => 1,
+    }
+}
+
+pub fn append_status(out: &mut [u8], at: usize, s: SubmissionAttemptStatus) -> usize
+    ensures { λ r. ⌜ Fits (be 1 (statusNumber s)) at (now (out .entry)) (now (out .exit)) r ⌝ }
+{
+    let n = status_number(s);
+    append_byte(out, at, n)
+}
+
+fn append_numbers(out: &mut [u8], at: usize, a: [u64; 64], n: usize) -> usize
+    ensures { λ r. ⌜ Fits (encMany (be 8) (take n a)) at (now (out .entry)) (now (out .exit)) r ⌝ }
+{
+    let k = at_most(n, 64);
+    let mut e = at;
+    let mut i: usize = 0;
+    while i < k {
+        e = append_number(&mut *out, e, a[i]);
+        i += 1;
+    }
+    e
+}
+
+pub fn append_ids(out: &mut [u8], at: usize, ids: Ids64) -> usize
+    ensures { λ r. ⌜ Fits (encodeIds ids) at (now (out .entry)) (now (out .exit)) r ⌝ }
+{
+    let items = ids.items;
+    let n = ids.count;
+    let k = at_most(n, 64);
+    let e = append_byte(&mut *out, at, k as u8);
+    append_numbers(out, e, items, n)
+}
+
+pub fn append_optional_fee_intent(
+    out: &mut [u8],
+    at: usize,
+    present: bool,
+    f: SubmissionFeeIntent,
+) -> usize
+    ensures { λ r. ⌜ Fits (encOpt present (encodeFeeIntent f)) at (now (out .entry)) (now (out .exit)) r ⌝ }
+{
+    if !present {
+        return append_byte(out, at, 0);
+    }
+    let e = append_byte(&mut *out, at, 1);
+    append_fee_intent(out, e, f)
+}
+
+pub fn disposition_number(d: FeeSourceDisposition) -> u8
+    ensures { λ r. ⌜ r ≡ dispositionNumber d ⌝ }
+{
+    match d {
+        FeeSourceDisposition::Attached => 0,
+        FeeSourceDisposition::Unused => 1,
+        FeeSourceDisposition::NotRequested => 2,
+    }
+}
+
+fn append_finalized(out: &mut [u8], at: usize, f: FinalizedSubmission) -> usize
+    ensures { λ r. ⌜ Fits (encodeFinal f) at (now (out .entry)) (now (out .exit)) r ⌝ }
+{
+    let bundle = f.bundle;
+    let disposition = f.disposition;
+    let fingerprint = f.variant_fingerprint;
+    let d = disposition_number(disposition);
+    let bundle_end = append_bundle(&mut *out, at, bundle);
+    let fee_end = append_number(&mut *out, bundle_end, f.applied_fee);
+    let warning_end = append_flag(&mut *out, fee_end, f.warning);
+    let disposition_end = append_byte(&mut *out, warning_end, d);
+    let fingerprint_end = append_bytes(&mut *out, disposition_end, &fingerprint);
+    append_flag(out, fingerprint_end, f.should_broadcast)
+}
+
+pub fn append_optional_finalized(
+    out: &mut [u8],
+    at: usize,
+    present: bool,
+    f: FinalizedSubmission,
+) -> usize
+    ensures { λ r. ⌜ Fits (encOpt present (encodeFinal f)) at (now (out .entry)) (now (out .exit)) r ⌝ }
+{
+    if !present {
+        return append_byte(out, at, 0);
+    }
+    let e = append_byte(&mut *out, at, 1);
+    append_finalized(out, e, f)
+}

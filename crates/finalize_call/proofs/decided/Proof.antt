@@ -1,9 +1,0 @@
-use borrow.Author.Needs.{needs}
-use Rattle.finalize_call.proofs.decided.Statement.{statement}
-use Rattle.finalize_call.proofs.decided.Tie as tie
-
-returns : tie.Need-returns
-returns c = rw (c .finalized .ensures)
-
-pub decided-spec : {M : Type 1} → statement M
-decided-spec = tie.close (tie.spec (λ c κs. search needs) returns)

@@ -1,9 +1,0 @@
-use borrow.Author.Needs.{needs}
-use Rattle.finalize_call.proofs.unasked.Statement.{statement}
-use Rattle.finalize_call.proofs.unasked.Tie as tie
-
-returns : tie.Need-returns
-returns c = rw (c .zero-finalized .ensures)
-
-pub unasked-spec : {M : Type 1} → statement M
-unasked-spec = tie.close (tie.spec (λ c κs. search needs) returns)

@@ -1,0 +1,17 @@
+use mathlib.Core.Path.{sym, ap, _∙_}
+use Rattle.book_coins.specs.Found.{isFound}
+use Rattle.base_coin_string.specs.CoinList.{coinsIn}
+use Rattle.part_chain_tests.specs.Laws.{found-observed}
+use borrow.Author.Needs.{needs}
+use Rattle.part_chain_tests.proofs.output_observed.Statement.{statement}
+use Rattle.part_chain_tests.proofs.output_observed.Tie as tie
+
+returns : tie.Need-returns
+returns c = ap isFound (sym (c .enum-told .given .1) ∙ c .before .before .first-output-among .ensures) ∙ found-observed (coinsIn (c .before .before .before .before .before .args .observed .now)) (c .before .before .before .before .before .args .e)
+
+returns-2 : tie.Need-returns-2
+returns-2 c = ap isFound (sym (c .enum-told2 .given .1) ∙ c .before .before .first-output-among .ensures) ∙ found-observed (coinsIn (c .before .before .before .before .before .args .observed .now)) (c .before .before .before .before .before .args .e)
+
+pub output-observed-spec : {M : Type 1} → statement M
+output-observed-spec =
+    tie.close (tie.spec (λ c κs. search needs) (λ c. search needs) (λ c. search needs) returns returns-2)

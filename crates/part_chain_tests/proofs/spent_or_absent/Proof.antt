@@ -1,0 +1,17 @@
+use mathlib.Core.Bool.{Bool, _||_}
+use mathlib.Core.Path.{sym, ap, _∙_}
+use Rattle.base_coin_string.specs.CoinList.{coinsIn}
+use Rattle.rules.specs.Calls.ReconcileChainTerminality.{outputObserved}
+use borrow.Author.Needs.{needs}
+use Rattle.part_chain_tests.proofs.spent_or_absent.Statement.{statement}
+use Rattle.part_chain_tests.proofs.spent_or_absent.Tie as tie
+
+returns : tie.Need-returns
+returns c = ap (λ (t : Bool). t || outputObserved (coinsIn (c .before .before .before .before .args .absent .now)) (c .before .before .before .before .args .e)) (sym (c .if1 .taken) ∙ c .before .is-input-spent .ensures)
+
+returns-2 : tie.Need-returns-2
+returns-2 c = c .output-observed .ensures ∙ ap (λ (t : Bool). t || outputObserved (coinsIn (c .before .before .before .before .before .args .absent .now)) (c .before .before .before .before .before .args .e)) (sym (c .before .if1 .left) ∙ c .before .before .is-input-spent .ensures)
+
+pub spent-or-absent-spec : {M : Type 1} → statement M
+spent-or-absent-spec =
+    tie.close (tie.spec (λ c κs. search needs) returns (λ c κs. search needs) returns-2)

@@ -1,0 +1,17 @@
+use borrow.Author.Needs.{needs}
+use Rattle.part_change.specs.ChangeLaws.{epoch-normal, dropped-normal, unqueued-normal, removed-is}
+use Rattle.part_change.proofs.remove_submitted.Statement.{statement}
+use Rattle.part_change.proofs.remove_submitted.Tie as tie
+
+unqueue-requires : tie.Need-unqueue-requires
+unqueue-requires c κs = dropped-normal (c .before .args .id .0) (c .before .args .b) (c .before .pre) (c .drop-submitted .result) (c .drop-submitted .ensures)
+
+remove-requires : tie.Need-remove-requires
+remove-requires c κs = epoch-normal (c .before .unqueue .result) (unqueued-normal (c .before .before .before .args .id .0) (c .before .before .before .args .b) (c .before .before .before .pre) (c .before .before .drop-submitted .result) (c .before .before .drop-submitted .ensures) (c .before .unqueue .result) (c .before .unqueue .ensures))
+
+returns : tie.Need-returns
+returns c = removed-is (c .before .before .before .before .args .id .0) (c .before .before .before .before .args .b) (c .before .before .before .before .pre) (c .before .before .before .drop-submitted .result) (c .before .before .before .drop-submitted .ensures) (c .before .before .unqueue .result) (c .before .before .unqueue .ensures) (c .remove .result) (c .remove .ensures)
+
+pub remove-submitted-spec : {M : Type 1} → statement M
+remove-submitted-spec =
+    tie.close (tie.spec (λ c κs. search needs) unqueue-requires remove-requires returns)

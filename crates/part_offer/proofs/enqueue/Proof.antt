@@ -1,0 +1,16 @@
+use Rattle.part_lookup.specs.Normal.{sound-normal}
+use Rattle.part_offer.specs.OfferLaws.{room, enqueue-full, enqueue-on}
+use Rattle.part_offer.proofs.enqueue.Statement.{statement}
+use Rattle.part_offer.proofs.enqueue.Tie as tie
+
+returns : tie.Need-returns
+returns c = enqueue-full (c .before .before .args .b) (c .before .before .pre .0) (c .before .before .args .d) (c .before .before .pre .1) (c .if1 .taken)
+
+push-pending-requires : tie.Need-push-pending-requires
+push-pending-requires c κs = (sound-normal (c .before .before .args .b) (c .before .before .pre .0), room (c .before .before .args .b) (c .before .before .pre .0) (c .before .before .args .d) (c .before .before .pre .1) (c .if1 .left), c .before .before .pre .1)
+
+returns-2 : tie.Need-returns-2
+returns-2 c = enqueue-on (c .before .before .before .args .b) (c .before .before .before .pre .0) (c .before .before .before .args .d) (c .before .before .before .pre .1) (c .before .if1 .left) (c .push-pending .ensures)
+
+pub enqueue-spec : {M : Type 1} → statement M
+enqueue-spec = tie.close (tie.spec returns push-pending-requires returns-2)

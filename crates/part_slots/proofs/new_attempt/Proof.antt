@@ -1,0 +1,11 @@
+use Rattle.rules.specs.Steps.Slots.{issueAttempt}
+use borrow.Author.Needs.{needs}
+use Rattle.part_slots.proofs.new_attempt.Statement.{statement}
+use Rattle.part_slots.proofs.new_attempt.Tie as tie
+
+returns : tie.Need-returns
+unfolding issueAttempt
+returns c = cc
+
+pub new-attempt-spec : {M : Type 1} → statement M
+new-attempt-spec = tie.close (tie.spec (λ c κs. search needs) returns)

@@ -1,0 +1,11 @@
+use Rattle.part_submitted.specs.Drained.{zeroDrained}
+use borrow.Author.Needs.{needs}
+use Rattle.part_submitted.proofs.DrainedSubmission.zero.Statement.{statement}
+use Rattle.part_submitted.proofs.DrainedSubmission.zero.Tie as tie
+
+returns : tie.Need-returns
+unfolding zeroDrained
+returns c = rw (c .before .zero .ensures, c .zero2 .ensures)
+
+pub zero-spec : {M : Type 1} → statement M
+zero-spec = tie.close (tie.spec (λ c κs. search needs) (λ c κs. search needs) returns)

@@ -1,0 +1,11 @@
+use Rattle.rules.specs.Steps.Entry.{revised}
+use borrow.Author.Needs.{needs}
+use Rattle.part_submitted.proofs.revise.acknowledge.Statement.{statement}
+use Rattle.part_submitted.proofs.revise.acknowledge.Tie as tie
+
+returns : tie.Need-returns
+unfolding revised
+returns c = search needs
+
+pub acknowledge-spec : {M : Type 1} → statement M
+acknowledge-spec = tie.close (tie.spec returns)

@@ -1,0 +1,11 @@
+use Rattle.rules.specs.Steps.Entry.{revised}
+use borrow.Author.Needs.{needs}
+use Rattle.part_submitted.proofs.revise.reopen.Statement.{statement}
+use Rattle.part_submitted.proofs.revise.reopen.Tie as tie
+
+returns : tie.Need-returns
+unfolding revised
+returns c = rw (c .with-chain .ensures, c .before .before .zero .ensures)
+
+pub reopen-spec : {M : Type 1} → statement M
+reopen-spec = tie.close (tie.spec (λ c κs. search needs) (λ c κs. search needs) returns)

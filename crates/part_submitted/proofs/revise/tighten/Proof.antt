@@ -1,0 +1,11 @@
+use Rattle.rules.specs.Steps.Entry.{revised}
+use borrow.Author.Needs.{needs}
+use Rattle.part_submitted.proofs.revise.tighten.Statement.{statement}
+use Rattle.part_submitted.proofs.revise.tighten.Tie as tie
+
+returns : tie.Need-returns
+unfolding revised
+returns c = rw (c .with-expiry .ensures, c .before .min-expiry .ensures)
+
+pub tighten-spec : {M : Type 1} → statement M
+tighten-spec = tie.close (tie.spec (λ c κs. search needs) (λ c κs. search needs) returns)

@@ -1,0 +1,147 @@
+-- What the steps make of the parts of a submission is sound, and the tokens of its slots stay or go.
+use Prim.Native.Nat.{ℕ}
+use mathlib.Core.Bool.{Bool, true, false, cond, _&&_}
+use mathlib.Core.List.{List, [], _∷_}
+use mathlib.Core.Path.{_≡_, refl}
+use Rattle.base_lists.specs.Laws.{and-split, and-both, trues}
+use Rattle.base_lists.specs.Sub.{Sub, sub-all, sub-none}
+use Rattle.book.specs.declared.SubmissionId.{SubmissionId}
+use Rattle.book.specs.declared.AttemptSlots.{AttemptSlots}
+use Rattle.book.specs.declared.SubmittedEntry.{SubmittedEntry}
+use Rattle.book.specs.declared.SubmittedTx.{SubmittedTx}
+use Rattle.book.specs.declared.PendingSubmissionIntent.{PendingSubmissionIntent}
+use Rattle.book.specs.declared.SubmissionDeliveryGoal.{SubmissionDeliveryGoal}
+use Rattle.book.specs.Sound.{soundBundle, readableBundle, soundFeeIntent, soundHash, soundAttempt, soundSlots, soundVariant, soundEntry, soundSubmitted, soundIntent, attemptToken, slotTokens}
+use Rattle.book.specs.Zero.{zeroHash, noAttempt, noSlots, baseVariant}
+use Rattle.rules.specs.Rule.{Revision, tighten, acknowledge, attach, terminality, reopen}
+use Rattle.rules.specs.Steps.{withEntry, withSlots}
+use Rattle.rules.specs.Steps.Entry.{withJoined, revised, newEntry}
+use Rattle.rules.specs.Steps.Slots.{present, issueAttempt, slotsIssued, slotsAside, attemptFinal, slotsFinal}
+
+sound-none : soundAttempt noAttempt ≡ true
+unfolding soundAttempt noAttempt
+sound-none = refl
+
+pub sound-no-slots : soundSlots noSlots ≡ true
+unfolding soundSlots noSlots
+sound-no-slots = refl
+
+pub tokens-no-slots : slotTokens noSlots ≡ []
+unfolding noSlots
+tokens-no-slots = refl
+
+sound-no-hash : soundHash zeroHash ≡ true
+unfolding soundHash zeroHash
+sound-no-hash = refl
+
+sound-base : soundVariant baseVariant ≡ true
+unfolding soundVariant baseVariant
+sound-base = refl
+
+-- ---- slots
+pub sound-aside : (s : AttemptSlots) → soundSlots s ≡ true → soundSlots (slotsAside s) ≡ true
+unfolding soundSlots slotsAside
+sound-aside s h = go (s .«active_attempt» .present)
+  where
+    go : (b : Bool) → soundSlots (cond b (record { «active_attempt» = noAttempt; «completed_attempt» = s .«active_attempt» }) s) ≡ true
+    go true = and-both sound-none (and-split (soundAttempt (s .«active_attempt»)) (soundAttempt (s .«completed_attempt»)) h .0)
+    go false = h
+
+pub sound-final : (v : List ℕ) (s : AttemptSlots) → soundSlots s ≡ true → soundSlots (slotsFinal v s) ≡ true
+unfolding soundSlots slotsFinal soundAttempt soundHash
+sound-final v s h = go (s .«active_attempt» .present)
+  where
+    go : (b : Bool) → soundSlots (cond b (record { «active_attempt» = present (attemptFinal v (s .«active_attempt» .attempt)); «completed_attempt» = s .«completed_attempt» }) s) ≡ true
+    go true = and-split (soundAttempt (s .«active_attempt»)) (soundAttempt (s .«completed_attempt»)) h .1
+    go false = h
+
+pub sound-issued : (t : ℕ) (g : SubmissionDeliveryGoal) (v : List ℕ) (s : AttemptSlots) → soundSlots s ≡ true → soundSlots (slotsIssued (issueAttempt t g v) s) ≡ true
+unfolding soundSlots slotsIssued issueAttempt
+sound-issued t g v s h = go (s .«active_attempt» .present)
+  where
+    go : (b : Bool) → (soundAttempt (present (issueAttempt t g v)) && soundAttempt (cond b (s .«completed_attempt») noAttempt)) ≡ true
+    go true = and-both sound-no-hash (and-split (soundAttempt (s .«active_attempt»)) (soundAttempt (s .«completed_attempt»)) h .1)
+    go false = and-both sound-no-hash sound-none
+
+pub tokens-aside : (s : AttemptSlots) → Sub (slotTokens (slotsAside s)) (slotTokens s)
+unfolding slotsAside noAttempt
+tokens-aside s = go (s .«active_attempt» .present) refl
+  where
+    go : (b : Bool) → s .«active_attempt» .present ≡ b
+        → Sub (slotTokens (cond b (record { «active_attempt» = noAttempt; «completed_attempt» = s .«active_attempt» }) s)) (slotTokens s)
+    go true e = rw e (Sub.keep (sub-none (attemptToken (s .«completed_attempt»))))
+    go false e = sub-all (slotTokens s)
+
+pub tokens-final : (v : List ℕ) (s : AttemptSlots) → Sub (slotTokens (slotsFinal v s)) (slotTokens s)
+unfolding slotsFinal
+tokens-final v s = go (s .«active_attempt» .present) refl
+  where
+    go : (b : Bool) → s .«active_attempt» .present ≡ b
+        → Sub (slotTokens (cond b (record { «active_attempt» = present (attemptFinal v (s .«active_attempt» .attempt)); «completed_attempt» = s .«completed_attempt» }) s)) (slotTokens s)
+    go true e = rw e (sub-all (s .«active_attempt» .attempt .token .0 ∷ attemptToken (s .«completed_attempt»)))
+    go false e = sub-all (slotTokens s)
+
+-- the new token, and some of the old ones
+pub tokens-issued : (t : ℕ) (g : SubmissionDeliveryGoal) (v : List ℕ) (s : AttemptSlots)
+    → (r : List ℕ) × (slotTokens (slotsIssued (issueAttempt t g v) s) ≡ t ∷ r) × Sub r (slotTokens s)
+unfolding slotsIssued issueAttempt noAttempt
+tokens-issued t g v s = (attemptToken (cond (s .«active_attempt» .present) (s .«completed_attempt») noAttempt), refl, go (s .«active_attempt» .present) refl)
+  where
+    go : (b : Bool) → s .«active_attempt» .present ≡ b → Sub (attemptToken (cond b (s .«completed_attempt») noAttempt)) (slotTokens s)
+    go true e = rw e (Sub.skip (sub-all (attemptToken (s .«completed_attempt»))))
+    go false e = sub-none (slotTokens s)
+
+-- ---- submissions
+pub sound-slots : (g : AttemptSlots → AttemptSlots) → ((s : AttemptSlots) → soundSlots s ≡ true → soundSlots (g s) ≡ true)
+    → (t : SubmittedTx) → soundSubmitted t ≡ true → soundSubmitted (withSlots g t) ≡ true
+unfolding soundSubmitted
+sound-slots g keeps t h =
+    let u = and-split (soundSlots (t .slots)) (soundEntry (t .entry)) h in
+    and-both (keeps (t .slots) (u .0)) (u .1)
+
+-- the parts of a sound entry
+abbrev entryParts : SubmittedEntry → List Bool
+entryParts e = readableBundle (e .«base_bundle») ∷ soundVariant (e .«current_variant») ∷ soundFeeIntent (e .«fee_intent») ∷ soundHash (e .«wallet_acknowledged_variant») ∷ []
+
+pub sound-revised : (r : Revision) (e : SubmittedEntry) → soundEntry e ≡ true → soundEntry (revised r e) ≡ true
+unfolding revised soundEntry
+sound-revised (tighten x) e h = h
+sound-revised (acknowledge f) e h =
+    let t = trues (soundBundle (e .«base_bundle»)) (entryParts e) h in
+    and-both (and-both (and-both (and-both (t .0) (t .1 .0)) (t .1 .1 .0)) (t .1 .1 .1 .0)) (unfold soundHash in refl)
+sound-revised (attach j) e h = go (soundBundle j) refl
+  where
+    go : (b : Bool) → soundBundle j ≡ b → soundEntry (cond b (withJoined j e) e) ≡ true
+    go true q =
+        let t = trues (soundBundle (e .«base_bundle»)) (entryParts e) h in
+        and-both (and-both (and-both (and-both (t .0) (t .1 .0)) (unfold soundVariant in q)) (t .1 .1 .1 .0)) (t .1 .1 .1 .1 .0)
+    go false q = h
+sound-revised (terminality c) e h = h
+sound-revised reopen e h =
+    let t = trues (soundBundle (e .«base_bundle»)) (entryParts e) h in
+    and-both (and-both (and-both (and-both (t .0) (t .1 .0)) (t .1 .1 .0)) (t .1 .1 .1 .0)) sound-no-hash
+
+pub sound-entry : (r : Revision) (t : SubmittedTx) → soundSubmitted t ≡ true → soundSubmitted (withEntry (revised r) t) ≡ true
+unfolding soundSubmitted
+sound-entry r t h =
+    let u = and-split (soundSlots (t .slots)) (soundEntry (t .entry)) h in
+    and-both (u .0) (sound-revised r (t .entry) (u .1))
+
+pub revised-id : (r : Revision) (e : SubmittedEntry) → revised r e .id ≡ e .id
+unfolding revised
+revised-id (tighten x) e = refl
+revised-id (acknowledge f) e = refl
+revised-id (attach j) e = go (soundBundle j)
+  where
+    go : (b : Bool) → cond b (withJoined j e) e .id ≡ e .id
+    go true = refl
+    go false = refl
+revised-id (terminality c) e = refl
+revised-id reopen e = refl
+
+pub sound-new : (i : SubmissionId) (p : PendingSubmissionIntent) → soundIntent p ≡ true → readableBundle (p .bundle) ≡ true
+    → soundSubmitted (record { slots = noSlots; entry = newEntry i p }) ≡ true
+unfolding soundSubmitted soundEntry newEntry soundIntent
+sound-new i p h k =
+    let t = and-split (soundBundle (p .bundle)) (soundFeeIntent (p .«fee_intent»)) h in
+    and-both sound-no-slots (and-both (and-both (and-both (and-both (t .0) k) sound-base) (t .1)) sound-no-hash)

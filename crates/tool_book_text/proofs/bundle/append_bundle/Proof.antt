@@ -1,0 +1,37 @@
+use Rattle.codec_append.specs.Fits.{Fits, fits-join, fits-as, fits-none, each-start, each-more}
+use Rattle.tool_book_text.specs.Entries.{attemptText, slotOr, slotText, slotsText, factsText, entryText, headingText, submissionText, deliveryText, tokenOr, tokenText, tokensText, idAfterSpace, noneOf, idsText, slot-no, slot-yes, token-no, token-yes, none-empty, none-some}
+use Rattle.tool_book_text.specs.Bundles.{outputText, runText, spendText, bundleText, variantOr, variantText, variant-no, variant-yes, run-no, run-yes}
+use Rattle.tool_book_text.specs.Coins.{amountFrom, amountOf, isCoin, partsText, coinOr, coinOrBytes, coinText, parentOf, puzzleOf, amount-turn, amount-done, coin-short, coin-long, coin-room}
+use native.Mathlib.Omega.{arith}
+use mathlib.Core.Path.{_≡_, refl, sym, ap, _∙_, subst}
+use mathlib.Core.List.{List, [], _∷_, _++_}
+use Prim.Native.Nat.{ℕ, zero, suc, _+_, _-_, _*_, _/_, _%_, _^_, _≤_, _<_}
+use lib.ListN.{length, getD, take, drop, set}
+use borrow.Author.Needs.{needs}
+use Rattle.tool_book_text.proofs.bundle.append_bundle.Statement.{statement}
+use Rattle.tool_book_text.proofs.bundle.append_bundle.Tie as tie
+use Rattle.tool_book_text.proofs.bundle.append_bundle.Reads as reads
+use Rattle.tool_book_text.proofs.bundle.append_bundle.Lts as lts
+use Rattle.tool_book_text.proofs.bundle.append_spends.Reads as append-spends-reads
+use Rattle.tool_text.proofs.append_number_line.Reads as append-number-line-reads
+
+cast-n : tie.Need-cast-n
+cast-n c = search needs
+
+append-number-line-requires : tie.Need-append-number-line-requires
+append-number-line-requires c κs = search needs
+
+append-spends-requires : tie.Need-append-spends-requires
+append-spends-requires c κs = search needs
+
+same-length : tie.Need-same-length
+same-length c = search needs
+
+returns : tie.Need-returns
+unfolding bundleText
+returns c = fits-join (c .before .before .before .before .before .before .append-number-line .ensures) (c .before .before .append-spends .ensures)
+
+pub append-bundle-spec : {M : Type 1} → statement M
+append-bundle-spec =
+    tie.close
+    (tie.spec cast-n append-number-line-requires append-spends-requires same-length returns)

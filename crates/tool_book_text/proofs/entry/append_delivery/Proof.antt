@@ -1,0 +1,61 @@
+use Rattle.codec_append.specs.Fits.{Fits, fits-join, fits-as, fits-none, each-start, each-more}
+use Rattle.tool_book_text.specs.Entries.{attemptText, slotOr, slotText, slotsText, factsText, entryText, headingText, submissionText, intentText, deliveryText, tokenOr, tokenText, tokensText, idAfterSpace, noneOf, idsText, slot-no, slot-yes, token-no, token-yes, none-empty, none-some}
+use Rattle.tool_book_text.specs.Bundles.{outputText, runText, spendText, bundleText, variantOr, variantText, variant-no, variant-yes, run-no, run-yes}
+use Rattle.tool_book_text.specs.Coins.{amountFrom, amountOf, isCoin, partsText, coinOr, coinOrBytes, coinText, parentOf, puzzleOf, amount-turn, amount-done, coin-short, coin-long, coin-room}
+use native.Mathlib.Omega.{arith}
+use mathlib.Core.Path.{_≡_, refl, sym, ap, _∙_, subst}
+use mathlib.Core.List.{List, [], _∷_, _++_}
+use Prim.Native.Nat.{ℕ, zero, suc, _+_, _-_, _*_, _/_, _%_, _^_, _≤_, _<_}
+use lib.ListN.{length, getD, take, drop, set}
+use borrow.Author.Needs.{needs}
+use Rattle.tool_book_text.proofs.entry.append_delivery.Statement.{statement}
+use Rattle.tool_book_text.proofs.entry.append_delivery.Tie as tie
+use Rattle.tool_book_text.proofs.entry.append_delivery.Reads as reads
+use Rattle.tool_book_text.proofs.entry.append_delivery.Lts as lts
+use Rattle.codec_append.proofs.append_bytes.Reads as append-bytes-reads
+use Rattle.tool_book_text.proofs.entry.append_heading.Reads as append-heading-reads
+use Rattle.tool_book_text.proofs.entry.append_intent.Reads as append-intent-reads
+use Rattle.tool_book_text.proofs.words.append_goal.Reads as append-goal-reads
+use Rattle.tool_book_text.proofs.words.append_trigger.Reads as append-trigger-reads
+
+slice-aggregate-append-heading : tie.Need-slice-aggregate-append-heading
+slice-aggregate-append-heading c = search needs
+
+append-heading-requires : tie.Need-append-heading-requires
+append-heading-requires c κs = search needs
+
+append-intent-requires : tie.Need-append-intent-requires
+append-intent-requires c κs = search needs
+
+append-trigger-requires : tie.Need-append-trigger-requires
+append-trigger-requires c κs = search needs
+
+slice-aggregate-append-bytes : tie.Need-slice-aggregate-append-bytes
+slice-aggregate-append-bytes c = search needs
+
+append-bytes-requires : tie.Need-append-bytes-requires
+append-bytes-requires c κs = search needs
+
+append-goal-requires : tie.Need-append-goal-requires
+append-goal-requires c κs = search needs
+
+same-length : tie.Need-same-length
+same-length c = search needs
+
+returns : tie.Need-returns
+unfolding deliveryText
+returns c = fits-join (fits-join (fits-join (fits-join (c .before .before .before .before .before .before .before .before .before .before .before .before .before .before .before .before .before .before .before .append-heading .ensures) (c .before .before .before .before .before .before .before .before .before .before .before .before .before .before .before .append-intent .ensures)) (c .before .before .before .before .before .before .before .before .before .before .before .append-trigger .ensures)) (c .before .before .before .before .before .before .append-bytes .ensures)) (c .before .before .append-goal .ensures)
+
+pub append-delivery-spec : {M : Type 1} → statement M
+append-delivery-spec =
+    tie.close
+    (tie.spec
+    slice-aggregate-append-heading
+    append-heading-requires
+    append-intent-requires
+    append-trigger-requires
+    slice-aggregate-append-bytes
+    append-bytes-requires
+    append-goal-requires
+    same-length
+    returns)

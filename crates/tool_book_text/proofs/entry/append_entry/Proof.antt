@@ -1,0 +1,56 @@
+use Rattle.codec_append.specs.Fits.{Fits, fits-join, fits-as, fits-none, each-start, each-more}
+use Rattle.tool_book_text.specs.Entries.{attemptText, slotOr, slotText, slotsText, factsText, entryText, headingText, submissionText, deliveryText, tokenOr, tokenText, tokensText, idAfterSpace, noneOf, idsText, slot-no, slot-yes, token-no, token-yes, none-empty, none-some}
+use Rattle.tool_book_text.specs.Bundles.{outputText, runText, spendText, bundleText, variantOr, variantText, variant-no, variant-yes, run-no, run-yes}
+use Rattle.tool_book_text.specs.Coins.{amountFrom, amountOf, isCoin, partsText, coinOr, coinOrBytes, coinText, parentOf, puzzleOf, amount-turn, amount-done, coin-short, coin-long, coin-room}
+use native.Mathlib.Omega.{arith}
+use mathlib.Core.Path.{_≡_, refl, sym, ap, _∙_, subst}
+use mathlib.Core.List.{List, [], _∷_, _++_}
+use Prim.Native.Nat.{ℕ, zero, suc, _+_, _-_, _*_, _/_, _%_, _^_, _≤_, _<_}
+use lib.ListN.{length, getD, take, drop, set}
+use borrow.Author.Needs.{needs}
+use Rattle.tool_book_text.proofs.entry.append_entry.Statement.{statement}
+use Rattle.tool_book_text.proofs.entry.append_entry.Tie as tie
+use Rattle.tool_book_text.proofs.entry.append_entry.Reads as reads
+use Rattle.tool_book_text.proofs.entry.append_entry.Lts as lts
+use Rattle.tool_book_text.proofs.bundle.append_bundle.Reads as append-bundle-reads
+use Rattle.tool_book_text.proofs.bundle.append_variant.Reads as append-variant-reads
+use Rattle.tool_book_text.proofs.entry.append_facts.Reads as append-facts-reads
+use Rattle.tool_book_text.proofs.words.append_hash_line.Reads as append-hash-line-reads
+
+slice-aggregate-append-hash-line : tie.Need-slice-aggregate-append-hash-line
+slice-aggregate-append-hash-line c = search needs
+
+append-hash-line-requires : tie.Need-append-hash-line-requires
+append-hash-line-requires c κs = search needs
+
+slice-aggregate-append-bundle : tie.Need-slice-aggregate-append-bundle
+slice-aggregate-append-bundle c = search needs
+
+append-bundle-requires : tie.Need-append-bundle-requires
+append-bundle-requires c κs = search needs
+
+append-variant-requires : tie.Need-append-variant-requires
+append-variant-requires c κs = search needs
+
+append-facts-requires : tie.Need-append-facts-requires
+append-facts-requires c κs = search needs
+
+same-length : tie.Need-same-length
+same-length c = search needs
+
+returns : tie.Need-returns
+unfolding entryText
+returns c = fits-join (fits-join (fits-join (c .before .before .before .before .before .before .before .before .before .before .before .before .before .before .before .append-hash-line .ensures) (c .before .before .before .before .before .before .before .before .before .before .append-bundle .ensures)) (c .before .before .before .before .before .before .append-variant .ensures)) (c .before .before .append-facts .ensures)
+
+pub append-entry-spec : {M : Type 1} → statement M
+append-entry-spec =
+    tie.close
+    (tie.spec
+    slice-aggregate-append-hash-line
+    append-hash-line-requires
+    slice-aggregate-append-bundle
+    append-bundle-requires
+    append-variant-requires
+    append-facts-requires
+    same-length
+    returns)

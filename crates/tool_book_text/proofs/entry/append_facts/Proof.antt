@@ -1,0 +1,61 @@
+use Rattle.codec_append.specs.Fits.{Fits, fits-join, fits-as, fits-none, each-start, each-more}
+use Rattle.tool_book_text.specs.Entries.{attemptText, slotOr, slotText, slotsText, factsText, entryText, headingText, submissionText, deliveryText, tokenOr, tokenText, tokensText, idAfterSpace, noneOf, idsText, slot-no, slot-yes, token-no, token-yes, none-empty, none-some}
+use Rattle.tool_book_text.specs.Bundles.{outputText, runText, spendText, bundleText, variantOr, variantText, variant-no, variant-yes, run-no, run-yes}
+use Rattle.tool_book_text.specs.Coins.{amountFrom, amountOf, isCoin, partsText, coinOr, coinOrBytes, coinText, parentOf, puzzleOf, amount-turn, amount-done, coin-short, coin-long, coin-room}
+use native.Mathlib.Omega.{arith}
+use mathlib.Core.Path.{_≡_, refl, sym, ap, _∙_, subst}
+use mathlib.Core.List.{List, [], _∷_, _++_}
+use Prim.Native.Nat.{ℕ, zero, suc, _+_, _-_, _*_, _/_, _%_, _^_, _≤_, _<_}
+use lib.ListN.{length, getD, take, drop, set}
+use borrow.Author.Needs.{needs}
+use Rattle.tool_book_text.proofs.entry.append_facts.Statement.{statement}
+use Rattle.tool_book_text.proofs.entry.append_facts.Tie as tie
+use Rattle.tool_book_text.proofs.entry.append_facts.Reads as reads
+use Rattle.tool_book_text.proofs.entry.append_facts.Lts as lts
+use Rattle.tool_book_text.proofs.words.append_chain.Reads as append-chain-reads
+use Rattle.tool_book_text.proofs.words.append_fee_intent.Reads as append-fee-intent-reads
+use Rattle.tool_book_text.proofs.words.append_hash.Reads as append-hash-reads
+use Rattle.tool_book_text.proofs.words.append_height.Reads as append-height-reads
+use Rattle.tool_book_text.proofs.words.append_resolution.Reads as append-resolution-reads
+
+append-resolution-requires : tie.Need-append-resolution-requires
+append-resolution-requires c κs = search needs
+
+append-fee-intent-requires : tie.Need-append-fee-intent-requires
+append-fee-intent-requires c κs = search needs
+
+slice-aggregate-append-hash : tie.Need-slice-aggregate-append-hash
+slice-aggregate-append-hash c = search needs
+
+append-hash-requires : tie.Need-append-hash-requires
+append-hash-requires c κs = search needs
+
+append-chain-requires : tie.Need-append-chain-requires
+append-chain-requires c κs = search needs
+
+slice-aggregate-append-height : tie.Need-slice-aggregate-append-height
+slice-aggregate-append-height c = search needs
+
+append-height-requires : tie.Need-append-height-requires
+append-height-requires c κs = search needs
+
+same-length : tie.Need-same-length
+same-length c = search needs
+
+returns : tie.Need-returns
+unfolding factsText
+returns c = fits-join (fits-join (fits-join (fits-join (c .before .before .before .before .before .before .before .before .before .before .before .before .before .before .before .before .before .before .before .before .append-resolution .ensures) (c .before .before .before .before .before .before .before .before .before .before .before .before .before .before .before .before .append-fee-intent .ensures)) (c .before .before .before .before .before .before .before .before .before .before .before .append-hash .ensures)) (c .before .before .before .before .before .before .before .append-chain .ensures)) (c .before .before .append-height .ensures)
+
+pub append-facts-spec : {M : Type 1} → statement M
+append-facts-spec =
+    tie.close
+    (tie.spec
+    append-resolution-requires
+    append-fee-intent-requires
+    slice-aggregate-append-hash
+    append-hash-requires
+    append-chain-requires
+    slice-aggregate-append-height
+    append-height-requires
+    same-length
+    returns)

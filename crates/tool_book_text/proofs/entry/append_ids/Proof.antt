@@ -1,0 +1,51 @@
+use Rattle.codec_append.specs.Fits.{Fits, fits-join, fits-as, fits-none, each-start, each-more}
+use Rattle.tool_book_text.specs.Entries.{attemptText, slotOr, slotText, slotsText, factsText, entryText, headingText, submissionText, deliveryText, tokenOr, tokenText, tokensText, idAfterSpace, noneOf, idsText, slot-no, slot-yes, token-no, token-yes, none-empty, none-some}
+use Rattle.tool_book_text.specs.Bundles.{outputText, runText, spendText, bundleText, variantOr, variantText, variant-no, variant-yes, run-no, run-yes}
+use Rattle.tool_book_text.specs.Coins.{amountFrom, amountOf, isCoin, partsText, coinOr, coinOrBytes, coinText, parentOf, puzzleOf, amount-turn, amount-done, coin-short, coin-long, coin-room}
+use native.Mathlib.Omega.{arith}
+use mathlib.Core.Path.{_≡_, refl, sym, ap, _∙_, subst}
+use mathlib.Core.List.{List, [], _∷_, _++_}
+use Prim.Native.Nat.{ℕ, zero, suc, _+_, _-_, _*_, _/_, _%_, _^_, _≤_, _<_}
+use lib.ListN.{length, getD, take, drop, set}
+use borrow.Author.Needs.{needs}
+use Rattle.tool_book_text.proofs.entry.append_ids.Statement.{statement}
+use Rattle.tool_book_text.proofs.entry.append_ids.Tie as tie
+use Rattle.tool_book_text.proofs.entry.append_ids.Reads as reads
+use Rattle.tool_book_text.proofs.entry.append_ids.Lts as lts
+use Rattle.codec_append.proofs.append_bytes.Reads as append-bytes-reads
+use Rattle.tool_book_text.proofs.entry.append_none.Reads as append-none-reads
+use Rattle.tool_book_text.proofs.entry.append_numbers.Reads as append-numbers-reads
+
+append-bytes-requires : tie.Need-append-bytes-requires
+append-bytes-requires c κs = search needs
+
+append-none-requires : tie.Need-append-none-requires
+append-none-requires c κs = search needs
+
+append-numbers-requires : tie.Need-append-numbers-requires
+append-numbers-requires c κs = search needs
+
+slice-aggregate-append-bytes : tie.Need-slice-aggregate-append-bytes
+slice-aggregate-append-bytes c = search needs
+
+append-bytes-requires-2 : tie.Need-append-bytes-requires-2
+append-bytes-requires-2 c κs = search needs
+
+same-length : tie.Need-same-length
+same-length c = search needs
+
+returns : tie.Need-returns
+unfolding idsText
+returns c = fits-join (fits-join (fits-join (c .before .before .before .before .before .before .before .before .before .before .before .before .before .before .before .append-bytes .ensures) (c .before .before .before .before .before .before .before .before .before .before .before .append-none .ensures)) (c .before .before .before .before .before .before .before .append-numbers .ensures)) (c .before .before .append-bytes2 .ensures)
+
+pub append-ids-spec : {M : Type 1} → statement M
+append-ids-spec =
+    tie.close
+    (tie.spec
+    append-bytes-requires
+    append-none-requires
+    append-numbers-requires
+    slice-aggregate-append-bytes
+    append-bytes-requires-2
+    same-length
+    returns)

@@ -1,0 +1,61 @@
+use Rattle.codec_forms.specs.Wire.{encMany}
+use Rattle.codec_append.specs.Fits.{Fits, each-start, each-more, fits-as}
+use Rattle.tool_text.specs.Numbers.{spacedByte, spacedHex}
+use lib.Seq.{take-length}
+use borrow.Author.Needs.{needs}
+use native.Mathlib.Omega.{arith}
+use mathlib.Core.Path.{_≡_, refl, sym, ap, _∙_, subst}
+use mathlib.Core.List.{List, [], _∷_, _++_}
+use Prim.Native.Nat.{ℕ, zero, suc, _+_, _-_, _*_, _/_, _%_, _^_, _≤_, _<_}
+use lib.ListN.{length, getD, take, drop, set}
+use Rattle.tool_text.proofs.append_spaced_hex.Statement.{statement}
+use Rattle.tool_text.proofs.append_spaced_hex.Tie as tie
+use Rattle.tool_text.proofs.append_spaced_hex.Reads as reads
+use Rattle.tool_text.proofs.append_spaced_hex.Lts as lts
+use Rattle.tool_text.proofs.append_spaced_byte.Reads as append-spaced-byte-reads
+
+abbrev Inv-loop : tie.InvT-loop
+Inv-loop out₀ at src e₀ i₀ out e i = Fits (encMany spacedByte (take i src)) at out₀ out e × (i ≤ length src) × (length out ≡ length out₀)
+
+abbrev μ-loop : tie.MeasureT-loop
+μ-loop out₀ at src e₀ i₀ out e i = length src - i
+
+loop-holds : tie.Need-loop-holds Inv-loop μ-loop
+loop-holds c = (each-start spacedByte (c .before .before .args .src .now) (c .before .before .args .at) (c .before .before .args .out .now), omega arith, refl)
+
+shared-slice-read-b : tie.Need-shared-slice-read-b Inv-loop μ-loop
+shared-slice-read-b c = search needs
+
+append-spaced-byte-requires : tie.Need-append-spaced-byte-requires Inv-loop μ-loop
+append-spaced-byte-requires c κs = search needs
+
+add-i : tie.Need-add-i Inv-loop μ-loop
+add-i c = search needs
+
+loop-less : tie.Need-loop-less Inv-loop μ-loop
+loop-less c = search needs
+
+loop-again : tie.Need-loop-again Inv-loop μ-loop
+loop-again c = (each-more 0 spacedByte (c .before .before .before .before .before .before .before .before .before .args .src .now) (c .before .before .before .before .before .before .loop .i) (c .before .before .before .before .before .loop-test .taken) (c .before .before .before .before .before .before .loop .inv .0) (c .before .before .append-spaced-byte .ensures), omega arith, search needs)
+
+same-length : tie.Need-same-length Inv-loop μ-loop
+same-length c = c .before .loop .inv .2
+
+returns : tie.Need-returns Inv-loop μ-loop
+unfolding spacedHex
+returns c = let w : c .before .loop .i ≡ length (c .before .before .before .before .args .src .now) = omega arith in fits-as (ap (λ (k : ℕ). encMany spacedByte (take k (c .before .before .before .before .args .src .now))) w ∙ ap (encMany spacedByte) (take-length (c .before .before .before .before .args .src .now))) (c .before .loop .inv .0)
+
+pub append-spaced-hex-spec : {M : Type 1} → statement M
+append-spaced-hex-spec =
+    tie.close
+    (tie.spec
+    Inv-loop
+    μ-loop
+    loop-holds
+    shared-slice-read-b
+    append-spaced-byte-requires
+    add-i
+    loop-less
+    loop-again
+    same-length
+    returns)
