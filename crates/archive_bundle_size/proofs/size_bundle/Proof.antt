@@ -5,12 +5,6 @@ use borrow.Author.Needs.{needs}
 use Rattle.archive_bundle_size.proofs.size_bundle.Statement.{statement}
 use Rattle.archive_bundle_size.proofs.size_bundle.Tie as tie
 
-cast-size-spends : tie.Need-cast-size-spends
-cast-size-spends c = search needs
-
-size-spends-requires : tie.Need-size-spends-requires
-size-spends-requires c κs = search needs
-
 add-result : tie.Need-add-result
 add-result c = omega (arith, (c .size-spends) .ensures .few)
 
@@ -18,4 +12,4 @@ returns : tie.Need-returns
 returns c = bundle-size ((c .before .before .before .args) .b) _ ((c .size-spends) .ensures)
 
 pub size-bundle-spec : {M : Type 1} → statement M
-size-bundle-spec = tie.close (tie.spec cast-size-spends size-spends-requires add-result returns)
+size-bundle-spec = tie.close (tie.spec (λ c. search needs) (λ c κs. search needs) add-result returns)

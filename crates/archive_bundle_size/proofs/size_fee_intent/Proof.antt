@@ -5,9 +5,6 @@ use borrow.Author.Needs.{needs}
 use Rattle.archive_bundle_size.proofs.size_fee_intent.Statement.{statement}
 use Rattle.archive_bundle_size.proofs.size_fee_intent.Tie as tie
 
-is-attach-requires : tie.Need-is-attach-requires
-is-attach-requires c κs = search needs
-
 returns : tie.Need-returns
 returns c = attach-size ((c .before .before .args) .f) (sym ((c .before .is-attach) .ensures) ∙ (c .if1) .taken) (search needs)
 
@@ -15,4 +12,4 @@ returns-2 : tie.Need-returns-2
 returns-2 c = plain-size ((c .before .before .args) .f) (sym ((c .before .is-attach) .ensures) ∙ (c .if1) .left)
 
 pub size-fee-intent-spec : {M : Type 1} → statement M
-size-fee-intent-spec = tie.close (tie.spec is-attach-requires returns returns-2)
+size-fee-intent-spec = tie.close (tie.spec (λ c κs. search needs) returns returns-2)

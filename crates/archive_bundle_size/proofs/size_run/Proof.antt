@@ -10,12 +10,6 @@ use Rattle.archive_bundle_size.proofs.size_run.Tie as tie
 returns : tie.Need-returns
 returns c = let s = (c .before .args) .s in unreadable-size (s .readable) (outputsOf s) (not-true (s .readable) ((c .if1) .taken))
 
-cast-size-outputs : tie.Need-cast-size-outputs
-cast-size-outputs c = search needs
-
-size-outputs-requires : tie.Need-size-outputs-requires
-size-outputs-requires c κs = search needs
-
 add-result : tie.Need-add-result
 add-result c = omega (arith, (c .size-outputs) .ensures .few)
 
@@ -24,4 +18,4 @@ returns-2 c = let s = (c .before .before .before .before .args) .s in readable-s
 
 pub size-run-spec : {M : Type 1} → statement M
 size-run-spec =
-    tie.close (tie.spec returns cast-size-outputs size-outputs-requires add-result returns-2)
+    tie.close (tie.spec returns (λ c. search needs) (λ c κs. search needs) add-result returns-2)

@@ -4,12 +4,6 @@ use borrow.Author.Needs.{needs}
 use Rattle.archive_size.proofs.size_slot.Statement.{statement}
 use Rattle.archive_size.proofs.size_slot.Tie as tie
 
-size-hash-requires : tie.Need-size-hash-requires
-size-hash-requires c κs = search needs
-
-add-result : tie.Need-add-result
-add-result c = search needs
-
 returns : tie.Need-returns
 returns c = slot-there ((c .before .before .before .args) .a) ((c .size-hash) .result) ((c .before .before .if1) .taken) (search needs) ((c .size-hash) .ensures)
 
@@ -17,4 +11,4 @@ returns-2 : tie.Need-returns-2
 returns-2 c = slot-none ((c .before .args) .a) ((c .if1) .left)
 
 pub size-slot-spec : {M : Type 1} → statement M
-size-slot-spec = tie.close (tie.spec size-hash-requires add-result returns returns-2)
+size-slot-spec = tie.close (tie.spec (λ c κs. search needs) (λ c. search needs) returns returns-2)

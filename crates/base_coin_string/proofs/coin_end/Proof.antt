@@ -17,28 +17,13 @@ use Rattle.base_coin_string.proofs.wide.Reads as wide-reads
 returns : tie.Need-returns
 returns c = simp (le-ltb _ _ (c .if1 .taken))
 
-shared-slice-read-wide : tie.Need-shared-slice-read-wide
-shared-slice-read-wide c = search needs
-
-wide-requires : tie.Need-wide-requires
-wide-requires c κs = search needs
-
-add-from : tie.Need-add-from
-add-from c = search needs
-
 returns-2 : tie.Need-returns-2
 returns-2 c = let s = c .before .before .before .before .before .args .s .now in let a = c .before .before .before .before .before .args .at in let e = c .before .wide .ensures .0 in
     rw (lt-ltb a (length s) (c .before .before .before .if1 .left), lt-leb (getD s a 0) 73 (omega arith))
 
-sub-if3 : tie.Need-sub-if3
-sub-if3 c = search needs
-
 returns-3 : tie.Need-returns-3
 returns-3 c = let s = c .before .before .before .before .before .before .args .s .now in let a = c .before .before .before .before .before .before .args .at in let e = c .before .before .wide .ensures .0 in
     rw (lt-ltb a (length s) (c .before .before .before .before .if1 .left), le-leb (getD s a 0) 73 (omega arith), lt-leb (getD s a 0) (length (drop (a + 1) s)) (omega (arith, length-drop (a + 1) s)))
-
-add-result : tie.Need-add-result
-add-result c = search needs
 
 returns-4 : tie.Need-returns-4
 returns-4 c = let s = c .before .before .before .before .before .before .args .s .now in let a = c .before .before .before .before .before .before .args .at in let e = c .before .before .wide .ensures .0 in
@@ -49,11 +34,11 @@ coin-end-spec =
     tie.close
     (tie.spec
     returns
-    shared-slice-read-wide
-    wide-requires
-    add-from
+    (λ c. search needs)
+    (λ c κs. search needs)
+    (λ c. search needs)
     returns-2
-    sub-if3
+    (λ c. search needs)
     returns-3
-    add-result
+    (λ c. search needs)
     returns-4)

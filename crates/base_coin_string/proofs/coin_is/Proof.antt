@@ -15,24 +15,6 @@ use Rattle.base_coin_string.proofs.part.Reads as part-reads
 use Rattle.base_coin_string.proofs.within.Reads as within-reads
 use Rattle.base_lists.proofs.same.Reads as same-reads
 
-within-requires : tie.Need-within-requires
-within-requires c κs = search needs
-
-part-requires : tie.Need-part-requires
-part-requires c κs = search needs
-
-sub-same : tie.Need-sub-same
-sub-same c = search needs
-
-part-same-start : tie.Need-part-same-start
-part-same-start c = search needs
-
-part-same-end : tie.Need-part-same-end
-part-same-end c = search needs
-
-same-requires : tie.Need-same-requires
-same-requires c κs = search needs
-
 returns : tie.Need-returns
 returns c = let s = c .before .before .before .before .before .before .args .s .now in let b = c .before .before .before .before .before .before .args .t4 in let n = c .before .before .before .before .before .before .args .len in let l : length b ≡ 73 = search needs in
     rw sub-zero at (c .same .ensures) ∙ (λ j. eqs (c .before .before .before .part .ensures j) (take (c .before .before .before .before .within .ensures j) b)) ∙ ap (eqs (take (c .before .before .before .before .before .before .args .to - c .before .before .before .before .before .before .args .from) (drop (c .before .before .before .before .before .before .args .from) s))) (take-min 73 n b l)
@@ -41,10 +23,10 @@ pub coin-is-spec : {M : Type 1} → statement M
 coin-is-spec =
     tie.close
     (tie.spec
-    within-requires
-    part-requires
-    sub-same
-    part-same-start
-    part-same-end
-    same-requires
+    (λ c κs. search needs)
+    (λ c κs. search needs)
+    (λ c. search needs)
+    (λ c. search needs)
+    (λ c. search needs)
+    (λ c κs. search needs)
     returns)

@@ -14,32 +14,11 @@ use Rattle.base_coin_string.proofs.compare_coins.Lts as lts
 use Rattle.base_coin_string.proofs.compare.Reads as compare-reads
 use Rattle.base_coin_string.proofs.within.Reads as within-reads
 
-within-requires : tie.Need-within-requires
-within-requires c κs = search needs
-
-within-requires-2 : tie.Need-within-requires-2
-within-requires-2 c κs = search needs
-
-sub-compare : tie.Need-sub-compare
-sub-compare c = search needs
-
-part-compare-start : tie.Need-part-compare-start
-part-compare-start c = search needs
-
 part-compare-end : tie.Need-part-compare-end
 part-compare-end c = let h : length (c .before .before .before .before .before .args .a .bytes) ≡ 73 = search needs in omega (arith, c .before .before .before .before .within .ensures)
 
-sub-compare-2 : tie.Need-sub-compare-2
-sub-compare-2 c = search needs
-
-part-compare-start-2 : tie.Need-part-compare-start-2
-part-compare-start-2 c = search needs
-
 part-compare-end-2 : tie.Need-part-compare-end-2
 part-compare-end-2 c = let h : length (c .before .before .before .before .before .before .before .args .b .bytes) ≡ 73 = search needs in omega (arith, c .before .before .before .before .before .within2 .ensures)
-
-compare-requires : tie.Need-compare-requires
-compare-requires c κs = search needs
 
 returns : tie.Need-returns
 returns c = let a = c .before .before .before .before .before .before .before .before .before .args .a in let b = c .before .before .before .before .before .before .before .before .before .args .b in let l : length (a .bytes) ≡ 73 = search needs in let m : length (b .bytes) ≡ 73 = search needs in
@@ -49,13 +28,13 @@ pub compare-coins-spec : {M : Type 1} → statement M
 compare-coins-spec =
     tie.close
     (tie.spec
-    within-requires
-    within-requires-2
-    sub-compare
-    part-compare-start
+    (λ c κs. search needs)
+    (λ c κs. search needs)
+    (λ c. search needs)
+    (λ c. search needs)
     part-compare-end
-    sub-compare-2
-    part-compare-start-2
+    (λ c. search needs)
+    (λ c. search needs)
     part-compare-end-2
-    compare-requires
+    (λ c κs. search needs)
     returns)

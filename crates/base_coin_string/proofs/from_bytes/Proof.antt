@@ -16,12 +16,6 @@ use Rattle.base_coin_string.proofs.empty.Reads as empty-reads
 use Rattle.base_coin_string.proofs.part.Reads as part-reads
 use Rattle.base_coin_string.proofs.push_all.Reads as push-all-reads
 
-empty-requires : tie.Need-empty-requires
-empty-requires c κs = search needs
-
-part-requires : tie.Need-part-requires
-part-requires c κs = search needs
-
 push-all-requires : tie.Need-push-all-requires
 push-all-requires c κs = let e = ap (λ (o : CoinString). o .len) (c .before .empty .ensures) in let l = ap length (c .part .ensures) ∙ length-take 73 (c .before .before .before .args .s .now) in omega (arith, e, l)
 
@@ -29,4 +23,4 @@ returns : tie.Need-returns
 returns c = let s = c .before .before .before .before .args .s .now in c .push-all .ensures ∙ (λ j. pushes (c .before .before .empty .ensures j) (c .before .part .ensures j)) ∙ pushes-cell [] (take 73 s) (omega (arith, length-take 73 s))
 
 pub from-bytes-spec : {M : Type 1} → statement M
-from-bytes-spec = tie.close (tie.spec empty-requires part-requires push-all-requires returns)
+from-bytes-spec = tie.close (tie.spec (λ c κs. search needs) (λ c κs. search needs) push-all-requires returns)

@@ -16,17 +16,8 @@ use Rattle.base_coin_string.proofs.empty.Reads as empty-reads
 use Rattle.base_coin_string.proofs.push_all.Reads as push-all-reads
 use Rattle.base_coin_string.proofs.push_amount.Reads as push-amount-reads
 
-empty-requires : tie.Need-empty-requires
-empty-requires c κs = search needs
-
-slice-aggregate-push-all : tie.Need-slice-aggregate-push-all
-slice-aggregate-push-all c = search needs
-
 push-all-requires : tie.Need-push-all-requires
 push-all-requires c κs = let e = ap (λ (o : CoinString). o .len) (c .before .empty .ensures) in let l : length (c .before .before .args .t1) ≡ 32 = search needs in omega (arith, e)
-
-slice-aggregate-push-all-2 : tie.Need-slice-aggregate-push-all-2
-slice-aggregate-push-all-2 c = search needs
 
 push-all-requires-2 : tie.Need-push-all-requires-2
 push-all-requires-2 c κs = let z = ap (λ (o : CoinString). o .len) (c .before .before .before .empty .ensures) in let e = ap (λ (o : CoinString). o .len) (c .before .push-all .ensures) ∙ pushes-len (c .before .before .before .empty .result) (c .before .before .before .before .args .t1) in let l : length (c .before .before .before .before .args .t1) ≡ 32 = search needs in let m : length (c .before .before .before .before .args .t2) ≡ 32 = search needs in omega (arith, e, z)
@@ -45,10 +36,10 @@ pub from-parts-spec : {M : Type 1} → statement M
 from-parts-spec =
     tie.close
     (tie.spec
-    empty-requires
-    slice-aggregate-push-all
+    (λ c κs. search needs)
+    (λ c. search needs)
     push-all-requires
-    slice-aggregate-push-all-2
+    (λ c. search needs)
     push-all-requires-2
     push-amount-requires
     returns)

@@ -15,12 +15,6 @@ use Rattle.base_coin_string.proofs.atom_len.Reads as atom-len-reads
 use Rattle.base_coin_string.proofs.nine_bytes.Reads as nine-bytes-reads
 use Rattle.base_coin_string.proofs.push_all.Reads as push-all-reads
 
-nine-bytes-requires : tie.Need-nine-bytes-requires
-nine-bytes-requires c κs = search needs
-
-atom-len-requires : tie.Need-atom-len-requires
-atom-len-requires c κs = search needs
-
 sub-z : tie.Need-sub-z
 sub-z c = omega (arith, c .atom-len .ensures, length-le (c .before .before .args .amount))
 
@@ -30,12 +24,6 @@ sub-push-all c = omega (arith, c .atom-len .ensures, length-le (c .before .befor
 part-push-all-start : tie.Need-part-push-all-start
 part-push-all-start c = omega (arith, c .before .atom-len .ensures, length-le (c .before .before .before .args .amount))
 
-part-push-all-end : tie.Need-part-push-all-end
-part-push-all-end c = search needs
-
-push-all-requires : tie.Need-push-all-requires
-push-all-requires c κs = search needs
-
 returns : tie.Need-returns
 returns c = c .push-all .ensures ∙ ap (pushes (c .before .before .before .before .before .args .c)) (nine-part (c .before .before .before .before .before .args .amount) (9 - c .before .before .before .atom-len .result) (c .before .before .before .before .nine-bytes .result) (c .before .before .before .before .nine-bytes .ensures) (ap (λ (k : ℕ). 9 - k) (c .before .before .before .atom-len .ensures)))
 
@@ -43,11 +31,11 @@ pub push-amount-spec : {M : Type 1} → statement M
 push-amount-spec =
     tie.close
     (tie.spec
-    nine-bytes-requires
-    atom-len-requires
+    (λ c κs. search needs)
+    (λ c κs. search needs)
     sub-z
     sub-push-all
     part-push-all-start
-    part-push-all-end
-    push-all-requires
+    (λ c. search needs)
+    (λ c κs. search needs)
     returns)

@@ -14,21 +14,6 @@ use Rattle.base_coin_string.proofs.to_coin_id.Lts as lts
 use Rattle.base_coin_string.proofs.within.Reads as within-reads
 use Rattle.base_sha256.proofs.sha256.Reads as sha256-reads
 
-within-requires : tie.Need-within-requires
-within-requires c κs = search needs
-
-sub-sha256 : tie.Need-sub-sha256
-sub-sha256 c = search needs
-
-part-sha256-start : tie.Need-part-sha256-start
-part-sha256-start c = search needs
-
-part-sha256-end : tie.Need-part-sha256-end
-part-sha256-end c = search needs
-
-sha256-requires : tie.Need-sha256-requires
-sha256-requires c κs = search needs
-
 returns : tie.Need-returns
 returns c = let b = c .before .before .before .before .args .t1 in let n = c .before .before .before .before .args .len in let l : length b ≡ 73 = search needs in
     rw sub-zero at (c .sha256 .ensures) ∙ ap (λ (k : ℕ). coinIdOf (take k b)) (c .before .before .before .within .ensures) ∙ ap coinIdOf (take-min 73 n b l)
@@ -36,4 +21,4 @@ returns c = let b = c .before .before .before .before .args .t1 in let n = c .be
 pub to-coin-id-spec : {M : Type 1} → statement M
 to-coin-id-spec =
     tie.close
-    (tie.spec within-requires sub-sha256 part-sha256-start part-sha256-end sha256-requires returns)
+    (tie.spec (λ c κs. search needs) (λ c. search needs) (λ c. search needs) (λ c. search needs) (λ c κs. search needs) returns)

@@ -10,12 +10,9 @@ use Rattle.base_lists.proofs.zero32.Lts as lts
 use Rattle.base_lists.proofs.zero_bytes.Reads as zero-bytes-reads
 
 -- src/lib.rt:72:5
-zero-bytes-requires : tie.Need-zero-bytes-requires
-zero-bytes-requires c κs = search needs
-
 -- src/lib.rt:69:1
 returns : tie.Need-returns
 returns c = full-of isZero (c .before .before .args .a .now) 32 (search needs) (c .zero-bytes .ensures)
 
 pub zero32-spec : {M : Type 1} → statement M
-zero32-spec = tie.close (tie.spec zero-bytes-requires returns)
+zero32-spec = tie.close (tie.spec (λ c κs. search needs) returns)

@@ -10,12 +10,9 @@ use Rattle.base_lists.proofs.zero73.Lts as lts
 use Rattle.base_lists.proofs.zero_bytes.Reads as zero-bytes-reads
 
 -- src/lib.rt:78:5
-zero-bytes-requires : tie.Need-zero-bytes-requires
-zero-bytes-requires c κs = search needs
-
 -- src/lib.rt:75:1
 returns : tie.Need-returns
 returns c = full-of isZero (c .before .before .args .cell .now) 73 (search needs) (c .zero-bytes .ensures)
 
 pub zero73-spec : {M : Type 1} → statement M
-zero73-spec = tie.close (tie.spec zero-bytes-requires returns)
+zero73-spec = tie.close (tie.spec (λ c κs. search needs) returns)

@@ -9,35 +9,8 @@ use borrow.Author.Needs.{needs}
 use Rattle.c_attempts.proofs.settle_attempt.Statement.{statement}
 use Rattle.c_attempts.proofs.settle_attempt.Tie as tie
 
-hash-length-requires : tie.Need-hash-length-requires
-hash-length-requires c κs = search needs
-
-hash-length-requires-2 : tie.Need-hash-length-requires-2
-hash-length-requires-2 c κs = search needs
-
-slice-aggregate-append-slot : tie.Need-slice-aggregate-append-slot
-slice-aggregate-append-slot c = search needs
-
-append-slot-requires : tie.Need-append-slot-requires
-append-slot-requires c κs = search needs
-
-sub-settle : tie.Need-sub-settle
-sub-settle c = search needs
-
-part-settle-start : tie.Need-part-settle-start
-part-settle-start c = search needs
-
 part-settle-end : tie.Need-part-settle-end
 part-settle-end c = let e = told-end (encodeSlot (c .before .before .before .before .before .before .before .before .before .before .before .before .before .before .args .r .attempt)) _ _ (c .before .before .before .append-slot .result) (c .before .before .before .append-slot .ensures) (slot-most (c .before .before .before .before .before .before .before .before .before .before .before .before .before .before .args .r .attempt) (c .before .before .before .before .before .before .hash-length .ensures) (c .before .before .before .before .before .hash-length2 .ensures)) in omega (arith, e .0, e .1, slot-most (c .before .before .before .before .before .before .before .before .before .before .before .before .before .before .args .r .attempt) (c .before .before .before .before .before .before .hash-length .ensures) (c .before .before .before .before .before .hash-length2 .ensures))
-
-settle-requires : tie.Need-settle-requires
-settle-requires c κs = search needs
-
-same-length : tie.Need-same-length
-same-length c = search needs
-
-same-length-2 : tie.Need-same-length-2
-same-length-2 c = search needs
 
 returns : tie.Need-returns
 returns c = gives-as (ap (λ (l : List ℕ). finish (c .before .before .before .before .before .before .before .before .before .before .before .before .before .before .before .before .before .before .before .before .before .before .args .r .answer) (c .before .before .before .before .before .before .before .before .before .before .before .before .before .before .before .before .before .before .before .before .before .before .args .r .book) l (c .before .before .before .before .before .before .before .before .before .before .before .before .before .before .before .before .before .before .before .before .before .before .args .book .now) (c .before .before .before .before .before .before .before .before .before .before .before .before .before .before .before .before .before .before .before .before .before .before .args .answer .now)) (told (encodeSlot (c .before .before .before .before .before .before .before .before .before .before .before .before .before .before .before .before .before .before .before .before .before .before .args .r .attempt)) _ _ (c .before .before .before .before .before .before .before .before .before .before .before .append-slot .result) (c .before .before .before .before .before .before .before .before .before .before .before .append-slot .ensures) (slot-most (c .before .before .before .before .before .before .before .before .before .before .before .before .before .before .before .before .before .before .before .before .before .before .args .r .attempt) (c .before .before .before .before .before .before .before .before .before .before .before .before .before .before .hash-length .ensures) (c .before .before .before .before .before .before .before .before .before .before .before .before .before .hash-length2 .ensures)))) (c .before .before .before .before .settle .ensures)
@@ -46,14 +19,14 @@ pub settle-attempt-spec : {M : Type 1} → statement M
 settle-attempt-spec =
     tie.close
     (tie.spec
-    hash-length-requires
-    hash-length-requires-2
-    slice-aggregate-append-slot
-    append-slot-requires
-    sub-settle
-    part-settle-start
+    (λ c κs. search needs)
+    (λ c κs. search needs)
+    (λ c. search needs)
+    (λ c κs. search needs)
+    (λ c. search needs)
+    (λ c. search needs)
     part-settle-end
-    settle-requires
-    same-length
-    same-length-2
+    (λ c κs. search needs)
+    (λ c. search needs)
+    (λ c. search needs)
     returns)

@@ -9,29 +9,8 @@ use borrow.Author.Needs.{needs}
 use Rattle.c_replies.proofs.settle_ids.Statement.{statement}
 use Rattle.c_replies.proofs.settle_ids.Tie as tie
 
-slice-aggregate-append-ids : tie.Need-slice-aggregate-append-ids
-slice-aggregate-append-ids c = search needs
-
-append-ids-requires : tie.Need-append-ids-requires
-append-ids-requires c κs = search needs
-
-sub-settle : tie.Need-sub-settle
-sub-settle c = search needs
-
-part-settle-start : tie.Need-part-settle-start
-part-settle-start c = search needs
-
 part-settle-end : tie.Need-part-settle-end
 part-settle-end c = let e = told-end (encodeIds (c .before .before .before .before .before .before .before .before .args .r .ids)) _ _ (c .before .before .before .append-ids .result) (c .before .before .before .append-ids .ensures) (ids-most (c .before .before .before .before .before .before .before .before .args .r .ids) (search needs)) in omega (arith, e .0, e .1, ids-most (c .before .before .before .before .before .before .before .before .args .r .ids) (search needs))
-
-settle-requires : tie.Need-settle-requires
-settle-requires c κs = search needs
-
-same-length : tie.Need-same-length
-same-length c = search needs
-
-same-length-2 : tie.Need-same-length-2
-same-length-2 c = search needs
 
 returns : tie.Need-returns
 returns c = gives-as (ap (λ (l : List ℕ). finish (c .before .before .before .before .before .before .before .before .before .before .before .before .before .before .before .before .args .r .answer) (c .before .before .before .before .before .before .before .before .before .before .before .before .before .before .before .before .args .r .book) l (c .before .before .before .before .before .before .before .before .before .before .before .before .before .before .before .before .args .book .now) (c .before .before .before .before .before .before .before .before .before .before .before .before .before .before .before .before .args .answer .now)) (told (encodeIds (c .before .before .before .before .before .before .before .before .before .before .before .before .before .before .before .before .args .r .ids)) _ _ (c .before .before .before .before .before .before .before .before .before .before .before .append-ids .result) (c .before .before .before .before .before .before .before .before .before .before .before .append-ids .ensures) (ids-most (c .before .before .before .before .before .before .before .before .before .before .before .before .before .before .before .before .args .r .ids) (search needs)))) (c .before .before .before .before .settle .ensures)
@@ -40,12 +19,12 @@ pub settle-ids-spec : {M : Type 1} → statement M
 settle-ids-spec =
     tie.close
     (tie.spec
-    slice-aggregate-append-ids
-    append-ids-requires
-    sub-settle
-    part-settle-start
+    (λ c. search needs)
+    (λ c κs. search needs)
+    (λ c. search needs)
+    (λ c. search needs)
     part-settle-end
-    settle-requires
-    same-length
-    same-length-2
+    (λ c κs. search needs)
+    (λ c. search needs)
+    (λ c. search needs)
     returns)

@@ -8,15 +8,6 @@ use borrow.Author.Needs.{needs}
 use Rattle.c_write.proofs.settle_done.Statement.{statement}
 use Rattle.c_write.proofs.settle_done.Tie as tie
 
-refusal-number-requires : tie.Need-refusal-number-requires
-refusal-number-requires c κs = search needs
-
-put-back-requires : tie.Need-put-back-requires
-put-back-requires c κs = search needs
-
-same-length : tie.Need-same-length
-same-length c = search needs
-
 returns : tie.Need-returns
 returns c = let s = c .before .before .before .before .before .before .before .args in
     gives-book-as
@@ -25,4 +16,4 @@ returns c = let s = c .before .before .before .before .before .before .before .a
 
 pub settle-done-spec : {M : Type 1} → statement M
 settle-done-spec =
-    tie.close (tie.spec refusal-number-requires put-back-requires same-length returns)
+    tie.close (tie.spec (λ c κs. search needs) (λ c κs. search needs) (λ c. search needs) returns)

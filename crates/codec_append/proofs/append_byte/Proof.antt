@@ -7,12 +7,6 @@ use borrow.Author.Needs.{needs}
 use Rattle.codec_append.proofs.append_byte.Statement.{statement}
 use Rattle.codec_append.proofs.append_byte.Tie as tie
 
-has-requires : tie.Need-has-requires
-has-requires c κs = search needs
-
-same-length : tie.Need-same-length
-same-length c = search needs
-
 returns : tie.Need-returns
 returns c =
     let the-args = c .before .before .before .before .args in
@@ -24,9 +18,6 @@ put-byte-requires c κs =
     let the-has = c .before .before .has in
     room-there (be 1 (the-args .b)) (the-args .at) 1 (the-args .out .now) (the-has .ensures) (sym (be-length 1 (the-args .b))) (c .before .if1 .left)
 
-same-length-2 : tie.Need-same-length-2
-same-length-2 c = search needs
-
 returns-2 : tie.Need-returns-2
 returns-2 c =
     let the-args = c .before .before .before .before .before .before .before .before .args in
@@ -37,4 +28,4 @@ returns-2 c =
 
 pub append-byte-spec : {M : Type 1} → statement M
 append-byte-spec =
-    tie.close (tie.spec has-requires same-length returns put-byte-requires same-length-2 returns-2)
+    tie.close (tie.spec (λ c κs. search needs) (λ c. search needs) returns put-byte-requires (λ c. search needs) returns-2)

@@ -6,12 +6,6 @@ use borrow.Author.Needs.{needs}
 use Rattle.codec_append.proofs.append_bytes.Statement.{statement}
 use Rattle.codec_append.proofs.append_bytes.Tie as tie
 
-has-requires : tie.Need-has-requires
-has-requires c κs = search needs
-
-same-length : tie.Need-same-length
-same-length c = search needs
-
 returns : tie.Need-returns
 returns c =
     let the-args = c .before .before .before .before .before .args in
@@ -22,9 +16,6 @@ put-bytes-requires c κs =
     let the-args = c .before .before .before .before .before .before .args in
     let the-has = c .before .before .has in
     room-there (the-args .src .now) (the-args .at) (length (the-args .src .now)) (the-args .out .now) (the-has .ensures) refl (c .before .if1 .left)
-
-same-length-2 : tie.Need-same-length-2
-same-length-2 c = search needs
 
 returns-2 : tie.Need-returns-2
 returns-2 c =
@@ -37,4 +28,4 @@ returns-2 c =
 pub append-bytes-spec : {M : Type 1} → statement M
 append-bytes-spec =
     tie.close
-    (tie.spec has-requires same-length returns put-bytes-requires same-length-2 returns-2)
+    (tie.spec (λ c κs. search needs) (λ c. search needs) returns put-bytes-requires (λ c. search needs) returns-2)

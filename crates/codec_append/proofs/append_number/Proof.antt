@@ -7,12 +7,6 @@ use borrow.Author.Needs.{needs}
 use Rattle.codec_append.proofs.append_number.Statement.{statement}
 use Rattle.codec_append.proofs.append_number.Tie as tie
 
-has-requires : tie.Need-has-requires
-has-requires c κs = search needs
-
-same-length : tie.Need-same-length
-same-length c = search needs
-
 returns : tie.Need-returns
 returns c =
     let the-args = c .before .before .before .before .args in
@@ -23,9 +17,6 @@ put-number-requires c κs =
     let the-args = c .before .before .before .before .before .args in
     let the-has = c .before .before .has in
     room-there (be 8 (the-args .n)) (the-args .at) 8 (the-args .out .now) (the-has .ensures) (sym (be-length 8 (the-args .n))) (c .before .if1 .left)
-
-same-length-2 : tie.Need-same-length-2
-same-length-2 c = search needs
 
 returns-2 : tie.Need-returns-2
 returns-2 c =
@@ -38,4 +29,4 @@ returns-2 c =
 pub append-number-spec : {M : Type 1} → statement M
 append-number-spec =
     tie.close
-    (tie.spec has-requires same-length returns put-number-requires same-length-2 returns-2)
+    (tie.spec (λ c κs. search needs) (λ c. search needs) returns put-number-requires (λ c. search needs) returns-2)

@@ -12,21 +12,6 @@ use Rattle.tool_text.proofs.append_hex_byte.Lts as lts
 use Rattle.codec_append.proofs.append_bytes.Reads as append-bytes-reads
 use Rattle.tool_text.proofs.digit_of.Reads as digit-of-reads
 
-digit-of-requires : tie.Need-digit-of-requires
-digit-of-requires c κs = search needs
-
-digit-of-requires-2 : tie.Need-digit-of-requires-2
-digit-of-requires-2 c κs = search needs
-
-slice-aggregate-append-bytes : tie.Need-slice-aggregate-append-bytes
-slice-aggregate-append-bytes c = search needs
-
-append-bytes-requires : tie.Need-append-bytes-requires
-append-bytes-requires c κs = search needs
-
-same-length : tie.Need-same-length
-same-length c = search needs
-
 returns : tie.Need-returns
 returns c = fits-as (cc) (c .before .before .append-bytes .ensures)
 
@@ -34,9 +19,9 @@ pub append-hex-byte-spec : {M : Type 1} → statement M
 append-hex-byte-spec =
     tie.close
     (tie.spec
-    digit-of-requires
-    digit-of-requires-2
-    slice-aggregate-append-bytes
-    append-bytes-requires
-    same-length
+    (λ c κs. search needs)
+    (λ c κs. search needs)
+    (λ c. search needs)
+    (λ c κs. search needs)
+    (λ c. search needs)
     returns)

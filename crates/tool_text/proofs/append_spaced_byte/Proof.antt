@@ -12,18 +12,6 @@ use Rattle.tool_text.proofs.append_spaced_byte.Lts as lts
 use Rattle.codec_append.proofs.append_bytes.Reads as append-bytes-reads
 use Rattle.tool_text.proofs.append_hex_byte.Reads as append-hex-byte-reads
 
-slice-aggregate-append-bytes : tie.Need-slice-aggregate-append-bytes
-slice-aggregate-append-bytes c = search needs
-
-append-bytes-requires : tie.Need-append-bytes-requires
-append-bytes-requires c κs = search needs
-
-append-hex-byte-requires : tie.Need-append-hex-byte-requires
-append-hex-byte-requires c κs = search needs
-
-same-length : tie.Need-same-length
-same-length c = search needs
-
 returns : tie.Need-returns
 returns c = fits-join (c .before .before .before .before .before .before .append-bytes .ensures) (c .before .before .append-hex-byte .ensures)
 
@@ -31,8 +19,8 @@ pub append-spaced-byte-spec : {M : Type 1} → statement M
 append-spaced-byte-spec =
     tie.close
     (tie.spec
-    slice-aggregate-append-bytes
-    append-bytes-requires
-    append-hex-byte-requires
-    same-length
+    (λ c. search needs)
+    (λ c κs. search needs)
+    (λ c κs. search needs)
+    (λ c. search needs)
     returns)

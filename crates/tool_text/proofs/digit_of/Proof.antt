@@ -10,12 +10,6 @@ use Rattle.tool_text.proofs.digit_of.Tie as tie
 use Rattle.tool_text.proofs.digit_of.Reads as reads
 use Rattle.tool_text.proofs.digit_of.Lts as lts
 
-add-result : tie.Need-add-result
-add-result c = search needs
-
-add-result-2 : tie.Need-add-result-2
-add-result-2 c = search needs
-
 returns : tie.Need-returns
 returns c = simp (lt-ltb _ _ (c .if1 .taken))
 
@@ -23,4 +17,4 @@ returns-2 : tie.Need-returns-2
 returns-2 c = simp (le-ltb _ _ (c .if1 .left))
 
 pub digit-of-spec : {M : Type 1} → statement M
-digit-of-spec = tie.close (tie.spec add-result add-result-2 returns returns-2)
+digit-of-spec = tie.close (tie.spec (λ c. search needs) (λ c. search needs) returns returns-2)

@@ -3,17 +3,11 @@ use borrow.Author.Needs.{needs}
 use Rattle.c_api.proofs.attempts.joined_in.Statement.{statement}
 use Rattle.c_api.proofs.attempts.joined_in.Tie as tie
 
-read-bundle-requires : tie.Need-read-bundle-requires
-read-bundle-requires c κs = search needs
-
 returns : tie.Need-returns
 returns c = joined-read (c .before .before .before .before .args .source) (c .before .before .before .before .args .joined .now) (c .before .before .if1 .taken) (c .read-bundle .ensures)
-
-zero-requires : tie.Need-zero-requires
-zero-requires c κs = search needs
 
 returns-2 : tie.Need-returns-2
 returns-2 c = joined-none (c .before .before .before .args .source) (c .before .before .before .args .joined .now) (c .before .if1 .left) (c .zero .ensures)
 
 pub joined-in-spec : {M : Type 1} → statement M
-joined-in-spec = tie.close (tie.spec read-bundle-requires returns zero-requires returns-2)
+joined-in-spec = tie.close (tie.spec (λ c κs. search needs) returns (λ c κs. search needs) returns-2)

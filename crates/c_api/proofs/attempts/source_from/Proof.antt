@@ -5,17 +5,8 @@ use borrow.Author.Needs.{needs}
 use Rattle.c_api.proofs.attempts.source_from.Statement.{statement}
 use Rattle.c_api.proofs.attempts.source_from.Tie as tie
 
-returns : tie.Need-returns
-returns c = search needs
-
-returns-2 : tie.Need-returns-2
-returns-2 c = search needs
-
-returns-3 : tie.Need-returns-3
-returns-3 c = search needs
-
 returns-4 : tie.Need-returns-4
 returns-4 c = after-three sourceFrom (λ k. refl) (c .before .before .before .args .n) (c .before .before .if1 .left) (c .before .if2 .left) (c .if3 .left)
 
 pub source-from-spec : {M : Type 1} → statement M
-source-from-spec = tie.close (tie.spec returns returns-2 returns-3 returns-4)
+source-from-spec = tie.close (tie.spec (λ c. search needs) (λ c. search needs) (λ c. search needs) returns-4)

@@ -6,26 +6,11 @@ use borrow.Author.Needs.{needs}
 use Rattle.c_api.proofs.attempts.submission_book_attempt.Statement.{statement}
 use Rattle.c_api.proofs.attempts.submission_book_attempt.Tie as tie
 
-held-requires : tie.Need-held-requires
-held-requires c κs = search needs
-
-same-length : tie.Need-same-length
-same-length c = search needs
-
 returns : tie.Need-returns
 returns c = attempt-did _ (gives-absent _ _ _ _ (c .before .held .ensures .absent (not-true _ (c .if1 .taken))))
 
 attempt-sound-requires : tie.Need-attempt-sound-requires
 attempt-sound-requires c κs = c .before .held .ensures .present (not-false _ (c .if1 .left)) .sound
-
-settle-attempt-requires : tie.Need-settle-attempt-requires
-settle-attempt-requires c κs = search needs
-
-same-length-2 : tie.Need-same-length-2
-same-length-2 c = search needs
-
-same-length-3 : tie.Need-same-length-3
-same-length-3 c = search needs
 
 returns-2 : tie.Need-returns-2
 returns-2 c = attempt-did _ (attempt-given _ _ _
@@ -36,11 +21,11 @@ pub submission-book-attempt-spec : {M : Type 1} → statement M
 submission-book-attempt-spec =
     tie.close
     (tie.spec
-    held-requires
-    same-length
+    (λ c κs. search needs)
+    (λ c. search needs)
     returns
     attempt-sound-requires
-    settle-attempt-requires
-    same-length-2
-    same-length-3
+    (λ c κs. search needs)
+    (λ c. search needs)
+    (λ c. search needs)
     returns-2)

@@ -5,29 +5,11 @@ use borrow.Author.Needs.{needs}
 use Rattle.c_api.proofs.attempts.submission_book_finalize_attempt.Statement.{statement}
 use Rattle.c_api.proofs.attempts.submission_book_finalize_attempt.Tie as tie
 
-held-requires : tie.Need-held-requires
-held-requires c κs = search needs
-
-same-length : tie.Need-same-length
-same-length c = search needs
-
 returns : tie.Need-returns
 returns c = finalize-absent _ _ _ _ _ (c .before .held .ensures .absent (not-true _ (c .if1 .taken)))
 
-same-length-2 : tie.Need-same-length-2
-same-length-2 c = search needs
-
 returns-2 : tie.Need-returns-2
 returns-2 c = source-bad _ _ _ _ _ _ (c .before .before .held .ensures .present (not-false _ (c .before .if1 .left))) (c .if2 .taken)
-
-source-from-requires : tie.Need-source-from-requires
-source-from-requires c κs = search needs
-
-joined-in-requires : tie.Need-joined-in-requires
-joined-in-requires c κs = search needs
-
-same-length-3 : tie.Need-same-length-3
-same-length-3 c = search needs
 
 returns-3 : tie.Need-returns-3
 returns-3 c = joined-bad _ _ _ _ _ _ (c .before .before .before .before .before .held .ensures .present (not-false _ (c .before .before .before .before .if1 .left))) (c .before .before .before .if2 .left)
@@ -35,15 +17,6 @@ returns-3 c = joined-bad _ _ _ _ _ _ (c .before .before .before .before .before 
 
 finalize-attempt-sound-requires : tie.Need-finalize-attempt-sound-requires
 finalize-attempt-sound-requires c κs = (c .before .before .before .before .before .held .ensures .present (not-false _ (c .before .before .before .before .if1 .left))) .sound
-
-settle-final-requires : tie.Need-settle-final-requires
-settle-final-requires c κs = search needs
-
-same-length-4 : tie.Need-same-length-4
-same-length-4 c = search needs
-
-same-length-5 : tie.Need-same-length-5
-same-length-5 c = search needs
 
 returns-4 : tie.Need-returns-4
 returns-4 c =
@@ -57,17 +30,17 @@ pub submission-book-finalize-attempt-spec : {M : Type 1} → statement M
 submission-book-finalize-attempt-spec =
     tie.close
     (tie.spec
-    held-requires
-    same-length
+    (λ c κs. search needs)
+    (λ c. search needs)
     returns
-    same-length-2
+    (λ c. search needs)
     returns-2
-    source-from-requires
-    joined-in-requires
-    same-length-3
+    (λ c κs. search needs)
+    (λ c κs. search needs)
+    (λ c. search needs)
     returns-3
     finalize-attempt-sound-requires
-    settle-final-requires
-    same-length-4
-    same-length-5
+    (λ c κs. search needs)
+    (λ c. search needs)
+    (λ c. search needs)
     returns-4)

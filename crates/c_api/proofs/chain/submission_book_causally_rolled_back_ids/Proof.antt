@@ -8,26 +8,11 @@ use Rattle.c_api.proofs.chain.submission_book_causally_rolled_back_ids.
 }
 use Rattle.c_api.proofs.chain.submission_book_causally_rolled_back_ids.Tie as tie
 
-held-requires : tie.Need-held-requires
-held-requires c κs = search needs
-
-same-length : tie.Need-same-length
-same-length c = search needs
-
 returns : tie.Need-returns
 returns c = rolled-back-did _ _ (gives-absent _ _ _ _ (c .before .held .ensures .absent (not-true _ (c .if1 .taken))))
 
 causally-rolled-back-ids-sound-requires : tie.Need-causally-rolled-back-ids-sound-requires
 causally-rolled-back-ids-sound-requires c κs = c .before .held .ensures .present (not-false _ (c .if1 .left)) .sound
-
-settle-ids-requires : tie.Need-settle-ids-requires
-settle-ids-requires c κs = search needs
-
-same-length-2 : tie.Need-same-length-2
-same-length-2 c = search needs
-
-same-length-3 : tie.Need-same-length-3
-same-length-3 c = search needs
 
 returns-2 : tie.Need-returns-2
 returns-2 c = rolled-back-did _ _ (ids-given _ _ _
@@ -38,11 +23,11 @@ pub submission-book-causally-rolled-back-ids-spec : {M : Type 1} → statement M
 submission-book-causally-rolled-back-ids-spec =
     tie.close
     (tie.spec
-    held-requires
-    same-length
+    (λ c κs. search needs)
+    (λ c. search needs)
     returns
     causally-rolled-back-ids-sound-requires
-    settle-ids-requires
-    same-length-2
-    same-length-3
+    (λ c κs. search needs)
+    (λ c. search needs)
+    (λ c. search needs)
     returns-2)

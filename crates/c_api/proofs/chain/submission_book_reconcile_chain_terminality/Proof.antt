@@ -7,31 +7,13 @@ use Rattle.c_api.proofs.chain.submission_book_reconcile_chain_terminali
 }
 use Rattle.c_api.proofs.chain.submission_book_reconcile_chain_terminality.Tie as tie
 
-held-requires : tie.Need-held-requires
-held-requires c κs = search needs
-
-same-length : tie.Need-same-length
-same-length c = search needs
-
 returns : tie.Need-returns
 returns c = report-absent _ _ _ _ _ (c .before .held .ensures .absent (not-true _ (c .if1 .taken)))
-
-is-coin-list-requires : tie.Need-is-coin-list-requires
-is-coin-list-requires c κs = search needs
-
-is-id-list-requires : tie.Need-is-id-list-requires
-is-id-list-requires c κs = search needs
-
-same-length-2 : tie.Need-same-length-2
-same-length-2 c = search needs
 
 returns-2 : tie.Need-returns-2
 returns-2 c = let s = c .before .before .before .before .before .before .before .before .before .before .args in
     report-unlisted _ _ _ _ _ _ (c .before .before .before .before .held .ensures .present (not-false _ (c .before .before .before .if1 .left)))
     (lists-are (s .observed .now) (s .spent .now) (s .rolled-back .now) (c .before .before .is-coin-list .ensures) (c .before .is-id-list .ensures) (not-true _ (c .if2 .taken)))
-
-same-length-3 : tie.Need-same-length-3
-same-length-3 c = search needs
 
 returns-3 : tie.Need-returns-3
 returns-3 c = let s = c .before .before .before .before .before .before .before .before .before .before .before .args in
@@ -41,12 +23,6 @@ returns-3 c = let s = c .before .before .before .before .before .before .before 
 
 reconcile-chain-terminality-sound-requires : tie.Need-reconcile-chain-terminality-sound-requires
 reconcile-chain-terminality-sound-requires c κs = (c .before .before .before .before .before .held .ensures .present (not-false _ (c .before .before .before .before .if1 .left))) .sound
-
-settle-done-requires : tie.Need-settle-done-requires
-settle-done-requires c κs = search needs
-
-same-length-4 : tie.Need-same-length-4
-same-length-4 c = search needs
 
 returns-4 : tie.Need-returns-4
 returns-4 c = let s = c .before .before .before .before .before .before .before .before .before .before .before .before .before .before .before .before .args in
@@ -60,16 +36,16 @@ pub submission-book-reconcile-chain-terminality-spec : {M : Type 1} → statemen
 submission-book-reconcile-chain-terminality-spec =
     tie.close
     (tie.spec
-    held-requires
-    same-length
+    (λ c κs. search needs)
+    (λ c. search needs)
     returns
-    is-coin-list-requires
-    is-id-list-requires
-    same-length-2
+    (λ c κs. search needs)
+    (λ c κs. search needs)
+    (λ c. search needs)
     returns-2
-    same-length-3
+    (λ c. search needs)
     returns-3
     reconcile-chain-terminality-sound-requires
-    settle-done-requires
-    same-length-4
+    (λ c κs. search needs)
+    (λ c. search needs)
     returns-4)

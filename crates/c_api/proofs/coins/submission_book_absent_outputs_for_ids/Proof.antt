@@ -7,23 +7,11 @@ use borrow.Author.Needs.{needs}
 use Rattle.c_api.proofs.coins.submission_book_absent_outputs_for_ids.Statement.{statement}
 use Rattle.c_api.proofs.coins.submission_book_absent_outputs_for_ids.Tie as tie
 
-held-requires : tie.Need-held-requires
-held-requires c κs = search needs
-
 returns : tie.Need-returns
 returns c = absent-outputs-did _ _ _ _ (bytes-absent _ _ _ _ (c .before .held .ensures .absent (not-true _ (c .if1 .taken))))
 
 absent-outputs-for-ids-sound-requires : tie.Need-absent-outputs-for-ids-sound-requires
 absent-outputs-for-ids-sound-requires c κs = (c .before .before .held .ensures .present (not-false _ (c .before .if1 .left))) .sound
-
-enum-told : tie.Need-enum-told
-enum-told c = search needs
-
-enum-known-said : tie.Need-enum-known-said
-enum-known-said c = search needs
-
-same-length : tie.Need-same-length
-same-length c = search needs
 
 returns-2 : tie.Need-returns-2
 returns-2 c =
@@ -31,9 +19,6 @@ returns-2 c =
     let h = c .before .before .before .before .before .before .before .held .ensures .present (not-false _ (c .before .before .before .before .before .before .if1 .left)) in
     let r = c .before .before .before .before .absent-outputs-for-ids-sound .ensures in
     absent-outputs-did _ _ _ _ (bytes-done _ _ _ h _ _ _ (absent-quiet (s .ids .now) (s .absent .now) (length (s .answer .now)) _) (r .0) (r .1) (c .enum-told .given .1))
-
-same-length-2 : tie.Need-same-length-2
-same-length-2 c = search needs
 
 returns-3 : tie.Need-returns-3
 returns-3 c =
@@ -46,12 +31,12 @@ pub submission-book-absent-outputs-for-ids-spec : {M : Type 1} → statement M
 submission-book-absent-outputs-for-ids-spec =
     tie.close
     (tie.spec
-    held-requires
+    (λ c κs. search needs)
     returns
     absent-outputs-for-ids-sound-requires
-    enum-told
-    enum-known-said
-    same-length
+    (λ c. search needs)
+    (λ c. search needs)
+    (λ c. search needs)
     returns-2
-    same-length-2
+    (λ c. search needs)
     returns-3)

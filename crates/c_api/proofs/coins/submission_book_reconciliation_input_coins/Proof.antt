@@ -9,23 +9,11 @@ use Rattle.c_api.proofs.coins.submission_book_reconciliation_input_coin
 }
 use Rattle.c_api.proofs.coins.submission_book_reconciliation_input_coins.Tie as tie
 
-held-requires : tie.Need-held-requires
-held-requires c κs = search needs
-
 returns : tie.Need-returns
 returns c = input-coins-did _ _ _ (bytes-absent _ _ _ _ (c .before .held .ensures .absent (not-true _ (c .if1 .taken))))
 
 reconciliation-input-coins-sound-requires : tie.Need-reconciliation-input-coins-sound-requires
 reconciliation-input-coins-sound-requires c κs = (c .before .before .held .ensures .present (not-false _ (c .before .if1 .left))) .sound
-
-enum-told : tie.Need-enum-told
-enum-told c = search needs
-
-enum-known-said : tie.Need-enum-known-said
-enum-known-said c = search needs
-
-same-length : tie.Need-same-length
-same-length c = search needs
 
 returns-2 : tie.Need-returns-2
 returns-2 c =
@@ -33,9 +21,6 @@ returns-2 c =
     let h = c .before .before .before .before .before .before .before .held .ensures .present (not-false _ (c .before .before .before .before .before .before .if1 .left)) in
     let r = c .before .before .before .before .reconciliation-input-coins-sound .ensures in
     input-coins-did _ _ _ (bytes-done _ _ _ h _ _ _ (reconciliation-quiet (s .outputs .now) (length (s .answer .now)) _) (r .0) (r .1) (c .enum-told .given .1))
-
-same-length-2 : tie.Need-same-length-2
-same-length-2 c = search needs
 
 returns-3 : tie.Need-returns-3
 returns-3 c =
@@ -48,12 +33,12 @@ pub submission-book-reconciliation-input-coins-spec : {M : Type 1} → statement
 submission-book-reconciliation-input-coins-spec =
     tie.close
     (tie.spec
-    held-requires
+    (λ c κs. search needs)
     returns
     reconciliation-input-coins-sound-requires
-    enum-told
-    enum-known-said
-    same-length
+    (λ c. search needs)
+    (λ c. search needs)
+    (λ c. search needs)
     returns-2
-    same-length-2
+    (λ c. search needs)
     returns-3)

@@ -6,26 +6,11 @@ use borrow.Author.Needs.{needs}
 use Rattle.c_api.proofs.drain_call.submission_book_drain.Statement.{statement}
 use Rattle.c_api.proofs.drain_call.submission_book_drain.Tie as tie
 
-held-requires : tie.Need-held-requires
-held-requires c κs = search needs
-
-same-length : tie.Need-same-length
-same-length c = search needs
-
 returns : tie.Need-returns
 returns c = drain-did (gives-absent _ _ _ _ (c .before .held .ensures .absent (not-true _ (c .if1 .taken))))
 
 drain-sound-requires : tie.Need-drain-sound-requires
 drain-sound-requires c κs = c .before .held .ensures .present (not-false _ (c .if1 .left)) .sound
-
-settle-drain-requires : tie.Need-settle-drain-requires
-settle-drain-requires c κs = search needs
-
-same-length-2 : tie.Need-same-length-2
-same-length-2 c = search needs
-
-same-length-3 : tie.Need-same-length-3
-same-length-3 c = search needs
 
 returns-2 : tie.Need-returns-2
 returns-2 c = drain-did (drain-given _ _ _
@@ -36,11 +21,11 @@ pub submission-book-drain-spec : {M : Type 1} → statement M
 submission-book-drain-spec =
     tie.close
     (tie.spec
-    held-requires
-    same-length
+    (λ c κs. search needs)
+    (λ c. search needs)
     returns
     drain-sound-requires
-    settle-drain-requires
-    same-length-2
-    same-length-3
+    (λ c κs. search needs)
+    (λ c. search needs)
+    (λ c. search needs)
     returns-2)

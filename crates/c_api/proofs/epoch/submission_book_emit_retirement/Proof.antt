@@ -6,23 +6,11 @@ use borrow.Author.Needs.{needs}
 use Rattle.c_api.proofs.epoch.submission_book_emit_retirement.Statement.{statement}
 use Rattle.c_api.proofs.epoch.submission_book_emit_retirement.Tie as tie
 
-held-requires : tie.Need-held-requires
-held-requires c κs = search needs
-
-same-length : tie.Need-same-length
-same-length c = search needs
-
 returns : tie.Need-returns
 returns c = emit-did _ (gives-book-absent _ _ _ (c .before .held .ensures .absent (not-true _ (c .if1 .taken))))
 
 emit-retirement-sound-requires : tie.Need-emit-retirement-sound-requires
 emit-retirement-sound-requires c κs = c .before .held .ensures .present (not-false _ (c .if1 .left)) .sound
-
-settle-done-requires : tie.Need-settle-done-requires
-settle-done-requires c κs = search needs
-
-same-length-2 : tie.Need-same-length-2
-same-length-2 c = search needs
 
 returns-2 : tie.Need-returns-2
 returns-2 c = emit-did _ (done-given _ _ (c .before .before .before .before .before .before .held .ensures .present (not-false _ (c .before .before .before .before .before .if1 .left))) _ _
@@ -32,10 +20,10 @@ pub submission-book-emit-retirement-spec : {M : Type 1} → statement M
 submission-book-emit-retirement-spec =
     tie.close
     (tie.spec
-    held-requires
-    same-length
+    (λ c κs. search needs)
+    (λ c. search needs)
     returns
     emit-retirement-sound-requires
-    settle-done-requires
-    same-length-2
+    (λ c κs. search needs)
+    (λ c. search needs)
     returns-2)

@@ -8,23 +8,11 @@ use Rattle.c_api.proofs.queue.submission_book_collect_rollback_replay_i
 }
 use Rattle.c_api.proofs.queue.submission_book_collect_rollback_replay_ids.Tie as tie
 
-held-requires : tie.Need-held-requires
-held-requires c κs = search needs
-
-same-length : tie.Need-same-length
-same-length c = search needs
-
 returns : tie.Need-returns
 returns c = collect-did _ (gives-book-absent _ _ _ (c .before .held .ensures .absent (not-true _ (c .if1 .taken))))
 
 collect-rollback-replay-ids-sound-requires : tie.Need-collect-rollback-replay-ids-sound-requires
 collect-rollback-replay-ids-sound-requires c κs = c .before .held .ensures .present (not-false _ (c .if1 .left)) .sound
-
-settle-done-requires : tie.Need-settle-done-requires
-settle-done-requires c κs = search needs
-
-same-length-2 : tie.Need-same-length-2
-same-length-2 c = search needs
 
 returns-2 : tie.Need-returns-2
 returns-2 c = collect-did _ (done-given _ _ (c .before .before .before .before .before .before .held .ensures .present (not-false _ (c .before .before .before .before .before .if1 .left))) _ _
@@ -34,10 +22,10 @@ pub submission-book-collect-rollback-replay-ids-spec : {M : Type 1} → statemen
 submission-book-collect-rollback-replay-ids-spec =
     tie.close
     (tie.spec
-    held-requires
-    same-length
+    (λ c κs. search needs)
+    (λ c. search needs)
     returns
     collect-rollback-replay-ids-sound-requires
-    settle-done-requires
-    same-length-2
+    (λ c κs. search needs)
+    (λ c. search needs)
     returns-2)

@@ -7,26 +7,11 @@ use borrow.Author.Needs.{needs}
 use Rattle.c_api.proofs.queue.submission_book_queue.Statement.{statement}
 use Rattle.c_api.proofs.queue.submission_book_queue.Tie as tie
 
-held-requires : tie.Need-held-requires
-held-requires c κs = search needs
-
-same-length : tie.Need-same-length
-same-length c = search needs
-
 returns : tie.Need-returns
 returns c = queue-absent _ _ (c .before .held .ensures .absent (not-true _ (c .if1 .taken)))
 
-read-delivery-requires : tie.Need-read-delivery-requires
-read-delivery-requires c κs = search needs
-
-same-length-2 : tie.Need-same-length-2
-same-length-2 c = search needs
-
 returns-2 : tie.Need-returns-2
 returns-2 c = queue-bad _ _ _ (c .before .before .before .before .held .ensures .present (not-false _ (c .before .before .before .if1 .left))) (bytes-bad parseDelivery _ (c .before .read-delivery .ensures) (c .if2 .taken))
-
-same-length-3 : tie.Need-same-length-3
-same-length-3 c = search needs
 
 returns-3 : tie.Need-returns-3
 returns-3 c = queue-bad _ _ _ (c .before .before .before .before .before .held .ensures .present (not-false _ (c .before .before .before .before .if1 .left)))
@@ -34,12 +19,6 @@ returns-3 c = queue-bad _ _ _ (c .before .before .before .before .before .held .
 
 queue-sound-requires : tie.Need-queue-sound-requires
 queue-sound-requires c κs = (c .before .before .before .before .before .held .ensures .present (not-false _ (c .before .before .before .before .if1 .left))) .sound
-
-settle-done-requires : tie.Need-settle-done-requires
-settle-done-requires c κs = search needs
-
-same-length-4 : tie.Need-same-length-4
-same-length-4 c = search needs
 
 returns-4 : tie.Need-returns-4
 returns-4 c = queue-done _ _ _ (c .before .before .before .before .before .before .before .before .before .before .held .ensures .present (not-false _ (c .before .before .before .before .before .before .before .before .before .if1 .left))) _
@@ -50,15 +29,15 @@ pub submission-book-queue-spec : {M : Type 1} → statement M
 submission-book-queue-spec =
     tie.close
     (tie.spec
-    held-requires
-    same-length
+    (λ c κs. search needs)
+    (λ c. search needs)
     returns
-    read-delivery-requires
-    same-length-2
+    (λ c κs. search needs)
+    (λ c. search needs)
     returns-2
-    same-length-3
+    (λ c. search needs)
     returns-3
     queue-sound-requires
-    settle-done-requires
-    same-length-4
+    (λ c κs. search needs)
+    (λ c. search needs)
     returns-4)

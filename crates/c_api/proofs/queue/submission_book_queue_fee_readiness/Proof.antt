@@ -7,23 +7,11 @@ use borrow.Author.Needs.{needs}
 use Rattle.c_api.proofs.queue.submission_book_queue_fee_readiness.Statement.{statement}
 use Rattle.c_api.proofs.queue.submission_book_queue_fee_readiness.Tie as tie
 
-held-requires : tie.Need-held-requires
-held-requires c κs = search needs
-
-same-length : tie.Need-same-length
-same-length c = search needs
-
 returns : tie.Need-returns
 returns c = fee-readiness-did (gives-book-absent noForm (queueFeeReadiness) (c .before .before .before .before .args .book .now) (c .before .held .ensures .absent (not-true _ (c .if1 .taken))))
 
 queue-fee-readiness-sound-requires : tie.Need-queue-fee-readiness-sound-requires
 queue-fee-readiness-sound-requires c κs = c .before .held .ensures .present (not-false _ (c .if1 .left)) .sound
-
-settle-done-requires : tie.Need-settle-done-requires
-settle-done-requires c κs = search needs
-
-same-length-2 : tie.Need-same-length-2
-same-length-2 c = search needs
 
 returns-2 : tie.Need-returns-2
 returns-2 c = fee-readiness-did (done-given _ _ (c .before .before .before .before .before .before .held .ensures .present (not-false _ (c .before .before .before .before .before .if1 .left))) _ _
@@ -33,10 +21,10 @@ pub submission-book-queue-fee-readiness-spec : {M : Type 1} → statement M
 submission-book-queue-fee-readiness-spec =
     tie.close
     (tie.spec
-    held-requires
-    same-length
+    (λ c κs. search needs)
+    (λ c. search needs)
     returns
     queue-fee-readiness-sound-requires
-    settle-done-requires
-    same-length-2
+    (λ c κs. search needs)
+    (λ c. search needs)
     returns-2)

@@ -6,26 +6,11 @@ use borrow.Author.Needs.{needs}
 use Rattle.c_api.proofs.retained.submission_book_active_ids.Statement.{statement}
 use Rattle.c_api.proofs.retained.submission_book_active_ids.Tie as tie
 
-held-requires : tie.Need-held-requires
-held-requires c κs = search needs
-
-same-length : tie.Need-same-length
-same-length c = search needs
-
 returns : tie.Need-returns
 returns c = active-ids-did (gives-absent _ _ _ _ (c .before .held .ensures .absent (not-true _ (c .if1 .taken))))
 
 active-ids-sound-requires : tie.Need-active-ids-sound-requires
 active-ids-sound-requires c κs = c .before .held .ensures .present (not-false _ (c .if1 .left)) .sound
-
-settle-ids-requires : tie.Need-settle-ids-requires
-settle-ids-requires c κs = search needs
-
-same-length-2 : tie.Need-same-length-2
-same-length-2 c = search needs
-
-same-length-3 : tie.Need-same-length-3
-same-length-3 c = search needs
 
 returns-2 : tie.Need-returns-2
 returns-2 c = active-ids-did (ids-given _ _ _
@@ -36,11 +21,11 @@ pub submission-book-active-ids-spec : {M : Type 1} → statement M
 submission-book-active-ids-spec =
     tie.close
     (tie.spec
-    held-requires
-    same-length
+    (λ c κs. search needs)
+    (λ c. search needs)
     returns
     active-ids-sound-requires
-    settle-ids-requires
-    same-length-2
-    same-length-3
+    (λ c κs. search needs)
+    (λ c. search needs)
+    (λ c. search needs)
     returns-2)

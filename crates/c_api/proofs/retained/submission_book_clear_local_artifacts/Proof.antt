@@ -9,23 +9,11 @@ use Rattle.c_api.proofs.retained.submission_book_clear_local_artifacts.
 }
 use Rattle.c_api.proofs.retained.submission_book_clear_local_artifacts.Tie as tie
 
-held-requires : tie.Need-held-requires
-held-requires c κs = search needs
-
-same-length : tie.Need-same-length
-same-length c = search needs
-
 returns : tie.Need-returns
 returns c = clear-did (gives-book-absent noForm (clearLocalArtifacts) (c .before .before .before .before .args .book .now) (c .before .held .ensures .absent (not-true _ (c .if1 .taken))))
 
 clear-local-artifacts-sound-requires : tie.Need-clear-local-artifacts-sound-requires
 clear-local-artifacts-sound-requires c κs = c .before .held .ensures .present (not-false _ (c .if1 .left)) .sound
-
-settle-done-requires : tie.Need-settle-done-requires
-settle-done-requires c κs = search needs
-
-same-length-2 : tie.Need-same-length-2
-same-length-2 c = search needs
 
 returns-2 : tie.Need-returns-2
 returns-2 c = clear-did (done-given _ _ (c .before .before .before .before .before .before .held .ensures .present (not-false _ (c .before .before .before .before .before .if1 .left))) _ _
@@ -35,10 +23,10 @@ pub submission-book-clear-local-artifacts-spec : {M : Type 1} → statement M
 submission-book-clear-local-artifacts-spec =
     tie.close
     (tie.spec
-    held-requires
-    same-length
+    (λ c κs. search needs)
+    (λ c. search needs)
     returns
     clear-local-artifacts-sound-requires
-    settle-done-requires
-    same-length-2
+    (λ c κs. search needs)
+    (λ c. search needs)
     returns-2)

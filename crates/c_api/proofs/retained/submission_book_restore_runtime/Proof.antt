@@ -7,23 +7,11 @@ use borrow.Author.Needs.{needs}
 use Rattle.c_api.proofs.retained.submission_book_restore_runtime.Statement.{statement}
 use Rattle.c_api.proofs.retained.submission_book_restore_runtime.Tie as tie
 
-held-requires : tie.Need-held-requires
-held-requires c κs = search needs
-
-same-length : tie.Need-same-length
-same-length c = search needs
-
 returns : tie.Need-returns
 returns c = restore-did (gives-book-absent noForm (restoreRuntime) (c .before .before .before .before .args .book .now) (c .before .held .ensures .absent (not-true _ (c .if1 .taken))))
 
 restore-runtime-sound-requires : tie.Need-restore-runtime-sound-requires
 restore-runtime-sound-requires c κs = c .before .held .ensures .present (not-false _ (c .if1 .left)) .sound
-
-settle-done-requires : tie.Need-settle-done-requires
-settle-done-requires c κs = search needs
-
-same-length-2 : tie.Need-same-length-2
-same-length-2 c = search needs
 
 returns-2 : tie.Need-returns-2
 returns-2 c = restore-did (done-given _ _ (c .before .before .before .before .before .before .held .ensures .present (not-false _ (c .before .before .before .before .before .if1 .left))) _ _
@@ -33,10 +21,10 @@ pub submission-book-restore-runtime-spec : {M : Type 1} → statement M
 submission-book-restore-runtime-spec =
     tie.close
     (tie.spec
-    held-requires
-    same-length
+    (λ c κs. search needs)
+    (λ c. search needs)
     returns
     restore-runtime-sound-requires
-    settle-done-requires
-    same-length-2
+    (λ c κs. search needs)
+    (λ c. search needs)
     returns-2)

@@ -4,14 +4,8 @@ use borrow.Author.Needs.{needs}
 use Rattle.c_api.proofs.whole.submission_book_write.Statement.{statement}
 use Rattle.c_api.proofs.whole.submission_book_write.Tie as tie
 
-write-from-requires : tie.Need-write-from-requires
-write-from-requires c κs = search needs
-
-same-length : tie.Need-same-length
-same-length c = search needs
-
 returns : tie.Need-returns
 returns c = search (needs, write-did)
 
 pub submission-book-write-spec : {M : Type 1} → statement M
-submission-book-write-spec = tie.close (tie.spec write-from-requires same-length returns)
+submission-book-write-spec = tie.close (tie.spec (λ c κs. search needs) (λ c. search needs) returns)

@@ -4,21 +4,6 @@ use borrow.Author.Needs.{needs}
 use Rattle.codec_answers.proofs.drained.append_submissions.Statement.{statement}
 use Rattle.codec_answers.proofs.drained.append_submissions.Tie as tie
 
-at-most-requires : tie.Need-at-most-requires
-at-most-requires c κs = search needs
-
-cast-append-byte : tie.Need-cast-append-byte
-cast-append-byte c = search needs
-
-append-byte-requires : tie.Need-append-byte-requires
-append-byte-requires c κs = search needs
-
-append-each-requires : tie.Need-append-each-requires
-append-each-requires c κs = search needs
-
-same-length : tie.Need-same-length
-same-length c = search needs
-
 returns : tie.Need-returns
 unfolding encodeSubmissions
 returns c = within-join (within-byte (c .before .before .before .before .before .before .before .before .at-most .ensures) (c .before .before .before .before .before .before .append-byte .ensures)) (c .before .before .append-each .ensures)
@@ -27,9 +12,9 @@ pub append-submissions-spec : {M : Type 1} → statement M
 append-submissions-spec =
     tie.close
     (tie.spec
-    at-most-requires
-    cast-append-byte
-    append-byte-requires
-    append-each-requires
-    same-length
+    (λ c κs. search needs)
+    (λ c. search needs)
+    (λ c κs. search needs)
+    (λ c κs. search needs)
+    (λ c. search needs)
     returns)

@@ -6,23 +6,8 @@ use borrow.Author.Needs.{needs}
 use Rattle.codec_answers.proofs.value.append_optional_finalized.Statement.{statement}
 use Rattle.codec_answers.proofs.value.append_optional_finalized.Tie as tie
 
-append-byte-requires : tie.Need-append-byte-requires
-append-byte-requires c κs = search needs
-
-same-length : tie.Need-same-length
-same-length c = search needs
-
 returns : tie.Need-returns
 returns c = fits-as (opt-no (c .before .before .before .before .before .before .args .present) (encodeFinal (c .before .before .before .before .before .before .args .f)) (not-true (c .before .before .before .before .before .before .args .present) (c .before .before .before .before .if1 .taken))) (c .before .before .append-byte .ensures)
-
-append-byte-requires-2 : tie.Need-append-byte-requires-2
-append-byte-requires-2 c κs = search needs
-
-append-finalized-requires : tie.Need-append-finalized-requires
-append-finalized-requires c κs = search needs
-
-same-length-2 : tie.Need-same-length-2
-same-length-2 c = search needs
 
 returns-2 : tie.Need-returns-2
 returns-2 c = fits-as (opt-yes (c .before .before .before .before .before .before .before .before .before .before .args .present) (encodeFinal (c .before .before .before .before .before .before .before .before .before .before .args .f)) (not-false (c .before .before .before .before .before .before .before .before .before .before .args .present) (c .before .before .before .before .before .before .before .before .if1 .left))) (fits-join (c .before .before .before .before .before .before .append-byte2 .ensures) (c .before .before .append-finalized .ensures))
@@ -31,10 +16,10 @@ pub append-optional-finalized-spec : {M : Type 1} → statement M
 append-optional-finalized-spec =
     tie.close
     (tie.spec
-    append-byte-requires
-    same-length
+    (λ c κs. search needs)
+    (λ c. search needs)
     returns
-    append-byte-requires-2
-    append-finalized-requires
-    same-length-2
+    (λ c κs. search needs)
+    (λ c κs. search needs)
+    (λ c. search needs)
     returns-2)

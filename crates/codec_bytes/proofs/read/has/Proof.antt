@@ -11,11 +11,8 @@ use Rattle.codec_bytes.proofs.read.has.Tie as tie
 returns : tie.Need-returns
 returns c = let h : length (c .before .args .s .now) < c .before .args .at + c .before .args .n = omega arith in sym (lt-leb _ _ h)
 
-sub-result : tie.Need-sub-result
-sub-result c = search needs
-
 returns-2 : tie.Need-returns-2
 returns-2 c = has-room _ _ _ (c .if1 .left)
 
 pub has-spec : {M : Type 1} → statement M
-has-spec = tie.close (tie.spec returns sub-result returns-2)
+has-spec = tie.close (tie.spec returns (λ c. search needs) returns-2)

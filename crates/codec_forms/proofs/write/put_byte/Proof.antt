@@ -5,9 +5,6 @@ use Rattle.codec_forms.specs.Overlay.{one-byte}
 use Rattle.codec_forms.proofs.write.put_byte.Statement.{statement}
 use Rattle.codec_forms.proofs.write.put_byte.Tie as tie
 
-slice-aggregate-put-bytes : tie.Need-slice-aggregate-put-bytes
-slice-aggregate-put-bytes c = search needs
-
 put-bytes-requires : tie.Need-put-bytes-requires
 put-bytes-requires c κs = let h : (c .before .before .before .args) .b < 256 = search needs in room-as (one-byte ((c .before .before .before .args) .b) h) (c .before .before .before .pre)
 
@@ -19,4 +16,4 @@ returns c = let h : (c .before .before .before .before .before .before .args) .b
 
 pub put-byte-spec : {M : Type 1} → statement M
 put-byte-spec =
-    tie.close (tie.spec slice-aggregate-put-bytes put-bytes-requires same-length returns)
+    tie.close (tie.spec (λ c. search needs) put-bytes-requires same-length returns)

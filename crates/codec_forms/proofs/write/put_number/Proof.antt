@@ -4,12 +4,6 @@ use Rattle.codec_forms.specs.Puts.{puts-long, puts-as, room-as}
 use Rattle.codec_forms.proofs.write.put_number.Statement.{statement}
 use Rattle.codec_forms.proofs.write.put_number.Tie as tie
 
-number-bytes-requires : tie.Need-number-bytes-requires
-number-bytes-requires c κs = search needs
-
-slice-aggregate-put-bytes : tie.Need-slice-aggregate-put-bytes
-slice-aggregate-put-bytes c = search needs
-
 put-bytes-requires : tie.Need-put-bytes-requires
 put-bytes-requires c κs = room-as ((c .before .before .number-bytes) .ensures) (c .before .before .before .before .pre)
 
@@ -23,8 +17,8 @@ pub put-number-spec : {M : Type 1} → statement M
 put-number-spec =
     tie.close
     (tie.spec
-    number-bytes-requires
-    slice-aggregate-put-bytes
+    (λ c κs. search needs)
+    (λ c. search needs)
     put-bytes-requires
     same-length
     returns)

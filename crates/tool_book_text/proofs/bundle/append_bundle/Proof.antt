@@ -15,18 +15,6 @@ use Rattle.tool_book_text.proofs.bundle.append_bundle.Lts as lts
 use Rattle.tool_book_text.proofs.bundle.append_spends.Reads as append-spends-reads
 use Rattle.tool_text.proofs.append_number_line.Reads as append-number-line-reads
 
-cast-n : tie.Need-cast-n
-cast-n c = search needs
-
-append-number-line-requires : tie.Need-append-number-line-requires
-append-number-line-requires c κs = search needs
-
-append-spends-requires : tie.Need-append-spends-requires
-append-spends-requires c κs = search needs
-
-same-length : tie.Need-same-length
-same-length c = search needs
-
 returns : tie.Need-returns
 unfolding bundleText
 returns c = fits-join (c .before .before .before .before .before .before .append-number-line .ensures) (c .before .before .append-spends .ensures)
@@ -34,4 +22,4 @@ returns c = fits-join (c .before .before .before .before .before .before .append
 pub append-bundle-spec : {M : Type 1} → statement M
 append-bundle-spec =
     tie.close
-    (tie.spec cast-n append-number-line-requires append-spends-requires same-length returns)
+    (tie.spec (λ c. search needs) (λ c κs. search needs) (λ c κs. search needs) (λ c. search needs) returns)

@@ -14,24 +14,6 @@ use Rattle.tool_book_text.proofs.bundle.append_cell.Reads as reads
 use Rattle.tool_book_text.proofs.bundle.append_cell.Lts as lts
 use Rattle.tool_book_text.proofs.coin.append_coin.Reads as append-coin-reads
 
-at-most-requires : tie.Need-at-most-requires
-at-most-requires c κs = search needs
-
-sub-append-coin : tie.Need-sub-append-coin
-sub-append-coin c = search needs
-
-part-append-coin-start : tie.Need-part-append-coin-start
-part-append-coin-start c = search needs
-
-part-append-coin-end : tie.Need-part-append-coin-end
-part-append-coin-end c = search needs
-
-append-coin-requires : tie.Need-append-coin-requires
-append-coin-requires c κs = search needs
-
-same-length : tie.Need-same-length
-same-length c = search needs
-
 returns : tie.Need-returns
 returns c = let l : length (c .before .before .before .before .before .before .before .before .args .t3) ≡ 73 = search needs in fits-as (ap coinText (take-cut 73 (c .before .before .before .before .before .before .before .before .args .n) (c .before .before .before .before .before .before .at-most .result) (c .before .before .before .before .before .before .before .before .args .t3) l (c .before .before .before .before .before .before .at-most .ensures))) (rw sub-zero at (c .before .before .append-coin .ensures))
 
@@ -39,10 +21,10 @@ pub append-cell-spec : {M : Type 1} → statement M
 append-cell-spec =
     tie.close
     (tie.spec
-    at-most-requires
-    sub-append-coin
-    part-append-coin-start
-    part-append-coin-end
-    append-coin-requires
-    same-length
+    (λ c κs. search needs)
+    (λ c. search needs)
+    (λ c. search needs)
+    (λ c. search needs)
+    (λ c κs. search needs)
+    (λ c. search needs)
     returns)

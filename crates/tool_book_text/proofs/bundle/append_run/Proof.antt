@@ -16,29 +16,8 @@ use Rattle.codec_append.proofs.append_bytes.Reads as append-bytes-reads
 use Rattle.tool_book_text.proofs.bundle.append_outputs.Reads as append-outputs-reads
 use Rattle.tool_text.proofs.append_number_line.Reads as append-number-line-reads
 
-slice-aggregate-append-bytes : tie.Need-slice-aggregate-append-bytes
-slice-aggregate-append-bytes c = search needs
-
-append-bytes-requires : tie.Need-append-bytes-requires
-append-bytes-requires c κs = search needs
-
-same-length : tie.Need-same-length
-same-length c = search needs
-
 returns : tie.Need-returns
 returns c = fits-as (run-no (c .before .before .before .before .before .before .before .args .readable) (c .before .before .before .before .before .before .before .args .n) (c .before .before .before .before .before .before .before .args .a) (c .before .before .before .before .before .if1 .taken)) (c .before .before .append-bytes .ensures)
-
-slice-aggregate-append-number-line : tie.Need-slice-aggregate-append-number-line
-slice-aggregate-append-number-line c = search needs
-
-append-number-line-requires : tie.Need-append-number-line-requires
-append-number-line-requires c κs = search needs
-
-append-outputs-requires : tie.Need-append-outputs-requires
-append-outputs-requires c κs = search needs
-
-same-length-2 : tie.Need-same-length-2
-same-length-2 c = search needs
 
 returns-2 : tie.Need-returns-2
 returns-2 c = fits-as (run-yes (c .before .before .before .before .before .before .before .before .before .before .before .args .readable) (c .before .before .before .before .before .before .before .before .before .before .before .args .n) (c .before .before .before .before .before .before .before .before .before .before .before .args .a) (c .before .before .before .before .before .before .before .before .before .if1 .left)) (fits-join (c .before .before .before .before .before .before .append-number-line .ensures) (c .before .before .append-outputs .ensures))
@@ -47,12 +26,12 @@ pub append-run-spec : {M : Type 1} → statement M
 append-run-spec =
     tie.close
     (tie.spec
-    slice-aggregate-append-bytes
-    append-bytes-requires
-    same-length
+    (λ c. search needs)
+    (λ c κs. search needs)
+    (λ c. search needs)
     returns
-    slice-aggregate-append-number-line
-    append-number-line-requires
-    append-outputs-requires
-    same-length-2
+    (λ c. search needs)
+    (λ c κs. search needs)
+    (λ c κs. search needs)
+    (λ c. search needs)
     returns-2)

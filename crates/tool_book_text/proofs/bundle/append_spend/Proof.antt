@@ -17,33 +17,6 @@ use Rattle.tool_book_text.proofs.bundle.append_run.Reads as append-run-
 use Rattle.tool_book_text.proofs.words.append_hash_line.Reads as append-hash-line-reads
 use Rattle.tool_text.proofs.append_number_line.Reads as append-number-line-reads
 
-cast-n : tie.Need-cast-n
-cast-n c = search needs
-
-slice-aggregate-append-number-line : tie.Need-slice-aggregate-append-number-line
-slice-aggregate-append-number-line c = search needs
-
-add-append-number-line : tie.Need-add-append-number-line
-add-append-number-line c = search needs
-
-append-number-line-requires : tie.Need-append-number-line-requires
-append-number-line-requires c κs = search needs
-
-append-cell-requires : tie.Need-append-cell-requires
-append-cell-requires c κs = search needs
-
-slice-aggregate-append-hash-line : tie.Need-slice-aggregate-append-hash-line
-slice-aggregate-append-hash-line c = search needs
-
-append-hash-line-requires : tie.Need-append-hash-line-requires
-append-hash-line-requires c κs = search needs
-
-append-run-requires : tie.Need-append-run-requires
-append-run-requires c κs = search needs
-
-same-length : tie.Need-same-length
-same-length c = search needs
-
 returns : tie.Need-returns
 unfolding spendText
 returns c = fits-join (fits-join (fits-join (c .before .before .before .before .before .before .before .before .before .before .before .before .before .before .before .before .append-number-line .ensures) (c .before .before .before .before .before .before .before .before .before .before .before .before .append-cell .ensures)) (c .before .before .before .before .before .before .append-hash-line .ensures)) (c .before .before .append-run .ensures)
@@ -52,13 +25,13 @@ pub append-spend-spec : {M : Type 1} → statement M
 append-spend-spec =
     tie.close
     (tie.spec
-    cast-n
-    slice-aggregate-append-number-line
-    add-append-number-line
-    append-number-line-requires
-    append-cell-requires
-    slice-aggregate-append-hash-line
-    append-hash-line-requires
-    append-run-requires
-    same-length
+    (λ c. search needs)
+    (λ c. search needs)
+    (λ c. search needs)
+    (λ c κs. search needs)
+    (λ c κs. search needs)
+    (λ c. search needs)
+    (λ c κs. search needs)
+    (λ c κs. search needs)
+    (λ c. search needs)
     returns)

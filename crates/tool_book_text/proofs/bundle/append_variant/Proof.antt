@@ -16,33 +16,9 @@ use Rattle.codec_append.proofs.append_bytes.Reads as append-bytes-reads
 use Rattle.tool_book_text.proofs.bundle.append_bundle.Reads as append-bundle-reads
 use Rattle.tool_text.proofs.append_number_line.Reads as append-number-line-reads
 
-slice-aggregate-append-bytes : tie.Need-slice-aggregate-append-bytes
-slice-aggregate-append-bytes c = search needs
-
-append-bytes-requires : tie.Need-append-bytes-requires
-append-bytes-requires c κs = search needs
-
-same-length : tie.Need-same-length
-same-length c = search needs
-
 returns : tie.Need-returns
 unfolding variantText
 returns c = fits-as (variant-no (c .before .before .before .before .before .before .before .before .args .v .«fee_bearing») (bundleText (ascii "  fee bundle, spends: ") (c .before .before .before .before .before .before .before .before .args .v .bundle) ++ numberLine (ascii "  applied fee: ") (c .before .before .before .before .before .before .before .before .args .v .«applied_fee»)) (c .before .before .before .before .before .if1 .taken)) (c .before .before .append-bytes .ensures)
-
-slice-aggregate-append-bundle : tie.Need-slice-aggregate-append-bundle
-slice-aggregate-append-bundle c = search needs
-
-append-bundle-requires : tie.Need-append-bundle-requires
-append-bundle-requires c κs = search needs
-
-slice-aggregate-append-number-line : tie.Need-slice-aggregate-append-number-line
-slice-aggregate-append-number-line c = search needs
-
-append-number-line-requires : tie.Need-append-number-line-requires
-append-number-line-requires c κs = search needs
-
-same-length-2 : tie.Need-same-length-2
-same-length-2 c = search needs
 
 returns-2 : tie.Need-returns-2
 unfolding variantText
@@ -52,13 +28,13 @@ pub append-variant-spec : {M : Type 1} → statement M
 append-variant-spec =
     tie.close
     (tie.spec
-    slice-aggregate-append-bytes
-    append-bytes-requires
-    same-length
+    (λ c. search needs)
+    (λ c κs. search needs)
+    (λ c. search needs)
     returns
-    slice-aggregate-append-bundle
-    append-bundle-requires
-    slice-aggregate-append-number-line
-    append-number-line-requires
-    same-length-2
+    (λ c. search needs)
+    (λ c κs. search needs)
+    (λ c. search needs)
+    (λ c κs. search needs)
+    (λ c. search needs)
     returns-2)

@@ -16,24 +16,6 @@ use Rattle.tool_book_text.proofs.coin.append_coin_or_bytes.Reads as app
 use Rattle.base_sha256.proofs.sha256.Reads as sha256-reads
 use Rattle.tool_text.proofs.append_hex_line.Reads as append-hex-line-reads
 
-sha256-requires : tie.Need-sha256-requires
-sha256-requires c κs = search needs
-
-append-coin-or-bytes-requires : tie.Need-append-coin-or-bytes-requires
-append-coin-or-bytes-requires c κs = search needs
-
-slice-aggregate-append-hex-line : tie.Need-slice-aggregate-append-hex-line
-slice-aggregate-append-hex-line c = search needs
-
-slice-aggregate-append-hex-line-2 : tie.Need-slice-aggregate-append-hex-line-2
-slice-aggregate-append-hex-line-2 c = search needs
-
-append-hex-line-requires : tie.Need-append-hex-line-requires
-append-hex-line-requires c κs = search needs
-
-same-length : tie.Need-same-length
-same-length c = search needs
-
 returns : tie.Need-returns
 unfolding coinText
 returns c = fits-join (c .before .before .before .before .before .before .before .before .append-coin-or-bytes .ensures) (fits-as (ap (hexLine (ascii "      coin id: ")) (c .before .before .before .before .before .before .before .before .before .before .sha256 .ensures)) (c .before .before .append-hex-line .ensures))
@@ -42,10 +24,10 @@ pub append-coin-spec : {M : Type 1} → statement M
 append-coin-spec =
     tie.close
     (tie.spec
-    sha256-requires
-    append-coin-or-bytes-requires
-    slice-aggregate-append-hex-line
-    slice-aggregate-append-hex-line-2
-    append-hex-line-requires
-    same-length
+    (λ c κs. search needs)
+    (λ c κs. search needs)
+    (λ c. search needs)
+    (λ c. search needs)
+    (λ c κs. search needs)
+    (λ c. search needs)
     returns)

@@ -16,27 +16,12 @@ use Rattle.tool_book_text.proofs.coin.append_parts.Reads as append-part
 use Rattle.tool_book_text.proofs.coin.is_coin.Reads as is-coin-reads
 use Rattle.tool_text.proofs.append_hex_line.Reads as append-hex-line-reads
 
-is-coin-requires : tie.Need-is-coin-requires
-is-coin-requires c κs = search needs
-
 append-parts-requires : tie.Need-append-parts-requires
 append-parts-requires c κs = coin-room (c .before .before .before .before .before .args .c .now) (sym (c .before .before .is-coin .ensures) ∙ c .before .if1 .taken)
-
-same-length : tie.Need-same-length
-same-length c = search needs
 
 returns : tie.Need-returns
 unfolding coinOrBytes
 returns c = fits-as (sym (ap (λ b. coinOr b (partsText (c .before .before .before .before .before .before .before .before .args .c .now)) (hexLine (ascii "      coin bytes (not a parent, puzzle hash and amount): ") (c .before .before .before .before .before .before .before .before .args .c .now))) (sym (c .before .before .before .before .before .is-coin .ensures) ∙ c .before .before .before .before .if1 .taken))) (c .before .before .append-parts .ensures)
-
-slice-aggregate-append-hex-line : tie.Need-slice-aggregate-append-hex-line
-slice-aggregate-append-hex-line c = search needs
-
-append-hex-line-requires : tie.Need-append-hex-line-requires
-append-hex-line-requires c κs = search needs
-
-same-length-2 : tie.Need-same-length-2
-same-length-2 c = search needs
 
 returns-2 : tie.Need-returns-2
 unfolding coinOrBytes
@@ -46,11 +31,11 @@ pub append-coin-or-bytes-spec : {M : Type 1} → statement M
 append-coin-or-bytes-spec =
     tie.close
     (tie.spec
-    is-coin-requires
+    (λ c κs. search needs)
     append-parts-requires
-    same-length
+    (λ c. search needs)
     returns
-    slice-aggregate-append-hex-line
-    append-hex-line-requires
-    same-length-2
+    (λ c. search needs)
+    (λ c κs. search needs)
+    (λ c. search needs)
     returns-2)

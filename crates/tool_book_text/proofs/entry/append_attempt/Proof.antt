@@ -18,39 +18,6 @@ use Rattle.tool_book_text.proofs.words.append_hash.Reads as append-hash
 use Rattle.tool_book_text.proofs.words.append_hash_line.Reads as append-hash-line-reads
 use Rattle.tool_text.proofs.append_number_line.Reads as append-number-line-reads
 
-append-bytes-requires : tie.Need-append-bytes-requires
-append-bytes-requires c κs = search needs
-
-slice-aggregate-append-number-line : tie.Need-slice-aggregate-append-number-line
-slice-aggregate-append-number-line c = search needs
-
-append-number-line-requires : tie.Need-append-number-line-requires
-append-number-line-requires c κs = search needs
-
-slice-aggregate-append-bytes : tie.Need-slice-aggregate-append-bytes
-slice-aggregate-append-bytes c = search needs
-
-append-bytes-requires-2 : tie.Need-append-bytes-requires-2
-append-bytes-requires-2 c κs = search needs
-
-append-goal-requires : tie.Need-append-goal-requires
-append-goal-requires c κs = search needs
-
-slice-aggregate-append-hash-line : tie.Need-slice-aggregate-append-hash-line
-slice-aggregate-append-hash-line c = search needs
-
-append-hash-line-requires : tie.Need-append-hash-line-requires
-append-hash-line-requires c κs = search needs
-
-slice-aggregate-append-hash : tie.Need-slice-aggregate-append-hash
-slice-aggregate-append-hash c = search needs
-
-append-hash-requires : tie.Need-append-hash-requires
-append-hash-requires c κs = search needs
-
-same-length : tie.Need-same-length
-same-length c = search needs
-
 returns : tie.Need-returns
 unfolding attemptText
 returns c = fits-join (fits-join (fits-join (fits-join (fits-join (c .before .before .before .before .before .before .before .before .before .before .before .before .before .before .before .before .before .before .before .before .before .before .before .before .before .before .before .append-bytes .ensures) (c .before .before .before .before .before .before .before .before .before .before .before .before .before .before .before .before .before .before .before .before .before .before .append-number-line .ensures)) (c .before .before .before .before .before .before .before .before .before .before .before .before .before .before .before .before .before .append-bytes2 .ensures)) (c .before .before .before .before .before .before .before .before .before .before .before .before .before .append-goal .ensures)) (c .before .before .before .before .before .before .before .append-hash-line .ensures)) (c .before .before .append-hash .ensures)
@@ -59,15 +26,15 @@ pub append-attempt-spec : {M : Type 1} → statement M
 append-attempt-spec =
     tie.close
     (tie.spec
-    append-bytes-requires
-    slice-aggregate-append-number-line
-    append-number-line-requires
-    slice-aggregate-append-bytes
-    append-bytes-requires-2
-    append-goal-requires
-    slice-aggregate-append-hash-line
-    append-hash-line-requires
-    slice-aggregate-append-hash
-    append-hash-requires
-    same-length
+    (λ c κs. search needs)
+    (λ c. search needs)
+    (λ c κs. search needs)
+    (λ c. search needs)
+    (λ c κs. search needs)
+    (λ c κs. search needs)
+    (λ c. search needs)
+    (λ c κs. search needs)
+    (λ c. search needs)
+    (λ c κs. search needs)
+    (λ c. search needs)
     returns)

@@ -18,30 +18,6 @@ use Rattle.tool_book_text.proofs.entry.append_intent.Reads as append-in
 use Rattle.tool_book_text.proofs.words.append_goal.Reads as append-goal-reads
 use Rattle.tool_book_text.proofs.words.append_trigger.Reads as append-trigger-reads
 
-slice-aggregate-append-heading : tie.Need-slice-aggregate-append-heading
-slice-aggregate-append-heading c = search needs
-
-append-heading-requires : tie.Need-append-heading-requires
-append-heading-requires c κs = search needs
-
-append-intent-requires : tie.Need-append-intent-requires
-append-intent-requires c κs = search needs
-
-append-trigger-requires : tie.Need-append-trigger-requires
-append-trigger-requires c κs = search needs
-
-slice-aggregate-append-bytes : tie.Need-slice-aggregate-append-bytes
-slice-aggregate-append-bytes c = search needs
-
-append-bytes-requires : tie.Need-append-bytes-requires
-append-bytes-requires c κs = search needs
-
-append-goal-requires : tie.Need-append-goal-requires
-append-goal-requires c κs = search needs
-
-same-length : tie.Need-same-length
-same-length c = search needs
-
 returns : tie.Need-returns
 unfolding deliveryText
 returns c = fits-join (fits-join (fits-join (fits-join (c .before .before .before .before .before .before .before .before .before .before .before .before .before .before .before .before .before .before .before .append-heading .ensures) (c .before .before .before .before .before .before .before .before .before .before .before .before .before .before .before .append-intent .ensures)) (c .before .before .before .before .before .before .before .before .before .before .before .append-trigger .ensures)) (c .before .before .before .before .before .before .append-bytes .ensures)) (c .before .before .append-goal .ensures)
@@ -50,12 +26,12 @@ pub append-delivery-spec : {M : Type 1} → statement M
 append-delivery-spec =
     tie.close
     (tie.spec
-    slice-aggregate-append-heading
-    append-heading-requires
-    append-intent-requires
-    append-trigger-requires
-    slice-aggregate-append-bytes
-    append-bytes-requires
-    append-goal-requires
-    same-length
+    (λ c. search needs)
+    (λ c κs. search needs)
+    (λ c κs. search needs)
+    (λ c κs. search needs)
+    (λ c. search needs)
+    (λ c κs. search needs)
+    (λ c κs. search needs)
+    (λ c. search needs)
     returns)

@@ -17,27 +17,6 @@ use Rattle.tool_book_text.proofs.bundle.append_variant.Reads as append-
 use Rattle.tool_book_text.proofs.entry.append_facts.Reads as append-facts-reads
 use Rattle.tool_book_text.proofs.words.append_hash_line.Reads as append-hash-line-reads
 
-slice-aggregate-append-hash-line : tie.Need-slice-aggregate-append-hash-line
-slice-aggregate-append-hash-line c = search needs
-
-append-hash-line-requires : tie.Need-append-hash-line-requires
-append-hash-line-requires c κs = search needs
-
-slice-aggregate-append-bundle : tie.Need-slice-aggregate-append-bundle
-slice-aggregate-append-bundle c = search needs
-
-append-bundle-requires : tie.Need-append-bundle-requires
-append-bundle-requires c κs = search needs
-
-append-variant-requires : tie.Need-append-variant-requires
-append-variant-requires c κs = search needs
-
-append-facts-requires : tie.Need-append-facts-requires
-append-facts-requires c κs = search needs
-
-same-length : tie.Need-same-length
-same-length c = search needs
-
 returns : tie.Need-returns
 unfolding entryText
 returns c = fits-join (fits-join (fits-join (c .before .before .before .before .before .before .before .before .before .before .before .before .before .before .before .append-hash-line .ensures) (c .before .before .before .before .before .before .before .before .before .before .append-bundle .ensures)) (c .before .before .before .before .before .before .append-variant .ensures)) (c .before .before .append-facts .ensures)
@@ -46,11 +25,11 @@ pub append-entry-spec : {M : Type 1} → statement M
 append-entry-spec =
     tie.close
     (tie.spec
-    slice-aggregate-append-hash-line
-    append-hash-line-requires
-    slice-aggregate-append-bundle
-    append-bundle-requires
-    append-variant-requires
-    append-facts-requires
-    same-length
+    (λ c. search needs)
+    (λ c κs. search needs)
+    (λ c. search needs)
+    (λ c κs. search needs)
+    (λ c κs. search needs)
+    (λ c κs. search needs)
+    (λ c. search needs)
     returns)

@@ -18,30 +18,6 @@ use Rattle.tool_book_text.proofs.words.append_hash.Reads as append-hash
 use Rattle.tool_book_text.proofs.words.append_height.Reads as append-height-reads
 use Rattle.tool_book_text.proofs.words.append_resolution.Reads as append-resolution-reads
 
-append-resolution-requires : tie.Need-append-resolution-requires
-append-resolution-requires c κs = search needs
-
-append-fee-intent-requires : tie.Need-append-fee-intent-requires
-append-fee-intent-requires c κs = search needs
-
-slice-aggregate-append-hash : tie.Need-slice-aggregate-append-hash
-slice-aggregate-append-hash c = search needs
-
-append-hash-requires : tie.Need-append-hash-requires
-append-hash-requires c κs = search needs
-
-append-chain-requires : tie.Need-append-chain-requires
-append-chain-requires c κs = search needs
-
-slice-aggregate-append-height : tie.Need-slice-aggregate-append-height
-slice-aggregate-append-height c = search needs
-
-append-height-requires : tie.Need-append-height-requires
-append-height-requires c κs = search needs
-
-same-length : tie.Need-same-length
-same-length c = search needs
-
 returns : tie.Need-returns
 unfolding factsText
 returns c = fits-join (fits-join (fits-join (fits-join (c .before .before .before .before .before .before .before .before .before .before .before .before .before .before .before .before .before .before .before .before .append-resolution .ensures) (c .before .before .before .before .before .before .before .before .before .before .before .before .before .before .before .before .append-fee-intent .ensures)) (c .before .before .before .before .before .before .before .before .before .before .before .append-hash .ensures)) (c .before .before .before .before .before .before .before .append-chain .ensures)) (c .before .before .append-height .ensures)
@@ -50,12 +26,12 @@ pub append-facts-spec : {M : Type 1} → statement M
 append-facts-spec =
     tie.close
     (tie.spec
-    append-resolution-requires
-    append-fee-intent-requires
-    slice-aggregate-append-hash
-    append-hash-requires
-    append-chain-requires
-    slice-aggregate-append-height
-    append-height-requires
-    same-length
+    (λ c κs. search needs)
+    (λ c κs. search needs)
+    (λ c. search needs)
+    (λ c κs. search needs)
+    (λ c κs. search needs)
+    (λ c. search needs)
+    (λ c κs. search needs)
+    (λ c. search needs)
     returns)

@@ -16,24 +16,6 @@ use Rattle.codec_append.proofs.append_bytes.Reads as append-bytes-reads
 use Rattle.tool_text.proofs.append_decimal.Reads as append-decimal-reads
 use Rattle.tool_text.proofs.append_number_line.Reads as append-number-line-reads
 
-append-bytes-requires : tie.Need-append-bytes-requires
-append-bytes-requires c κs = search needs
-
-add-append-decimal : tie.Need-add-append-decimal
-add-append-decimal c = search needs
-
-append-decimal-requires : tie.Need-append-decimal-requires
-append-decimal-requires c κs = search needs
-
-slice-aggregate-append-number-line : tie.Need-slice-aggregate-append-number-line
-slice-aggregate-append-number-line c = search needs
-
-append-number-line-requires : tie.Need-append-number-line-requires
-append-number-line-requires c κs = search needs
-
-same-length : tie.Need-same-length
-same-length c = search needs
-
 returns : tie.Need-returns
 unfolding headingText
 returns c = fits-join (fits-join (c .before .before .before .before .before .before .before .before .before .before .before .append-bytes .ensures) (c .before .before .before .before .before .before .before .append-decimal .ensures)) (c .before .before .append-number-line .ensures)
@@ -42,10 +24,10 @@ pub append-heading-spec : {M : Type 1} → statement M
 append-heading-spec =
     tie.close
     (tie.spec
-    append-bytes-requires
-    add-append-decimal
-    append-decimal-requires
-    slice-aggregate-append-number-line
-    append-number-line-requires
-    same-length
+    (λ c κs. search needs)
+    (λ c. search needs)
+    (λ c κs. search needs)
+    (λ c. search needs)
+    (λ c κs. search needs)
+    (λ c. search needs)
     returns)

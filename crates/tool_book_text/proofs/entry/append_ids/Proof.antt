@@ -16,24 +16,6 @@ use Rattle.codec_append.proofs.append_bytes.Reads as append-bytes-reads
 use Rattle.tool_book_text.proofs.entry.append_none.Reads as append-none-reads
 use Rattle.tool_book_text.proofs.entry.append_numbers.Reads as append-numbers-reads
 
-append-bytes-requires : tie.Need-append-bytes-requires
-append-bytes-requires c κs = search needs
-
-append-none-requires : tie.Need-append-none-requires
-append-none-requires c κs = search needs
-
-append-numbers-requires : tie.Need-append-numbers-requires
-append-numbers-requires c κs = search needs
-
-slice-aggregate-append-bytes : tie.Need-slice-aggregate-append-bytes
-slice-aggregate-append-bytes c = search needs
-
-append-bytes-requires-2 : tie.Need-append-bytes-requires-2
-append-bytes-requires-2 c κs = search needs
-
-same-length : tie.Need-same-length
-same-length c = search needs
-
 returns : tie.Need-returns
 unfolding idsText
 returns c = fits-join (fits-join (fits-join (c .before .before .before .before .before .before .before .before .before .before .before .before .before .before .before .append-bytes .ensures) (c .before .before .before .before .before .before .before .before .before .before .before .append-none .ensures)) (c .before .before .before .before .before .before .before .append-numbers .ensures)) (c .before .before .append-bytes2 .ensures)
@@ -42,10 +24,10 @@ pub append-ids-spec : {M : Type 1} → statement M
 append-ids-spec =
     tie.close
     (tie.spec
-    append-bytes-requires
-    append-none-requires
-    append-numbers-requires
-    slice-aggregate-append-bytes
-    append-bytes-requires-2
-    same-length
+    (λ c κs. search needs)
+    (λ c κs. search needs)
+    (λ c κs. search needs)
+    (λ c. search needs)
+    (λ c κs. search needs)
+    (λ c. search needs)
     returns)

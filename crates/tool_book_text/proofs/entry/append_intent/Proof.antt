@@ -17,30 +17,6 @@ use Rattle.tool_book_text.proofs.words.append_fee_intent.Reads as appen
 use Rattle.tool_book_text.proofs.words.append_height.Reads as append-height-reads
 use Rattle.tool_book_text.proofs.words.append_id.Reads as append-id-reads
 
-slice-aggregate-append-id : tie.Need-slice-aggregate-append-id
-slice-aggregate-append-id c = search needs
-
-append-id-requires : tie.Need-append-id-requires
-append-id-requires c κs = search needs
-
-slice-aggregate-append-bundle : tie.Need-slice-aggregate-append-bundle
-slice-aggregate-append-bundle c = search needs
-
-append-bundle-requires : tie.Need-append-bundle-requires
-append-bundle-requires c κs = search needs
-
-slice-aggregate-append-height : tie.Need-slice-aggregate-append-height
-slice-aggregate-append-height c = search needs
-
-append-height-requires : tie.Need-append-height-requires
-append-height-requires c κs = search needs
-
-append-fee-intent-requires : tie.Need-append-fee-intent-requires
-append-fee-intent-requires c κs = search needs
-
-same-length : tie.Need-same-length
-same-length c = search needs
-
 returns : tie.Need-returns
 unfolding intentText
 returns c = fits-join (fits-join (fits-join (c .before .before .before .before .before .before .before .before .before .before .before .before .before .before .before .before .append-id .ensures) (c .before .before .before .before .before .before .before .before .before .before .before .append-bundle .ensures)) (c .before .before .before .before .before .before .append-height .ensures)) (c .before .before .append-fee-intent .ensures)
@@ -49,12 +25,12 @@ pub append-intent-spec : {M : Type 1} → statement M
 append-intent-spec =
     tie.close
     (tie.spec
-    slice-aggregate-append-id
-    append-id-requires
-    slice-aggregate-append-bundle
-    append-bundle-requires
-    slice-aggregate-append-height
-    append-height-requires
-    append-fee-intent-requires
-    same-length
+    (λ c. search needs)
+    (λ c κs. search needs)
+    (λ c. search needs)
+    (λ c κs. search needs)
+    (λ c. search needs)
+    (λ c κs. search needs)
+    (λ c κs. search needs)
+    (λ c. search needs)
     returns)

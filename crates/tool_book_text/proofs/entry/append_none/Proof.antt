@@ -12,15 +12,6 @@ use Rattle.tool_book_text.proofs.entry.append_none.Reads as reads
 use Rattle.tool_book_text.proofs.entry.append_none.Lts as lts
 use Rattle.codec_append.proofs.append_bytes.Reads as append-bytes-reads
 
-slice-aggregate-append-bytes : tie.Need-slice-aggregate-append-bytes
-slice-aggregate-append-bytes c = search needs
-
-append-bytes-requires : tie.Need-append-bytes-requires
-append-bytes-requires c κs = search needs
-
-same-length : tie.Need-same-length
-same-length c = search needs
-
 returns : tie.Need-returns
 returns c = fits-as (none-empty (c .before .before .before .before .before .before .before .before .args .l .now) (c .before .before .before .before .before .if1 .taken)) (c .before .before .append-bytes .ensures)
 
@@ -30,4 +21,4 @@ returns-2 c = fits-as (none-some (c .before .before .before .args .l .now) (c .i
 pub append-none-spec : {M : Type 1} → statement M
 append-none-spec =
     tie.close
-    (tie.spec slice-aggregate-append-bytes append-bytes-requires same-length returns returns-2)
+    (tie.spec (λ c. search needs) (λ c κs. search needs) (λ c. search needs) returns returns-2)

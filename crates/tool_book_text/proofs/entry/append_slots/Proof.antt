@@ -14,21 +14,6 @@ use Rattle.tool_book_text.proofs.entry.append_slots.Reads as reads
 use Rattle.tool_book_text.proofs.entry.append_slots.Lts as lts
 use Rattle.tool_book_text.proofs.entry.append_slot.Reads as append-slot-reads
 
-slice-aggregate-append-slot : tie.Need-slice-aggregate-append-slot
-slice-aggregate-append-slot c = search needs
-
-append-slot-requires : tie.Need-append-slot-requires
-append-slot-requires c κs = search needs
-
-slice-aggregate-append-slot-2 : tie.Need-slice-aggregate-append-slot-2
-slice-aggregate-append-slot-2 c = search needs
-
-append-slot-requires-2 : tie.Need-append-slot-requires-2
-append-slot-requires-2 c κs = search needs
-
-same-length : tie.Need-same-length
-same-length c = search needs
-
 returns : tie.Need-returns
 unfolding slotsText
 returns c = fits-join (c .before .before .before .before .before .before .before .append-slot .ensures) (c .before .before .append-slot2 .ensures)
@@ -37,9 +22,9 @@ pub append-slots-spec : {M : Type 1} → statement M
 append-slots-spec =
     tie.close
     (tie.spec
-    slice-aggregate-append-slot
-    append-slot-requires
-    slice-aggregate-append-slot-2
-    append-slot-requires-2
-    same-length
+    (λ c. search needs)
+    (λ c κs. search needs)
+    (λ c. search needs)
+    (λ c κs. search needs)
+    (λ c. search needs)
     returns)

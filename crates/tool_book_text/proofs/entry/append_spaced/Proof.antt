@@ -13,18 +13,6 @@ use Rattle.tool_book_text.proofs.entry.append_spaced.Lts as lts
 use Rattle.codec_append.proofs.append_bytes.Reads as append-bytes-reads
 use Rattle.tool_text.proofs.append_decimal.Reads as append-decimal-reads
 
-slice-aggregate-append-bytes : tie.Need-slice-aggregate-append-bytes
-slice-aggregate-append-bytes c = search needs
-
-append-bytes-requires : tie.Need-append-bytes-requires
-append-bytes-requires c κs = search needs
-
-append-decimal-requires : tie.Need-append-decimal-requires
-append-decimal-requires c κs = search needs
-
-same-length : tie.Need-same-length
-same-length c = search needs
-
 returns : tie.Need-returns
 unfolding idAfterSpace
 returns c = fits-join (c .before .before .before .before .before .before .append-bytes .ensures) (c .before .before .append-decimal .ensures)
@@ -33,8 +21,8 @@ pub append-spaced-spec : {M : Type 1} → statement M
 append-spaced-spec =
     tie.close
     (tie.spec
-    slice-aggregate-append-bytes
-    append-bytes-requires
-    append-decimal-requires
-    same-length
+    (λ c. search needs)
+    (λ c κs. search needs)
+    (λ c κs. search needs)
+    (λ c. search needs)
     returns)

@@ -17,27 +17,6 @@ use Rattle.tool_book_text.proofs.entry.append_heading.Reads as append-h
 use Rattle.tool_book_text.proofs.entry.append_slots.Reads as append-slots-reads
 use Rattle.tool_text.proofs.append_number_line.Reads as append-number-line-reads
 
-slice-aggregate-append-heading : tie.Need-slice-aggregate-append-heading
-slice-aggregate-append-heading c = search needs
-
-append-heading-requires : tie.Need-append-heading-requires
-append-heading-requires c κs = search needs
-
-slice-aggregate-append-number-line : tie.Need-slice-aggregate-append-number-line
-slice-aggregate-append-number-line c = search needs
-
-append-number-line-requires : tie.Need-append-number-line-requires
-append-number-line-requires c κs = search needs
-
-append-slots-requires : tie.Need-append-slots-requires
-append-slots-requires c κs = search needs
-
-append-entry-requires : tie.Need-append-entry-requires
-append-entry-requires c κs = search needs
-
-same-length : tie.Need-same-length
-same-length c = search needs
-
 returns : tie.Need-returns
 unfolding submissionText
 returns c = fits-join (fits-join (fits-join (c .before .before .before .before .before .before .before .before .before .before .before .before .before .before .before .append-heading .ensures) (c .before .before .before .before .before .before .before .before .before .before .append-number-line .ensures)) (c .before .before .before .before .before .before .append-slots .ensures)) (c .before .before .append-entry .ensures)
@@ -46,11 +25,11 @@ pub append-submission-spec : {M : Type 1} → statement M
 append-submission-spec =
     tie.close
     (tie.spec
-    slice-aggregate-append-heading
-    append-heading-requires
-    slice-aggregate-append-number-line
-    append-number-line-requires
-    append-slots-requires
-    append-entry-requires
-    same-length
+    (λ c. search needs)
+    (λ c κs. search needs)
+    (λ c. search needs)
+    (λ c κs. search needs)
+    (λ c κs. search needs)
+    (λ c κs. search needs)
+    (λ c. search needs)
     returns)

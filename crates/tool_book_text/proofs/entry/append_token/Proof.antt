@@ -20,21 +20,6 @@ returns : tie.Need-returns
 unfolding tokenText
 returns c = fits-as (token-no (c .before .before .before .args .s .present) (ascii "  token " ++ decimal (c .before .before .before .args .s .attempt .token .0) ++ numberLine (c .before .before .before .args .fate .now) (c .before .before .before .args .id)) (c .if1 .taken)) (fits-none _ _)
 
-slice-aggregate-append-bytes : tie.Need-slice-aggregate-append-bytes
-slice-aggregate-append-bytes c = search needs
-
-append-bytes-requires : tie.Need-append-bytes-requires
-append-bytes-requires c κs = search needs
-
-append-decimal-requires : tie.Need-append-decimal-requires
-append-decimal-requires c κs = search needs
-
-append-number-line-requires : tie.Need-append-number-line-requires
-append-number-line-requires c κs = search needs
-
-same-length : tie.Need-same-length
-same-length c = search needs
-
 returns-2 : tie.Need-returns-2
 unfolding tokenText
 returns-2 c = fits-as (token-yes (c .before .before .before .before .before .before .before .before .before .before .before .before .before .before .before .before .args .s .present) (ascii "  token " ++ decimal (c .before .before .before .before .before .before .before .before .before .before .before .before .before .before .before .before .args .s .attempt .token .0) ++ numberLine (c .before .before .before .before .before .before .before .before .before .before .before .before .before .before .before .before .args .fate .now) (c .before .before .before .before .before .before .before .before .before .before .before .before .before .before .before .before .args .id)) (c .before .before .before .before .before .before .before .before .before .before .before .before .before .if1 .left)) (fits-join (fits-join (c .before .before .before .before .before .before .before .before .before .before .append-bytes .ensures) (c .before .before .before .before .before .before .append-decimal .ensures)) (c .before .before .append-number-line .ensures))
@@ -44,9 +29,9 @@ append-token-spec =
     tie.close
     (tie.spec
     returns
-    slice-aggregate-append-bytes
-    append-bytes-requires
-    append-decimal-requires
-    append-number-line-requires
-    same-length
+    (λ c. search needs)
+    (λ c κs. search needs)
+    (λ c κs. search needs)
+    (λ c κs. search needs)
+    (λ c. search needs)
     returns-2)

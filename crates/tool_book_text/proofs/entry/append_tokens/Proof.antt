@@ -14,21 +14,6 @@ use Rattle.tool_book_text.proofs.entry.append_tokens.Reads as reads
 use Rattle.tool_book_text.proofs.entry.append_tokens.Lts as lts
 use Rattle.tool_book_text.proofs.entry.append_token.Reads as append-token-reads
 
-slice-aggregate-append-token : tie.Need-slice-aggregate-append-token
-slice-aggregate-append-token c = search needs
-
-append-token-requires : tie.Need-append-token-requires
-append-token-requires c κs = search needs
-
-slice-aggregate-append-token-2 : tie.Need-slice-aggregate-append-token-2
-slice-aggregate-append-token-2 c = search needs
-
-append-token-requires-2 : tie.Need-append-token-requires-2
-append-token-requires-2 c κs = search needs
-
-same-length : tie.Need-same-length
-same-length c = search needs
-
 returns : tie.Need-returns
 unfolding tokensText
 returns c = fits-join (c .before .before .before .before .before .before .before .append-token .ensures) (c .before .before .append-token2 .ensures)
@@ -37,9 +22,9 @@ pub append-tokens-spec : {M : Type 1} → statement M
 append-tokens-spec =
     tie.close
     (tie.spec
-    slice-aggregate-append-token
-    append-token-requires
-    slice-aggregate-append-token-2
-    append-token-requires-2
-    same-length
+    (λ c. search needs)
+    (λ c κs. search needs)
+    (λ c. search needs)
+    (λ c κs. search needs)
+    (λ c. search needs)
     returns)

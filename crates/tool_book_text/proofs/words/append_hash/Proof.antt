@@ -15,33 +15,9 @@ use Rattle.tool_book_text.proofs.words.append_hash.Lts as lts
 use Rattle.codec_append.proofs.append_bytes.Reads as append-bytes-reads
 use Rattle.tool_text.proofs.append_hex_line.Reads as append-hex-line-reads
 
-append-bytes-requires : tie.Need-append-bytes-requires
-append-bytes-requires c κs = search needs
-
-slice-aggregate-append-bytes : tie.Need-slice-aggregate-append-bytes
-slice-aggregate-append-bytes c = search needs
-
-append-bytes-requires-2 : tie.Need-append-bytes-requires-2
-append-bytes-requires-2 c κs = search needs
-
-same-length : tie.Need-same-length
-same-length c = search needs
-
 returns : tie.Need-returns
 unfolding hashText
 returns c = fits-join (c .before .before .before .before .before .before .before .before .append-bytes .ensures) (fits-as (hash-no (c .before .before .before .before .before .before .before .before .before .before .before .before .before .args .h .present) (hexLine (ascii "yes, fingerprint ") (c .before .before .before .before .before .before .before .before .before .before .before .before .before .args .h .hash)) (c .before .before .before .before .before .if1 .taken)) (c .before .before .append-bytes2 .ensures))
-
-slice-aggregate-append-hex-line : tie.Need-slice-aggregate-append-hex-line
-slice-aggregate-append-hex-line c = search needs
-
-slice-aggregate-append-hex-line-2 : tie.Need-slice-aggregate-append-hex-line-2
-slice-aggregate-append-hex-line-2 c = search needs
-
-append-hex-line-requires : tie.Need-append-hex-line-requires
-append-hex-line-requires c κs = search needs
-
-same-length-2 : tie.Need-same-length-2
-same-length-2 c = search needs
 
 returns-2 : tie.Need-returns-2
 unfolding hashText
@@ -51,13 +27,13 @@ pub append-hash-spec : {M : Type 1} → statement M
 append-hash-spec =
     tie.close
     (tie.spec
-    append-bytes-requires
-    slice-aggregate-append-bytes
-    append-bytes-requires-2
-    same-length
+    (λ c κs. search needs)
+    (λ c. search needs)
+    (λ c κs. search needs)
+    (λ c. search needs)
     returns
-    slice-aggregate-append-hex-line
-    slice-aggregate-append-hex-line-2
-    append-hex-line-requires
-    same-length-2
+    (λ c. search needs)
+    (λ c. search needs)
+    (λ c κs. search needs)
+    (λ c. search needs)
     returns-2)
