@@ -43,9 +43,9 @@ use Rattle.book.proofs.AttemptSlots as T
 use Rattle.book.proofs.AttemptSlots.Laws as T′
 use Rattle.part_slots.proofs.stop_in_place as lent
 use Rattle.part_slots.proofs.stop_in_place.Symbol as lent-def
-use Rattle.part_slots.proofs.stop_in_place.Symbol.{name as #slots·stop-in-place}
+use Rattle.part_slots.proofs.stop_in_place.Symbol.{name as #part-slots·stop-in-place}
 use Rattle.part_slots.proofs.stop_in_place.Met as lent-thm
-use Rattle.part_slots.proofs.stop_lent.Key.{name as #slots·stop-lent}
+use Rattle.part_slots.proofs.stop_lent.Key.{name as #part-slots·stop-lent}
 use Rattle.part_slots.proofs.stop_lent as this
 use Rattle.part_slots.proofs.stop_lent.Statement as stated
 use Rattle.part_slots.proofs.stop_lent.Code as code
@@ -99,7 +99,7 @@ module _ {M : Type 1} (𝓤 : URA M) (H : Heap 𝓤) (A : Atoms 𝓤) (W : Given
         qed W (‵ (flft (α ∷ []) fullShare) ∷ ‵ (MutRef (named 0) (α ∷ []) T.the-row .own (record { ptr = (l, 0); name = δ; now = h }) (vptr l 0 ∷ [])) ∷ []) ∵
         nothing ! $ nothing ! $ move ! (2 ∷ 0 ∷ []) $ join ! $ move ! (2 ∷ 1 ∷ []) $ join ! $ move ! (1 ∷ 0 ∷ []) $ join ! $ frame ! $ done !
 
-    module _ (C : Calls 𝓤 H) (Λ : Loops 𝓤 H) (fm : FmC 𝓤 H (W .laws) C) (known : Triple 𝓤 (C #slots·stop-in-place) StopInPlace) where
+    module _ (C : Calls 𝓤 H) (Λ : Loops 𝓤 H) (fm : FmC 𝓤 H (W .laws) C) (known : Triple 𝓤 (C #part-slots·stop-in-place) StopInPlace) where
       walk : Is T.the-row h (vals h) → Holds (hasTy T′.mir (val h)) × WT (val h) → ent 𝓤 (onEntry 𝓤 H A this.signature tt tt (h, tt) (vals h, tt)) (WpFn 𝓤 H C Λ code.function (vals h) Post)
       walk g wt =
           qed W (‵ ftrue ∷ ‵ (owns (T.the-row ∷ []) (h, tt) (vals h, tt)) ∷ []) ∵ enter ! C Λ code.function (vals h) _ $
@@ -131,13 +131,13 @@ module _ {M : Type 1} (𝓤 : URA M) (H : Heap 𝓤) (A : Atoms 𝓤) (W : Given
           keep ! (0 ∷ []) $ by ! (exits g))))))))))))))
 
 module _ {M : Type 1} (𝓤 : URA M) (H : Heap 𝓤) (A : Atoms 𝓤) (W : Given 𝓤 H A) (at-mem : Memory → SProp 𝓤) (run : Routine → Fun 𝓤) where
-  walks : (C : Calls 𝓤 H) (Λ : Loops 𝓤 H) → FmC 𝓤 H (W .laws) C → Triple 𝓤 (C #slots·stop-in-place) (StopInPlace 𝓤 H A W at-mem run)
+  walks : (C : Calls 𝓤 H) (Λ : Loops 𝓤 H) → FmC 𝓤 H (W .laws) C → Triple 𝓤 (C #part-slots·stop-in-place) (StopInPlace 𝓤 H A W at-mem run)
       → Walks 𝓤 H A this.ended stayed (WpFn 𝓤 H C Λ code.function) (this.clauses 𝓤 H A at-mem run)
   walks C Λ fm known = walked 𝓤 H A this.ended stayed (this.clauses 𝓤 H A at-mem run) (WpFn 𝓤 H C Λ code.function) (λ κs. (vals, tt)) (λ κs. (LL.tells T.the-type T′.the-laws, tt))
       (λ κs qs bounds a g are. via 𝓤 _ (fst∗ 𝓤 _ (emp 𝓤)) (walk 𝓤 H A W at-mem run (a .0) C Λ fm known (are .0) (LL.lawful T.the-type T′.the-laws 𝓤 H A W .typed (a .0) _ (are .0) .0)))
 
 meets : {M : Type 1} (𝓤 : URA M) (H : Heap 𝓤) (A : Atoms 𝓤) (W : Given 𝓤 H A) (at-mem : Memory → SProp 𝓤) (run : Routine → Fun 𝓤) (𝓣 : Tables 𝓤 H)
-    → Triple 𝓤 (𝓣 .C #slots·stop-in-place) (StopInPlace 𝓤 H A W at-mem run)
+    → Triple 𝓤 (𝓣 .C #part-slots·stop-in-place) (StopInPlace 𝓤 H A W at-mem run)
     → Meets 𝓤 H A this.signature (WpFn 𝓤 H (𝓣 .C) (𝓣 .Λ) code.function) (this.spec 𝓤 H A at-mem run)
 meets 𝓤 H A W at-mem run 𝓣 known = walk-meets 𝓤 H A this.ended stayed W (goes-none 𝓤 H A W 0 (λ _. T.the-row) yes (λ κs x f. refl), tt) (this.clauses 𝓤 H A at-mem run) (WpFn 𝓤 H (𝓣 .C) (𝓣 .Λ) code.function)
     (WpFn-mono 𝓤 H (W .laws) 𝓣 code.function) (walks 𝓤 H A W at-mem run (𝓣 .C) (𝓣 .Λ) (fmOf 𝓤 H (W .laws) 𝓣) known)
@@ -146,6 +146,6 @@ pub stop-lent-spec : {M : Type 1} → stated.statement M
 unfolding code.routine tablesOf
 stop-lent-spec 𝓤 H 𝓜 𝓖 𝓡 =
     entered 𝓤 H (tripleOf 𝓤 H (𝓖 .A) this.signature (this.spec 𝓤 H (𝓖 .A) (𝓜 .mem) (𝓡 .run)))
-    (tables 𝓤 H 𝓜 𝓡 code.env .C) (tables 𝓤 H 𝓜 𝓡 code.env .Λ) #slots·stop-lent code.function (code.unfolded 𝓤 H 𝓜 𝓡)
+    (tables 𝓤 H 𝓜 𝓡 code.env .C) (tables 𝓤 H 𝓜 𝓡 code.env .Λ) #part-slots·stop-lent code.function (code.unfolded 𝓤 H 𝓜 𝓡)
     (meets 𝓤 H (𝓖 .A) (givenOf 𝓤 H 𝓜 𝓖) (𝓜 .mem) (𝓡 .run) (tablesOf 𝓤 H 𝓜 (tables 𝓤 H 𝓜 𝓡 code.env))
-    (cited 𝓤 H (StopInPlace 𝓤 H (𝓖 .A) (givenOf 𝓤 H 𝓜 𝓖) (𝓜 .mem) (𝓡 .run)) 𝓜 𝓡 code.env #slots·stop-in-place lent-def.routine code.calls-slots·stop-in-place (lent-thm.met 𝓤 H 𝓜 𝓖 𝓡)))
+    (cited 𝓤 H (StopInPlace 𝓤 H (𝓖 .A) (givenOf 𝓤 H 𝓜 𝓖) (𝓜 .mem) (𝓡 .run)) 𝓜 𝓡 code.env #part-slots·stop-in-place lent-def.routine code.calls-part-slots·stop-in-place (lent-thm.met 𝓤 H 𝓜 𝓖 𝓡)))
