@@ -1,3 +1,4 @@
+-- One count byte and the spends, whose size the callee gives: the bounds 1 and 1072 make 1073.
 use native.Mathlib.Omega.{arith}
 use Prim.Native.Nat.{_-_}
 use Rattle.archive_bundle_size.specs.Lengths.{bundle-size}

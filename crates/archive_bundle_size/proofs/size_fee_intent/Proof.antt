@@ -1,3 +1,4 @@
+-- By the kind: an attached fee is the kind byte, 32 bytes of target and 8 of amount, any other kind the kind byte alone.
 use mathlib.Core.Path.{sym, _∙_}
 use Prim.Native.Nat.{_-_}
 use Rattle.archive_bundle_size.specs.Lengths.{attach-size, plain-size}

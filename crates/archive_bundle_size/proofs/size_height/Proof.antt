@@ -1,3 +1,4 @@
+-- By the case of the height: no height is one mark byte, and a height is the mark with eight bytes of number.
 use mathlib.Core.Path.{sym, _∙_}
 use Prim.Native.Nat.{_-_}
 use Rattle.archive_bundle_size.specs.Lengths.{no-height-size, height-size}

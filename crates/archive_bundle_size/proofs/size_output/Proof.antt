@@ -1,3 +1,4 @@
+-- The 32 bytes of the puzzle hash, a length that the array type gives, and the 8 bytes of the amount make 40.
 use borrow.Author.Needs.{needs}
 use Prim.Native.Nat.{_-_}
 use Rattle.archive_bundle_size.specs.Lengths.{output-size}

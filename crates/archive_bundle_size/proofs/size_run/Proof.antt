@@ -1,3 +1,4 @@
+-- By the mark: an unreadable run is one byte, a readable one two bytes before its outputs, whose bound 160 becomes 162.
 use borrow.Author.Tests.{not-true, not-false}
 use native.Mathlib.Omega.{arith}
 use Prim.Native.Nat.{_-_}

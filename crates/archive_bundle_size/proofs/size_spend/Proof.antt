@@ -1,3 +1,4 @@
+-- A length byte and 32 bytes of digest make 33, the coin is cut at its 73 bytes, and the callee gives the size of the run.
 use Prim.Native.Nat.{_-_}
 use Rattle.archive_bundle_size.specs.Lengths.{spend-size}
 use borrow.Author.Needs.{needs}

@@ -1,3 +1,4 @@
+-- The three parts, written one behind the other, fit the array, so its first `n` bytes, which are hashed, are their joined form.
 use lib.ListN.{replicate}
 use Rattle.codec_forms.specs.Puts.{Room, size-join}
 use Rattle.codec_append.specs.Fits.{fits-join}

@@ -1,3 +1,4 @@
+-- A bundle's form fits the array, so after the write the first `n` bytes, which are hashed, are exactly that form.
 use lib.ListN.{replicate}
 use Rattle.codec_forms.specs.Puts.{Room}
 use Rattle.archive_bundle_form.specs.Forms.{encodeBundle, variantFingerprint}

@@ -1,3 +1,4 @@
+-- The sum is the length of the book's archive by `book-size`: the parts' sizes are the callees' answers, and each listed id counts eight bytes.
 use Prim.Native.Nat.{_-_}
 use Rattle.archive_size.specs.Lengths.{book-size}
 use borrow.Author.Needs.{needs}

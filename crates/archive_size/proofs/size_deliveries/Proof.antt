@@ -1,3 +1,4 @@
+-- The loop keeps the bytes of the first `i` entries, at most 1134 each; the capped count takes the same as `n`, so 16 of them bound the sum.
 use borrow.Author.Needs.{needs}
 use native.Mathlib.Omega.{arith}
 use mathlib.Core.Path.{_≡_, ap}

@@ -1,3 +1,4 @@
+-- Straight code: id, bundle, expiry and fee intent have the callees' sizes, and the trigger and goal take one byte each.
 use Prim.Native.Nat.{_-_}
 use Rattle.archive_size.specs.Lengths.{delivery-size}
 use borrow.Author.Needs.{needs}

@@ -1,3 +1,4 @@
+-- Straight code: fee intent, acknowledged hash and expiry have the callees' sizes, and the two bytes are the resolution and the terminality.
 use Prim.Native.Nat.{_-_}
 use Rattle.archive_size.specs.Lengths.{facts-size}
 use borrow.Author.Needs.{needs}

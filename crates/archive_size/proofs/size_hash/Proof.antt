@@ -1,3 +1,4 @@
+-- By whether the hash is there: a flag byte and its 32 bytes, or the flag byte alone.
 use borrow.Author.Needs.{needs}
 use Prim.Native.Nat.{_-_}
 use Rattle.archive_size.specs.Lengths.{hash-there, hash-none}

@@ -1,3 +1,4 @@
+-- By what `is_none` answers: the flag byte alone, or the flag byte and the eight bytes of the id.
 use mathlib.Core.Path.{sym, _∙_}
 use Prim.Native.Nat.{_-_}
 use Rattle.archive_size.specs.Lengths.{no-id-size, id-size}

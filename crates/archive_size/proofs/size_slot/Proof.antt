@@ -1,3 +1,4 @@
+-- By whether an attempt is there: 42 bytes of flag, token, goal and drained fingerprint before the hash, or the flag byte alone.
 use Prim.Native.Nat.{_-_}
 use Rattle.archive_size.specs.Lengths.{slot-there, slot-none}
 use borrow.Author.Needs.{needs}

@@ -1,3 +1,4 @@
+-- The loop keeps the bytes of the first `i` submissions, at most 2430 each; the capped count takes the same as `n`, so 16 bound it.
 use borrow.Author.Needs.{needs}
 use native.Mathlib.Omega.{arith}
 use mathlib.Core.Path.{_≡_, ap}

@@ -1,3 +1,4 @@
+-- Straight code: slots, bundle, variant and facts have the callees' sizes, and 40 bytes are the id and the intent fingerprint.
 use Prim.Native.Nat.{_-_}
 use Rattle.archive_size.specs.Lengths.{submitted-size}
 use borrow.Author.Needs.{needs}

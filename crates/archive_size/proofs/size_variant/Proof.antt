@@ -1,3 +1,4 @@
+-- By whether the variant bears a fee: a flag byte, the bundle and eight bytes of fee, or the flag byte alone.
 use Prim.Native.Nat.{_-_}
 use Rattle.archive_size.specs.Lengths.{variant-there, variant-none}
 use borrow.Author.Needs.{needs}

@@ -1,3 +1,4 @@
+-- Each test leaves an amount that k bytes do not hold and k + 1 do, so k + 1 is its length (`length-is`); zero has none.
 use Rattle.base_coin_string.specs.AmountLaws.{length-is, length-zero}
 use borrow.Author.Needs.{needs}
 use native.Mathlib.Omega.{arith}

@@ -1,3 +1,4 @@
+-- The code's tests decide those of `endAt` in order: a place inside, a length of at most 73, and no longer than the rest.
 use lib.Dec.{ltb, leb}
 use mathlib.Core.Bool.{Bool, true, false, cond, _&&_}
 use borrow.Author.Tests.{lt-ltb, le-ltb, le-leb, lt-leb}

@@ -1,3 +1,4 @@
+-- A length cut to 73 takes the same bytes of a 73-byte cell (`take-min`), and `part` is the run compared with them.
 use native.Mathlib.Nat.{sub-zero}
 use Rattle.base_lists.specs.Bytes.{eqs}
 use Rattle.base_lists.specs.Laws.{take-min}

@@ -1,3 +1,4 @@
+-- The loop keeps that the order of what is left is that of the whole, and each return is one case of how what is left begins.
 use lib.ListN.{drop-of-length-le}
 use Rattle.base_lists.specs.Bytes.{rest-step}
 use Rattle.base_coin_string.specs.Order.{orderOf}

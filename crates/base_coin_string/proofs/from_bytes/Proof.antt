@@ -1,3 +1,4 @@
+-- Bytes pushed on the empty cell make the cell of those bytes (`pushes-cell`), and a part of at most 73 has room.
 use lib.ListN.{length-take}
 use Rattle.base_coin_string.specs.declared.CoinString.{CoinString}
 use Rattle.base_coin_string.specs.Coin.{cellOf}

@@ -1,3 +1,4 @@
+-- Parent, hash and atom pushed on the empty cell make the parts' cell (`parts-cell`), and 32 + 32 bytes leave the atom its room.
 use Rattle.base_coin_string.specs.declared.CoinString.{CoinString}
 use Rattle.base_coin_string.specs.Amount.{atomOf}
 use Rattle.base_coin_string.specs.Coin.{cellOf, from-parts-of}

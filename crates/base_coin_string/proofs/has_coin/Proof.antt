@@ -1,3 +1,4 @@
+-- The loop keeps: the coin is listed exactly if it is among the coins left, of which the whole one at `at` is the first.
 use native.Mathlib.Omega.{arith}
 use mathlib.Core.Path.{_≡_, sym, ap, _∙_}
 use Prim.Native.Nat.{ℕ, _≤_, _<_}

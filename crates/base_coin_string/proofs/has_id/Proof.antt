@@ -1,3 +1,4 @@
+-- The loop keeps: the id is listed exactly if it is among the ids left, and from `at` on there are 32 bytes for each of them.
 use native.Mathlib.Omega.{arith}
 use mathlib.Core.Path.{_≡_, refl, sym, ap, _∙_}
 use mathlib.Core.List.{List}

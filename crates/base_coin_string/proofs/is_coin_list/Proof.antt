@@ -1,3 +1,4 @@
+-- The loop keeps: the bytes are a coin list exactly if the coins left use up those from `at` on, and `at` is not past the end.
 use native.Mathlib.Omega.{arith}
 use mathlib.Core.Path.{_≡_, sym, ap, _∙_}
 use Prim.Native.Nat.{ℕ, _≤_, _<_}

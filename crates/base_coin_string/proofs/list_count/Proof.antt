@@ -1,3 +1,4 @@
+-- Two bytes or more begin with the count, high byte first (`count-of`); fewer have the count 0 (`count-none`).
 use Rattle.base_coin_string.specs.CoinListLaws.{count-of, count-none}
 use native.Mathlib.Omega.{arith}
 use mathlib.Core.Path.{_≡_, refl, sym, ap, _∙_, subst}

@@ -1,3 +1,4 @@
+-- Each byte is the one `bigEndian` names: the first is zero as the amount is below 2^64, the last needs no division.
 use native.Mathlib.Nat.{div-one}
 use Rattle.base_coin_string.specs.Amount.{bigEndian}
 use native.Mathlib.Omega.{arith}

@@ -1,3 +1,4 @@
+-- Four cases: an empty range, a start past the list, an end past it that gives all the rest, and a range inside.
 use Rattle.base_coin_string.specs.Part.{part-none, part-past, part-rest}
 use Rattle.base_lists.specs.Laws.{part-to-end}
 use native.Mathlib.Omega.{arith}

@@ -1,3 +1,4 @@
+-- The loop keeps: the cell is the first one with the first `i` bytes pushed, and its length leaves room for the next.
 use Rattle.base_coin_string.specs.declared.CoinString.{CoinString}
 use Rattle.base_coin_string.specs.Build.{pushed, pushes, pushes-len, pushes-step}
 use lib.Seq.{take-all, length-take-le}

@@ -1,3 +1,4 @@
+-- The last `atom_len` of the nine bytes are the amount's atom (`nine-part`), which has at most nine (`length-le`).
 use Rattle.base_coin_string.specs.Amount.{atomLength}
 use Rattle.base_coin_string.specs.AmountLaws.{length-le, nine-part}
 use Rattle.base_coin_string.specs.Build.{pushes}

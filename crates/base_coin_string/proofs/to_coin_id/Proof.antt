@@ -1,3 +1,4 @@
+-- A length cut to 73 takes the same bytes of a 73-byte cell (`take-min`), so the hash is that of the coin's bytes.
 use native.Mathlib.Nat.{sub-zero}
 use Rattle.base_lists.specs.Laws.{take-min}
 use Rattle.base_coin_string.specs.Coin.{coinIdOf}

@@ -1,3 +1,4 @@
+-- The loop keeps: the whole list is below the bound exactly if `ok` holds and the numbers from `i` on are below it.
 use mathlib.Core.Bool.{Bool, true, _&&_}
 use Prim.Native.Nat.{ℕ, _+_, _-_, _≤_, _<_}
 use lib.Dec.{ltb}

@@ -1,3 +1,4 @@
+-- The loop keeps: what is left of the list holds the number exactly if the whole list does; a hit answers true, an empty rest false.
 use mathlib.Core.Bool.{Bool, true, _&&_}
 use Prim.Native.Nat.{ℕ, _+_, _-_, _≤_, _<_}
 use lib.Dec.{ltb}

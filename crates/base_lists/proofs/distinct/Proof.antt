@@ -1,3 +1,4 @@
+-- The loop keeps: the rest is distinct exactly if the whole is; `contains` on the numbers behind `i` decides each step.
 use Prim.Native.Nat.{ℕ, _+_, _-_, _≤_, _<_}
 use lib.ListN.{length, drop, getD, drop-of-length-le}
 use Rattle.base_lists.specs.Lists.{distinctb, elemb}

@@ -1,3 +1,4 @@
+-- The loop keeps: the list rises exactly if `ok` holds and the list from `i - 1` on rises; a rest of at most one number rises.
 use mathlib.Core.Bool.{Bool, true, _&&_, and-true}
 use lib.ListN.{length-drop}
 use Rattle.base_lists.specs.Lists.{risingb}

@@ -1,3 +1,4 @@
+-- Unequal lengths differ at once; else the loop keeps: the slices are equal exactly if their rests from `i` on are.
 use lib.ListN.{drop-of-length-le}
 use lib.Seq.{drop-cons}
 use native.Mathlib.Numerals.{add-one}

@@ -1,3 +1,4 @@
+-- The loop keeps: all bytes are zero exactly if `ok` holds and the bytes from `i` on are zero.
 use mathlib.Core.Bool.{Bool, true, _&&_}
 use Prim.Native.Nat.{ℕ, _+_, _-_, _≤_, _<_}
 use lib.Dec.{ltb}

@@ -1,3 +1,4 @@
+-- Straight code: each of the eight sums modulo 2^32 is the word that the definition of the sum names.
 use borrow.Author.Needs.{needs}
 use Rattle.base_sha256.specs.Fips.{plus}
 use Rattle.base_sha256.specs.Code.{wordsOf}

@@ -1,3 +1,4 @@
+-- Straight code: eight rounds composed in order, each on the state that the one before it left; `t + 7 < 64` bounds every index.
 use borrow.Author.Needs.{needs}
 use Rattle.base_sha256.proofs.eight_rounds.Statement.{statement}
 use Rattle.base_sha256.proofs.eight_rounds.Tie as tie

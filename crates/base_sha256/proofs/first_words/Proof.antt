@@ -1,3 +1,4 @@
+-- The loop keeps: the first `t` words of the array are the schedule up to `t`; a store at `t` adds the block's word `t`.
 use mathlib.Core.Path.{_≡_, refl}
 use Prim.Native.Nat.{_≤_, _-_}
 use borrow.Author.Needs.{needs}

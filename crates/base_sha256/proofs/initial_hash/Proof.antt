@@ -1,3 +1,4 @@
+-- By computation: the eight literals are the words of the initial hash value.
 use mathlib.Core.Path.{refl}
 use Rattle.base_sha256.specs.Fips.{H0}
 use Rattle.base_sha256.specs.Code.{wordsOf}

@@ -1,3 +1,4 @@
+-- Three cases of where the message ends, before, behind or in the block: only in the last is the mark's byte there and is set.
 use native.Mathlib.Omega.{arith}
 use borrow.Author.Needs.{needs}
 use Rattle.base_sha256.proofs.Laws.{no-mark, mark-set}

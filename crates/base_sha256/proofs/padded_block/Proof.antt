@@ -1,3 +1,4 @@
+-- The loop keeps: the bytes behind the message are right and so are the first `j`; at `j = m` that is every byte of the block.
 use mathlib.Core.List.{List}
 use mathlib.Core.Path.{_≡_, sym}
 use Prim.Native.Nat.{ℕ, _+_, _-_, _≤_, _<_}

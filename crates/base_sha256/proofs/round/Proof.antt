@@ -1,3 +1,4 @@
+-- Straight code: the two temporaries and the two sums are the words that the definition of a round names; six words move on.
 use borrow.Author.Needs.{needs}
 use Rattle.base_sha256.specs.Fips.{round}
 use Rattle.base_sha256.specs.Code.{wordsOf}

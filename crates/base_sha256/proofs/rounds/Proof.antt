@@ -1,3 +1,4 @@
+-- The loop keeps: the state is that after `t` rounds, and 8 divides `t`, so the eight rounds of a turn end within the 64.
 use mathlib.Core.Path.{_≡_, refl}
 use Prim.Native.Nat.{_≤_, _-_, _%_}
 use borrow.Author.Needs.{needs}

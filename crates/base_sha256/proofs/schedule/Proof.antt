@@ -1,3 +1,4 @@
+-- The loop keeps: the first `t` words are the schedule up to `t`, with `t` even; each turn adds two words from those before.
 use mathlib.Core.Path.{_≡_, refl}
 use Prim.Native.Nat.{_+_, _≤_, _-_, _%_}
 use borrow.Author.Needs.{needs}

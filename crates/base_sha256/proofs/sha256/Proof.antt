@@ -1,3 +1,4 @@
+-- The loop keeps: the state is the hash of the first `i` blocks of the padded message, and `blocks` is the number of all.
 use mathlib.Core.Path.{_≡_}
 use Prim.Native.Nat.{_+_, _≤_, _-_, _/_}
 use borrow.Author.Needs.{needs}

@@ -1,3 +1,4 @@
+-- By computation: the 64 literals of the code are the definition's table.
 use mathlib.Core.Path.{refl}
 use Rattle.base_sha256.specs.Fips.{K}
 use Rattle.base_sha256.proofs.table.Statement.{statement}

@@ -1,3 +1,4 @@
+-- Two cases: `end` is 56 bytes on and the length closes the block; or, by the remainder 56, it lies behind the block, which is zero.
 use mathlib.Core.Path.{refl}
 use native.Mathlib.Omega.{arith}
 use borrow.Author.Needs.{needs}

@@ -1,3 +1,4 @@
+-- The coins laid out, with the outputs of the spends left, make the whole list; four a spend at most, so 16 cells hold them.
 use native.Mathlib.Nat.{min-le-right}
 use Rattle.base_lists.specs.Laws.{counted-step, counted-end, take-cut}
 use Rattle.base_lists.specs.Lists.{flatMap}

@@ -1,3 +1,4 @@
+-- Each of the three loops keeps: the answer of what is left (spends, outputs, listed coins) is the answer of the whole search.
 use mathlib.Core.Logic.{⊎-elim}
 use native.Mathlib.Nat.{min-le-right}
 use Prim.Native.Nat.{min}

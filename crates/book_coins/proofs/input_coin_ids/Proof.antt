@@ -1,3 +1,4 @@
+-- The loop keeps: the cells are the ids of the first `i` spends with zero rows behind; the capped count takes the bundle's spends.
 use native.Mathlib.Nat.{min-le-right}
 use Rattle.base_lists.specs.Laws.{take-cut}
 use Rattle.base_lists.specs.Lists.{cells}

@@ -1,3 +1,4 @@
+-- The count capped at four takes the same outputs from the four cells as the count itself.
 use native.Mathlib.Nat.{min-le-right}
 use Rattle.base_lists.specs.Laws.{take-cut}
 use Rattle.book_coins.proofs.Lengths.{outputs-long}

@@ -1,3 +1,4 @@
+-- The loop keeps: the coins of the first `j` outputs lie behind those of `o`; at most four join at most 12, so a cell is free.
 use lib.Seq.{take-suc}
 use native.Mathlib.Numerals.{add-one}
 use Rattle.base_coin_string.specs.Coin.{cellOf, coinOfParts}

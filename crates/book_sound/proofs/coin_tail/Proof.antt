@@ -1,3 +1,4 @@
+-- `zero_bytes_from` tests the bytes from `n` on, and the type gives the 73 bytes that the definition also asks.
 use Rattle.base_lists.specs.Lists.{isZero}
 use Rattle.base_lists.specs.Laws.{tail-of}
 use borrow.Author.Needs.{needs}

@@ -1,3 +1,4 @@
+-- Straight code: the answer about the first `count` spends is the definition's test of the bundle's spends.
 use Rattle.book.specs.Sound.{readableBundle}
 use borrow.Author.Needs.{needs}
 use Rattle.book_sound.proofs.is_readable_bundle.Statement.{statement}

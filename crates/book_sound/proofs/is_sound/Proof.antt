@@ -1,3 +1,4 @@
+-- Straight code: a sound book is sound cells and sound lists, and each callee answers one of the two.
 use Rattle.book.specs.Sound.{soundb}
 use borrow.Author.Needs.{needs}
 use Rattle.book_sound.proofs.is_sound.Statement.{statement}

@@ -1,3 +1,4 @@
+-- By the mark: a present attempt is as sound as its optional fingerprint, an absent one must be zero.
 use Rattle.book.specs.Sound.{soundAttempt}
 use Rattle.book.specs.Counted.{chose-first, chose-second}
 use borrow.Author.Needs.{needs}

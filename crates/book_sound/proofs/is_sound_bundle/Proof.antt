@@ -1,3 +1,4 @@
+-- The callee answers zero tail and sound spends together; with the test of the count that is the definition, regrouped.
 use Rattle.book.specs.Zero.{isZeroSpend}
 use Rattle.book.specs.Sound.{soundBundle, soundSpend}
 use Rattle.base_lists.specs.Lists.{allb, tailOf}

@@ -1,3 +1,4 @@
+-- Straight code: a delivery is sound exactly if its intent is, which is the callee's answer.
 use Rattle.book.specs.Sound.{soundDelivery}
 use borrow.Author.Needs.{needs}
 use Rattle.book_sound.proofs.is_sound_delivery.Statement.{statement}

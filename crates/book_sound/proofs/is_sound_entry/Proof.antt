@@ -1,3 +1,4 @@
+-- Straight code: the five answers are the five conjuncts of a sound entry, in the order of the definition.
 use Rattle.book.specs.Sound.{soundEntry}
 use borrow.Author.Needs.{needs}
 use Rattle.book_sound.proofs.is_sound_entry.Statement.{statement}

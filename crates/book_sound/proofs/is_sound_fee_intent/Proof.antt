@@ -1,3 +1,4 @@
+-- Straight code: the kind's test, or a zero amount with a zero target, is the definition's own disjunction.
 use Rattle.book.specs.Sound.{soundFeeIntent}
 use borrow.Author.Needs.{needs}
 use Rattle.book_sound.proofs.is_sound_fee_intent.Statement.{statement}

@@ -1,3 +1,4 @@
+-- Straight code: the mark, or the callee's answer that all is zero, is the definition's own disjunction.
 use Rattle.book.specs.Sound.{soundHash}
 use borrow.Author.Needs.{needs}
 use Rattle.book_sound.proofs.is_sound_hash.Statement.{statement}

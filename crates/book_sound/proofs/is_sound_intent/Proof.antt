@@ -1,3 +1,4 @@
+-- Straight code: the answers for the bundle and for the fee intent are the two conjuncts of a sound intent.
 use Rattle.book.specs.Sound.{soundIntent}
 use borrow.Author.Needs.{needs}
 use Rattle.book_sound.proofs.is_sound_intent.Statement.{statement}

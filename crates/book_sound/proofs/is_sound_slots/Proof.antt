@@ -1,3 +1,4 @@
+-- Straight code: the answers for the active and for the completed attempt are the two conjuncts of sound slots.
 use Rattle.book.specs.Sound.{soundSlots}
 use borrow.Author.Needs.{needs}
 use Rattle.book_sound.proofs.is_sound_slots.Statement.{statement}

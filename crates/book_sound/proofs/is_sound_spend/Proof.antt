@@ -1,3 +1,4 @@
+-- Straight code: two tests of counts, two answers about zero tails and the test of the unreadable are the five conjuncts.
 use Rattle.book.specs.Sound.{soundSpend}
 use borrow.Author.Needs.{needs}
 use Rattle.book_sound.proofs.is_sound_spend.Statement.{statement}

@@ -1,3 +1,4 @@
+-- Straight code: the answers for the slots and for the entry are the two conjuncts of a sound submission.
 use Rattle.book.specs.Sound.{soundSubmitted}
 use borrow.Author.Needs.{needs}
 use Rattle.book_sound.proofs.is_sound_submitted.Statement.{statement}

@@ -1,3 +1,4 @@
+-- By the mark: a fee-bearing variant is as sound as its bundle, any other must be the zero one.
 use Rattle.book.specs.Sound.{soundVariant}
 use Rattle.book.specs.Counted.{chose-first, chose-second}
 use borrow.Author.Needs.{needs}

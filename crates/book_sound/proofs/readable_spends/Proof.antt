@@ -1,3 +1,4 @@
+-- The loop keeps: the first `k` spends are readable exactly if `ok` holds and those from `i` to `k` are; `k` is `n` cut at 4.
 use native.Mathlib.Nat.{min-le-right}
 use Rattle.base_lists.specs.Lists.{allb}
 use Rattle.base_lists.specs.Laws.{all-turn, all-done, counted-step, counted-end, take-cut}

@@ -1,3 +1,4 @@
+-- Straight code: the four tests of counts and the four answers about zero tails are the eight conjuncts of sound cells.
 use Rattle.book.specs.Sound.{soundCells}
 use borrow.Author.Needs.{needs}
 use Rattle.book_sound.proofs.sound_cells.Statement.{statement}

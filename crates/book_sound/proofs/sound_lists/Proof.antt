@@ -1,3 +1,4 @@
+-- Each answer is one of the eight conjuncts, once the gathered ids and tokens are read as lists made of the submissions.
 use lib.Dec.{ltb}
 use Rattle.base_lists.specs.Lists.{allb, elemb, distinctb}
 use Rattle.base_lists.specs.Laws.{take-cells}

@@ -1,3 +1,4 @@
+-- By `used`: the true branch answers that the spend is sound, the other that it is zero, as the conditional says.
 use Rattle.book.specs.Zero.{isZeroSpend}
 use Rattle.book.specs.Sound.{soundSpend}
 use borrow.Author.Needs.{needs}

@@ -1,3 +1,4 @@
+-- The loop keeps: `ok` and the test of the cells from `i` on, with `n - i` of them in use, are the test of all four.
 use Rattle.book.specs.Zero.{isZeroSpend}
 use Rattle.book.specs.Sound.{soundSpend}
 use borrow.Author.Needs.{needs}

@@ -1,3 +1,4 @@
+-- Both fingerprints are 32 long, so a slot takes at most 75 bytes, fits, and the part handed to `settle` is its encoding.
 use Prim.Native.Nat.{ℕ}
 use mathlib.Core.List.{List}
 use mathlib.Core.Path.{ap}

@@ -1,3 +1,4 @@
+-- A fee intent takes at most 41 bytes, so with its mark it fits the 42, and the part handed to `settle` is its encoding.
 use Prim.Native.Nat.{ℕ}
 use mathlib.Core.List.{List}
 use mathlib.Core.Path.{ap}

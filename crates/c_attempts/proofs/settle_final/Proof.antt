@@ -1,3 +1,4 @@
+-- The bundle takes at most 1073 bytes and the fingerprint 32, so all fits the 1117, and the part handed to `settle` is the encoding.
 use Prim.Native.Nat.{ℕ}
 use mathlib.Core.List.{List}
 use mathlib.Core.Path.{ap}

@@ -1,3 +1,4 @@
+-- Both parts together need at most 19330 bytes, so they fit and `settle` gets exactly the drain's form; the lengths are the types'.
 use Rattle.c_boundary.specs.Settle.{gives-as, finish}
 use Rattle.c_boundary.specs.Forms.{told, told-end, encodeDrain}
 use Rattle.c_drain.specs.Fit.{drain-fits}

@@ -1,3 +1,4 @@
+-- The loop keeps: the first i bytes are below 256, and the promise of `within` adds one byte a turn until all are covered.
 use borrow.Author.Needs.{needs}
 use Prim.Native.Nat.{_-_, _≤_}
 use lib.ListN.{length, take}

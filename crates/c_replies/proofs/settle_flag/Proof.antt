@@ -1,3 +1,4 @@
+-- The flag's form is one byte long and so fits the array, hence the bytes that `settle` gets are exactly that form.
 use Prim.Native.Nat.{ℕ}
 use mathlib.Core.List.{List}
 use mathlib.Core.Path.{ap}

@@ -1,3 +1,4 @@
+-- A height's form has at most the array's 9 bytes and so fits, hence the bytes that `settle` gets are exactly that form.
 use Prim.Native.Nat.{ℕ}
 use mathlib.Core.List.{List}
 use mathlib.Core.Path.{ap}

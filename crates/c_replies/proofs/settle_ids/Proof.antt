@@ -1,3 +1,4 @@
+-- At most 64 ids make at most 513 bytes, so their form fits the array and is exactly what `settle` gets.
 use Prim.Native.Nat.{ℕ}
 use mathlib.Core.List.{List}
 use mathlib.Core.Path.{ap}

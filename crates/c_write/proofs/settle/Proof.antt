@@ -1,3 +1,4 @@
+-- By the case of the answer: what `put_both` promises is `finish` of `Done`, and with an empty answer `finish` of `Refused`.
 use Rattle.c_boundary.specs.Settle.{gives-done, gives-refused}
 use borrow.Author.Needs.{needs}
 use Rattle.c_write.proofs.settle.Statement.{statement}

@@ -1,3 +1,4 @@
+-- The rules remove and then retire; the code's test for full retirements is the rules' limit, which refuses with 10.
 use borrow.Author.Needs.{needs}
 use mathlib.Core.Path.{_∙_}
 use Rattle.book.specs.Sound.{idOf}

@@ -1,3 +1,4 @@
+-- The two tests are the rules' refusals 6 and 8; else the revised submission is stored in its cell and its queue entries go.
 use borrow.Author.Needs.{needs}
 use borrow.Author.Tests.{not-true, not-false}
 use mathlib.Core.Path.{_∙_}

@@ -1,3 +1,4 @@
+-- Straight code: the entry is what `acknowledge` promises and the slots what `stopped` does, which are the two changes named.
 use borrow.Author.Needs.{needs}
 use Rattle.call_acknowledge_attempt.proofs.acknowledged_aside.Statement.{statement}
 use Rattle.call_acknowledge_attempt.proofs.acknowledged_aside.Tie as tie

@@ -1,3 +1,4 @@
+-- The ids are filtered from at most 16 submissions, so `widened` may be called, and `active-is` makes its answer the rules' reply.
 use Rattle.part_ids.specs.IdLaws.{count-is}
 use Rattle.book.specs.Model.{view}
 use Rattle.part_lookup.specs.Normal.{sound-normal}

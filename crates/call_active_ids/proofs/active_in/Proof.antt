@@ -1,3 +1,4 @@
+-- The loop keeps: the at most i ids collected, then those of the Active submissions ahead, are the answer, so a push finds room.
 use borrow.Author.Needs.{needs}
 use native.Mathlib.Omega.{arith}
 use mathlib.Core.Path.{_≡_, sym, _∙_}

@@ -1,3 +1,4 @@
+-- By whether the token's place is live: none, or the attempt in the live slot of the submission there; the book stays as it is.
 use borrow.Author.Needs.{needs}
 use mathlib.Core.Option.{none, some}
 use mathlib.Core.Path.{ap, _∙_}

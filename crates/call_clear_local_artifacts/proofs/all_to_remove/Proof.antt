@@ -1,3 +1,4 @@
+-- The cells hold the list of the retained ids, so `rising16` of them is `rising` of it; a book that fits has at most 16.
 use borrow.Author.Needs.{needs}
 use mathlib.Core.List.{map}
 use Rattle.part_ids.specs.IdLaws.{count-is}

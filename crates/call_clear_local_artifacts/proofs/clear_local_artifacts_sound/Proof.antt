@@ -1,3 +1,4 @@
+-- A full withdrawal is refusal 10, else it leaves a sound book, on which clearing queue and epoch are the rules' two notes.
 use borrow.Author.Needs.{needs}
 use mathlib.Core.List.{map}
 use mathlib.Core.Path.{_∙_}

@@ -1,3 +1,4 @@
+-- More than 64 ids are refusal 2, else marks and offers are the rules' two rounds (`collect-taken`), of at most 16 ids each.
 use borrow.Author.Needs.{needs}
 use mathlib.Core.Path.{_∙_}
 use Rattle.part_ids.specs.IdLaws.{cells-are, count-is}

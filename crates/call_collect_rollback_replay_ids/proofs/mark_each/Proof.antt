@@ -1,3 +1,4 @@
+-- The loop keeps: the book so far is sound, and the marks of the ids left come on it to what all marks come to on the first.
 use borrow.Author.Needs.{needs}
 use native.Mathlib.Omega.{arith}
 use Prim.Native.Nat.{_-_, _≤_}

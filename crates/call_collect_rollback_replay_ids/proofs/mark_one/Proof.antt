@@ -1,3 +1,4 @@
+-- Noting the replay leaves a sound book (`replayed-sound`), so opening may follow, and the two are the steps of `markOne`.
 use borrow.Author.Needs.{needs}
 use Rattle.call_collect_rollback_replay_ids.specs.Marking.{replayed-sound, mark-is}
 use Rattle.call_collect_rollback_replay_ids.proofs.mark_one.Statement.{statement}

@@ -1,3 +1,4 @@
+-- The cells hold the list of the retained ids, at most 16 in a sound book, so filtering them is filtering that list.
 use mathlib.Core.List.{map}
 use Rattle.part_ids.specs.IdLaws.{cells-are, count-is}
 use Rattle.book.specs.Model.{view}

@@ -1,3 +1,4 @@
+-- An absent id changes nothing in the rules either; for a retained one there is room, since their step leaves the book sound.
 use mathlib.Core.Path.{sym, _∙_}
 use Rattle.part_lookup.specs.Normal.{sound-normal}
 use Rattle.part_change.specs.ChangeLaws.{epoch-normal}

@@ -1,3 +1,4 @@
+-- The loop keeps: the book so far is sound, and the offers left come on it to what all come to; a full one refuses the whole.
 use borrow.Author.Needs.{needs}
 use native.Mathlib.Omega.{arith}
 use Prim.Native.Nat.{_-_, _≤_}

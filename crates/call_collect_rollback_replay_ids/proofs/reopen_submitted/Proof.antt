@@ -1,3 +1,4 @@
+-- An absent id changes nothing in the rules either; a retained one has its place inside, and the store there is their revision.
 use mathlib.Core.Path.{sym, _∙_}
 use Rattle.part_lookup.specs.Normal.{sound-normal}
 use Rattle.call_collect_rollback_replay_ids.specs.Marking.{revise-none, revise-within, revise-some}

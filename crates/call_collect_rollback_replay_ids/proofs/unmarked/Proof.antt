@@ -1,3 +1,4 @@
+-- The replayed ids of the view are the list in the epoch's cells, at most 16 in a sound book, so `keep16` answers as asked.
 use Rattle.book.specs.Model.{view}
 use Rattle.part_lookup.specs.Normal.{sound-normal, sizes}
 use Rattle.call_collect_rollback_replay_ids.proofs.unmarked.Statement.{statement}

@@ -1,3 +1,4 @@
+-- Two cases of the optional id: none is in no list, and for an id `has16` answers whether the list holds it.
 use Rattle.book.specs.Model.{list16}
 use Rattle.book.specs.declared.OptionalId.{OptionalId}
 use Rattle.rules.specs.Calls.Drain.{isOneOf}

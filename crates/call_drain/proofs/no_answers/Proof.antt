@@ -1,3 +1,4 @@
+-- The callees give empty ids and zero cells, and with counts of zero these are the cells of empty lists.
 use mathlib.Core.Path.{refl}
 use borrow.Author.Needs.{needs}
 use Rattle.call_drain.proofs.no_answers.Statement.{statement}

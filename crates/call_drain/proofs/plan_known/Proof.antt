@@ -1,3 +1,4 @@
+-- A normal book's count and retired cells are those of its lists, so the callee's plan on cells is the plan on the lists.
 use Rattle.book.specs.Model.{view, list16, list64}
 use Rattle.part_ids.specs.IdLaws.{ids64-of}
 use Rattle.part_lookup.specs.Normal.{sizes, retired-are}

@@ -1,3 +1,4 @@
+-- In a normal book the count is the list's length and the ids read are the list's, so the callee's plan is that on the lists.
 use Rattle.book.specs.Model.{list16}
 use Rattle.part_lookup.specs.Normal.{sizes}
 use Rattle.call_drain.specs.PlannedLaws.{unknown-on, ids-short}

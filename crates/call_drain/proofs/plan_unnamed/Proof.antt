@@ -1,3 +1,4 @@
+-- Two cases of the first submission of equal fingerprint: none, and the unknown plan holds; one at `k`, and the known plan does.
 use Rattle.book.specs.Model.{view, list16}
 use Rattle.part_lookup.specs.Place.{hasIntent}
 use Rattle.part_lookup.specs.PlaceLaws.{at-first}

@@ -1,3 +1,4 @@
+-- The callees' answers put in: the failure is appended by `with_failure`, and the removed ids get the candidate's.
 use mathlib.Core.Path.{refl}
 use borrow.Author.Needs.{needs}
 use Rattle.call_drain.proofs.with_removal.Statement.{statement}

@@ -1,3 +1,4 @@
+-- Room bounds the store, and with the pushed ids put in, the changed fields are those of the definition.
 use mathlib.Core.Path.{refl}
 use borrow.Author.Needs.{needs}
 use Rattle.call_drain.proofs.with_submission.Statement.{statement}

@@ -1,3 +1,4 @@
+-- A removal leaves a normal book, so `retire` may follow, and with room for the id the two are the two steps of the rules.
 use Rattle.call_drain.specs.Withdraw.{removed-normal, withdrawn-is}
 use borrow.Author.Needs.{needs}
 use Rattle.call_drain.proofs.withdraw.Statement.{statement}

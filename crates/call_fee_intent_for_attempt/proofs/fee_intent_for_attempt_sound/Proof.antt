@@ -1,3 +1,4 @@
+-- By the place found: a live token gives the open fee intent of the submission there, any other what the rules give an inactive one.
 use borrow.Author.Needs.{needs}
 use mathlib.Core.Option.{none, some}
 use mathlib.Core.Path.{ap, _∙_}

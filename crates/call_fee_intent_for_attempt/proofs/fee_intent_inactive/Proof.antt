@@ -1,3 +1,4 @@
+-- A token never issued is refusal 4, and any other ends with no fee intent and the lists that the normal book holds.
 use borrow.Author.Needs.{needs}
 use mathlib.Core.Option.{none}
 use mathlib.Core.Path.{ap, _∙_}

@@ -1,3 +1,4 @@
+-- What `attached_final` and `attach` promise of the answer and the entry is put into what `decided` promises.
 use borrow.Author.Needs.{needs}
 use mathlib.Core.Path.{ap, _∙_}
 use Rattle.book.specs.declared.SubmittedEntry.{SubmittedEntry}

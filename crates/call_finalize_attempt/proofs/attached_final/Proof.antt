@@ -1,3 +1,4 @@
+-- Straight code: the joined bundle's fingerprint and the test for it are the two fields that callees give `attachedFinal`.
 use borrow.Author.Needs.{needs}
 use Rattle.rules.specs.Calls.Finalized.{attachedFinal}
 use Rattle.call_finalize_attempt.proofs.attached_final.Statement.{statement}

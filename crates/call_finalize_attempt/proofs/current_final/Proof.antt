@@ -1,3 +1,4 @@
+-- Straight code: bundle, fee and broadcast flag are the callees' answers, and the fingerprint is the current one as required.
 use borrow.Author.Needs.{needs}
 use Rattle.rules.specs.Calls.Finalized.{currentFinal}
 use Rattle.call_finalize_attempt.proofs.current_final.Statement.{statement}

@@ -1,3 +1,4 @@
+-- Each return is one case of `decision`: a fee open and a bundle joined or not, or no fee open and a source requested or not.
 use borrow.Author.Needs.{needs}
 use borrow.Author.Tests.{not-true, not-false}
 use mathlib.Core.Path.{refl, sym, ap, _∙_}

@@ -1,3 +1,4 @@
+-- Straight code: the slots that `finalized` promises are those that `finalAs` stores, and the entry stays.
 use borrow.Author.Needs.{needs}
 use Rattle.call_finalize_attempt.proofs.decided.Statement.{statement}
 use Rattle.call_finalize_attempt.proofs.decided.Tie as tie

@@ -1,3 +1,4 @@
+-- Three ways of the rules: an unsound source is refusal 3, a token not live is inactive, and a live one has its place inside.
 use borrow.Author.Needs.{needs}
 use mathlib.Core.Option.{none}
 use mathlib.Core.Path.{sym, ap, _∙_}

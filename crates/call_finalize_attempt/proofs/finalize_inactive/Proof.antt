@@ -1,3 +1,4 @@
+-- A token never issued is refusal 4; any other ends with none, and a normal book comes back unchanged from its view.
 use borrow.Author.Needs.{needs}
 use mathlib.Core.Option.{none}
 use mathlib.Core.Path.{ap, _∙_}

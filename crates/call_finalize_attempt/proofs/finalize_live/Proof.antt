@@ -1,3 +1,4 @@
+-- Refusals 5, 7 and 8 are the rules' tests in order; behind them the decision is the rules' answer: refusal 9, or one store.
 use borrow.Author.Needs.{needs}
 use mathlib.Core.Bool.{true}
 use mathlib.Core.Path.{refl, sym, ap, _∙_}

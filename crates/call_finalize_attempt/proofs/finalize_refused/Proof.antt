@@ -1,3 +1,4 @@
+-- Straight code: the unused answer is zero by `zero_finalized`, and the other fields are those of the refused reply.
 use borrow.Author.Needs.{needs}
 use Rattle.call_finalize_attempt.proofs.finalize_refused.Statement.{statement}
 use Rattle.call_finalize_attempt.proofs.finalize_refused.Tie as tie

@@ -1,3 +1,4 @@
+-- The two cases of `soundSource`: beside a joined source the bundle must be sound, beside any other zero.
 use borrow.Author.Needs.{needs}
 use mathlib.Core.Path.{_∙_}
 use Rattle.part_replies.specs.Values.{sourceOf}

@@ -1,3 +1,4 @@
+-- The hash looked for is the current fingerprint as required, so `holds_hash` answers `currentAcknowledged`.
 use borrow.Author.Needs.{needs}
 use Rattle.rules.specs.Parts.{currentAcknowledged}
 use Rattle.call_finalize_attempt.proofs.should_broadcast.Statement.{statement}

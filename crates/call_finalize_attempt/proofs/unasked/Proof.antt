@@ -1,3 +1,4 @@
+-- Straight code: the answer is zero by `zero_finalized`, and the submission stays as it is.
 use borrow.Author.Needs.{needs}
 use Rattle.call_finalize_attempt.proofs.unasked.Statement.{statement}
 use Rattle.call_finalize_attempt.proofs.unasked.Tie as tie

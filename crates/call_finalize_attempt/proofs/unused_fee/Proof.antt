@@ -1,3 +1,4 @@
+-- Straight code: the broadcast flag is what `should_broadcast` promises, and the fingerprint is the current one as required.
 use borrow.Author.Needs.{needs}
 use Rattle.rules.specs.Calls.Finalized.{unusedFee}
 use Rattle.call_finalize_attempt.proofs.unused_fee.Statement.{statement}

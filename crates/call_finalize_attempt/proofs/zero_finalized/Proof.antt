@@ -1,3 +1,4 @@
+-- Every field is written as `zeroFinal` has it, and the bundle is zero by its own `zero`.
 use borrow.Author.Needs.{needs}
 use Rattle.part_replies.specs.Values.{zeroFinal}
 use Rattle.call_finalize_attempt.proofs.zero_finalized.Statement.{statement}

@@ -1,3 +1,4 @@
+-- With both zero values put in for the callees' answers, the cells written are those of the book that the rules open.
 use borrow.Author.Needs.{needs}
 use Rattle.call_open.specs.Opening.{opening}
 use Rattle.call_open.proofs.open.Statement.{statement}

@@ -1,3 +1,4 @@
+-- The loop keeps: `out` is sound, and the rules for the submissions from `i` on, run on it, come to what the whole call comes to.
 use borrow.Author.Needs.{needs}
 use native.Mathlib.Omega.{arith}
 use Prim.Native.Nat.{_+_, _-_, _≤_}

@@ -1,3 +1,4 @@
+-- Two cases: a ready submission runs the rules of `offer` with its goal; any other leaves the sound book as it is.
 use mathlib.Core.Bool.{true, false}
 use mathlib.Core.Path.{_≡_, sym, ap, _∙_}
 use Rattle.book.specs.declared.DeliveryTrigger.the-variants.{ProviderReadiness}

@@ -1,3 +1,4 @@
+-- The loop's end, refused as full or a sound book, is turned by `settled` into the reply that the rules' outcome has.
 use mathlib.Core.Path.{_∙_}
 use Rattle.book.specs.Model.{view}
 use Rattle.rules.specs.Steps.{runBook}

@@ -1,3 +1,4 @@
+-- More than 64 ids the rules refuse with 2; else the call is the rebroadcast of the list, whose end `settled` turns into the reply.
 use mathlib.Core.Path.{_∙_}
 use Rattle.book.specs.Model.{view}
 use Rattle.rules.specs.Call.{noValue}

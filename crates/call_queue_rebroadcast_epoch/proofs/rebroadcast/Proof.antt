@@ -1,3 +1,4 @@
+-- The loop keeps: the book is sound, and the rules for the ids left on it come to what the whole list comes to; a full turn ends both.
 use borrow.Author.Needs.{needs}
 use Prim.Native.Nat.{_-_, _≤_}
 use lib.ListN.{length, drop, drop-of-length-le}

@@ -1,3 +1,4 @@
+-- By whether the id has a place: the rules pick nothing and the book stays, or they offer the submission there with its goal.
 use mathlib.Core.Path.{sym, ap, _∙_}
 use Rattle.book.specs.declared.SubmissionDeliveryGoal.{SubmissionDeliveryGoal}
 use Rattle.book.specs.declared.SubmittedTx.{SubmittedTx}

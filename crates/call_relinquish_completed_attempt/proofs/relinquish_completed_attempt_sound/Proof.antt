@@ -1,3 +1,4 @@
+-- By the token's place: `relinquish-never` gives the refusal, `relinquish-issued` Applied where it is set aside and Stale elsewhere.
 use borrow.Author.Needs.{needs}
 use mathlib.Core.Path.{sym, ap, _∙_}
 use Rattle.book.specs.Model.{view}

@@ -1,3 +1,4 @@
+-- The loop keeps: the book is sound, and setting aside the submissions from `i` on gives what the rules give for the whole book.
 use borrow.Author.Needs.{needs}
 use native.Mathlib.Omega.{arith}
 use mathlib.Core.Path.{_≡_, refl}

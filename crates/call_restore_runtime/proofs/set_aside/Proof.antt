@@ -1,3 +1,4 @@
+-- Straight code: the slots are what `stopped` promises, and the entry stays.
 use borrow.Author.Needs.{needs}
 use mathlib.Core.Path.{ap}
 use Rattle.book.specs.declared.AttemptSlots.{AttemptSlots}

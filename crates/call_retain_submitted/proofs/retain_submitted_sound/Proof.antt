@@ -1,3 +1,4 @@
+-- By the tests: over 64 ids refuses with 2, full retirements with 10, else all are withdrawn; the ids are held ones, so at most 16.
 use borrow.Author.Needs.{needs}
 use mathlib.Core.Path.{_∙_}
 use Rattle.part_ids.specs.IdLaws.{count-is}

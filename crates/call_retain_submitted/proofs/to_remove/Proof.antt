@@ -1,3 +1,4 @@
+-- The ids held are filtered by the list and put in rising order, which is `toRemove`; a part of at most 16 ids fits in 16 cells.
 use borrow.Author.Needs.{needs}
 use mathlib.Core.List.{map}
 use mathlib.Core.Path.{ap, _∙_}

@@ -1,3 +1,4 @@
+-- By whether the token is live: `with-live` gives the rules of its submission, `with-inactive` the answer for any other token.
 use borrow.Author.Needs.{needs}
 use mathlib.Core.Path.{ap, _∙_}
 use Rattle.book.specs.Model.{view}

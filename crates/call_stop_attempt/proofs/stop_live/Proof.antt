@@ -1,3 +1,4 @@
+-- `stop-answer` joins the callees' promises: the submission at k, its slots set aside and stored again, is what the rules leave.
 use borrow.Author.Needs.{needs}
 use mathlib.Core.Path.{_∙_}
 use Rattle.part_lookup.specs.Normal.{sound-normal}

@@ -1,3 +1,4 @@
+-- By the four variants: the definition computes on each to the code's answer, and only a live one has a place.
 use borrow.Author.Needs.{needs}
 use mathlib.Core.Path.{sym, ap}
 use Rattle.part_attempt_answers.specs.Live.{livePlace}

@@ -1,3 +1,4 @@
+-- Two cases: a token never issued is refused with 4; any other ends as `Stale` on a normal book, which the reply leaves as it is.
 use borrow.Author.Needs.{needs}
 use mathlib.Core.Path.{ap, _∙_}
 use Rattle.book.specs.Model.{view}

@@ -1,3 +1,4 @@
+-- The loop keeps: a spend left makes the coin exactly if one of all does; the count cut at 4 takes the spends of the bundle.
 use borrow.Author.Needs.{needs}
 use native.Mathlib.Nat.{min-le-right}
 use native.Mathlib.Omega.{arith}

@@ -1,3 +1,4 @@
+-- The loop keeps: an id left is listed exactly if one of all is; the first `n` rows are the ids of the bundle's inputs.
 use borrow.Author.Needs.{needs}
 use native.Mathlib.Nat.{min-le-right}
 use native.Mathlib.Omega.{arith}

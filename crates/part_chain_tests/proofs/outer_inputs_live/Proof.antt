@@ -1,3 +1,4 @@
+-- The loop keeps: all ids left are live or made exactly if all are, which is the same as every input that is not made being live.
 use borrow.Author.Needs.{needs}
 use native.Mathlib.Nat.{min-le-right}
 use native.Mathlib.Omega.{arith}

@@ -1,3 +1,4 @@
+-- The coin's bytes are those of its parts, so the id made of them is the one that the contract compares.
 use mathlib.Core.List.{List}
 use mathlib.Core.Path.{ap, _∙_}
 use Prim.Native.Nat.{ℕ}

@@ -1,3 +1,4 @@
+-- The search finds an output exactly if one of the expected outputs is observed, and the two arms say whether it found one.
 use mathlib.Core.Path.{sym, ap, _∙_}
 use Rattle.book_coins.specs.Found.{isFound}
 use Rattle.base_coin_string.specs.CoinList.{coinsIn}

@@ -1,3 +1,4 @@
+-- The rule joins three tests: where the first or second fails it is false, and behind both it is the test of the outer inputs.
 use borrow.Author.Needs.{needs}
 use borrow.Author.Tests.{not-true, not-false}
 use mathlib.Core.Path.{sym, _∙_}

@@ -1,3 +1,4 @@
+-- The loop keeps: an output left has the id exactly if one of all has; the parent is the spent coin's id, as the rules build the coin.
 use borrow.Author.Needs.{needs}
 use native.Mathlib.Nat.{min-le-right}
 use native.Mathlib.Omega.{arith}

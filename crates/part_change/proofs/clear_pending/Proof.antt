@@ -1,3 +1,4 @@
+-- Sixteen zero cells with count 0 hold the empty queue, and no other part of the book changes.
 use Prim.Native.Nat.{zero}
 use borrow.Author.Needs.{needs}
 use Rattle.part_change.specs.ChangeLaws.{clear-is}

@@ -1,3 +1,4 @@
+-- The ids that the callee answers hold the empty list, and no other part of the book changes.
 use borrow.Author.Needs.{needs}
 use Rattle.part_change.specs.ChangeLaws.{unretire-is}
 use Rattle.part_change.proofs.clear_retired.Statement.{statement}

@@ -1,3 +1,4 @@
+-- The loop keeps: of the `i` looked at, those that stay are in front and zeros behind; nothing but these cells of the book changes.
 use lib.ListN.{length-set, length}
 use borrow.Author.Tests.{eq-eqb, ne-eqb}
 use mathlib.Core.Bool.{not}

@@ -1,3 +1,4 @@
+-- The loop keeps: of the `i` looked at, those of other ids are in front and zeros behind; the cells from `i` on are as they were.
 use lib.ListN.{length-set, length, take}
 use lib.Seq.{length-take-le}
 use mathlib.Core.Bool.{not}

@@ -1,3 +1,4 @@
+-- The count is the queue's length, below 16, so the store appends to the queue; the rules append too, as the entry is sound.
 use native.Mathlib.Omega.{arith}
 use Rattle.part_lookup.specs.Normal.{pending-are}
 use Rattle.part_change.specs.ChangeLaws.{enqueue-is}

@@ -1,3 +1,4 @@
+-- The first two steps leave a normal book, as a filtered list is no longer, and the three together are the removal of the rules.
 use borrow.Author.Needs.{needs}
 use Rattle.part_change.specs.ChangeLaws.{epoch-normal, dropped-normal, unqueued-normal, removed-is}
 use Rattle.part_change.proofs.remove_submitted.Statement.{statement}

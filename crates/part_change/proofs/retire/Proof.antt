@@ -1,3 +1,4 @@
+-- The callee answers the list with the id once, or full with the old list, and each put into the book is what `retiring` says.
 use Rattle.book.specs.Model.{view, list64}
 use Rattle.part_ids.specs.IdLaws.{ids64-of}
 use Rattle.part_lookup.specs.Normal.{sizes, retired-are}

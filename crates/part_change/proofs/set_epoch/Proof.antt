@@ -1,3 +1,4 @@
+-- A normal epoch's cells hold its ids and nothing else, so storing it changes the epoch of the lists and no other part.
 use Rattle.part_ids.specs.IdLaws.{counted16}
 use Rattle.part_replay.specs.Epoch.{replayedOf}
 use Rattle.part_change.specs.Parts.{epoch-back}

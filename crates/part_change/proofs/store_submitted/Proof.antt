@@ -1,3 +1,4 @@
+-- The place is below the length, so the store into the cells is the store into the list that they hold.
 use borrow.Author.Needs.{needs}
 use Rattle.part_change.specs.ChangeLaws.{store-is}
 use Rattle.part_change.proofs.store_submitted.Statement.{statement}

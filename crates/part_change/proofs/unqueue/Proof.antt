@@ -1,3 +1,4 @@
+-- The cells that the callee answers hold the queue without the entries of the id, and no other part of the book changes.
 use borrow.Author.Needs.{needs}
 use mathlib.Core.Path.{_∙_}
 use Rattle.book.specs.Model.{view}

@@ -1,3 +1,4 @@
+-- Both callees answer the value of an unused cell, so sixteen copies of each are the cells of an empty list.
 use mathlib.Core.Path.{refl}
 use borrow.Author.Needs.{needs}
 use Rattle.part_drain_answers.proofs.refused.Statement.{statement}

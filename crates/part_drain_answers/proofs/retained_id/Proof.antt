@@ -1,3 +1,4 @@
+-- The callee's test is the rules' `removes`, so the branch it takes is the one that the rules choose: the candidate's id, or none.
 use mathlib.Core.Path.{refl, sym, _∙_}
 use borrow.Author.Needs.{needs}
 use Rattle.part_drain_answers.specs.Failures.{failureOf}

@@ -1,3 +1,4 @@
+-- One law for each return: live, not below the next token, in no set-aside slot, set aside.
 use mathlib.Core.Path.{sym, _∙_}
 use borrow.Author.Needs.{needs}
 use Rattle.book.specs.Model.{view}

@@ -1,3 +1,4 @@
+-- The case of the optional id computes the rules' test: false without an id, else the comparison of the two numbers.
 use mathlib.Core.Path.{sym, ap}
 use borrow.Author.Needs.{needs}
 use Rattle.book.specs.declared.OptionalId.{OptionalId}

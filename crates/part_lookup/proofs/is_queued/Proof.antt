@@ -1,3 +1,4 @@
+-- The loop keeps: an entry of the id is among those left exactly if the whole queue has one.
 use mathlib.Core.Bool.{Bool}
 use borrow.Author.Needs.{needs}
 use native.Mathlib.Omega.{arith}

@@ -1,3 +1,4 @@
+-- The loop keeps: the place of the id in all is `i` plus its place in what is left, so a hit is at `i` and the end means none.
 use borrow.Author.Tests.{eq-eqb, ne-eqb}
 use native.Mathlib.Nat.{add-zero}
 use lib.Seq.{length-take-le}

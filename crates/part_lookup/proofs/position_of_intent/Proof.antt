@@ -1,3 +1,4 @@
+-- The loop keeps: the fingerprint's place in all is `i` plus its place in what is left, so a hit is at `i` and the end means none.
 use native.Mathlib.Nat.{add-zero}
 use lib.Seq.{length-take-le}
 use borrow.Author.Needs.{needs}

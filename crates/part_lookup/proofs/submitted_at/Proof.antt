@@ -1,3 +1,4 @@
+-- The cells begin with the list, so below its length the cell is the element.
 use borrow.Author.Needs.{needs}
 use Rattle.book.specs.Zero.{zeroSubmitted}
 use Rattle.part_ids.specs.Counted.{counted-get}

@@ -1,3 +1,4 @@
+-- The loop keeps: the ids of `i` submissions stand in front of zero cells, and with the ids of those left they make all.
 use borrow.Author.Needs.{needs}
 use native.Mathlib.Omega.{arith}
 use mathlib.Core.Path.{_≡_, sym, ap, _∙_}

@@ -1,3 +1,4 @@
+-- Straight code: each callee answers one test of the rule, and the rule unfolds to the same conjunction of them.
 use Rattle.rules.specs.Calls.Offer as rules
 use borrow.Author.Needs.{needs}
 use Rattle.part_offer.proofs.deliverable.Statement.{statement}

@@ -1,3 +1,4 @@
+-- By the count: at 16 the rules refuse a 17th entry as full, and else there is room, and the pushed book is the sound one they leave.
 use Rattle.part_lookup.specs.Normal.{sound-normal}
 use Rattle.part_offer.specs.OfferLaws.{room, enqueue-full, enqueue-on}
 use Rattle.part_offer.proofs.enqueue.Statement.{statement}

@@ -1,3 +1,4 @@
+-- The callee's test is the one by which the rule chooses, so each branch answers the goal that the rule names.
 use mathlib.Core.Path.{sym, _∙_}
 use Rattle.rules.specs.Calls.Offer.{goalFor}
 use borrow.Author.Needs.{needs}

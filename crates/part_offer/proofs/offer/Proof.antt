@@ -1,3 +1,4 @@
+-- One law for each return: none found, or one queued or not deliverable, leaves the book; else the rules take the step of `enqueue`.
 use mathlib.Core.Path.{sym, _∙_}
 use Rattle.book.specs.Model.{view}
 use Rattle.rules.specs.Rule.{enqueue, note, step}

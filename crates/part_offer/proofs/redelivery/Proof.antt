@@ -1,3 +1,4 @@
+-- Unfolded, the entry of the rules has these very fields.
 use mathlib.Core.Path.{refl}
 use Rattle.rules.specs.Calls.Offer as rules
 use Rattle.part_offer.proofs.redelivery.Statement.{statement}

@@ -1,3 +1,4 @@
+-- By the mark: full is refusal 10 with the book before, which the callee answers, and else done with the book after.
 use borrow.Author.Needs.{needs}
 use Rattle.part_offer.proofs.settled.Statement.{statement}
 use Rattle.part_offer.proofs.settled.Tie as tie

@@ -1,3 +1,4 @@
+-- The test is `isAt` of the held height, which takes the same branch of `begun`: the epoch as it was, or an empty one.
 use mathlib.Core.Path.{sym, _∙_}
 use borrow.Author.Needs.{needs}
 use Rattle.part_replay.specs.Epoch.{begun}

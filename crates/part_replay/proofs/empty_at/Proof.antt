@@ -1,3 +1,4 @@
+-- Straight code: the height is copied, and the ids are the cells of the empty list by `empty16`.
 use mathlib.Core.Path.{ap}
 use borrow.Author.Needs.{needs}
 use Rattle.book.specs.declared.Ids16.{Ids16}

@@ -1,3 +1,4 @@
+-- The test is `isBefore` of the held height, which takes the same branch of `finished`: the cleared epoch, or the old one.
 use mathlib.Core.Path.{sym, _∙_}
 use borrow.Author.Needs.{needs}
 use Rattle.part_replay.specs.Epoch.{finished}

@@ -1,3 +1,4 @@
+-- The two cases of `isAt`: false without a height, and of a held one the equality that the code tests.
 use mathlib.Core.Path.{sym, ap}
 use borrow.Author.Needs.{needs}
 use Rattle.book.specs.declared.OptionalHeight.{OptionalHeight}

@@ -1,3 +1,4 @@
+-- The two cases of `isBefore`: false without a height, and of a held one the comparison that the code makes.
 use mathlib.Core.Path.{sym, ap}
 use borrow.Author.Needs.{needs}
 use Rattle.book.specs.declared.OptionalHeight.{OptionalHeight}

@@ -1,3 +1,4 @@
+-- Straight code: the flag and the ids are what `insert16` promises, and the height is kept.
 use mathlib.Core.Path.{ap}
 use borrow.Author.Needs.{needs}
 use Rattle.part_ids.specs.declared.Inserted16.{Inserted16}

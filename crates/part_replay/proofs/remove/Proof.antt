@@ -1,3 +1,4 @@
+-- Straight code: the ids are what `remove16` promises, which is `unreplayed` unfolded, and the height is kept.
 use mathlib.Core.Path.{ap}
 use borrow.Author.Needs.{needs}
 use Rattle.book.specs.declared.Ids16.{Ids16}

@@ -1,3 +1,4 @@
+-- Straight code: the ids are what `keep16` promises, and the height is kept.
 use mathlib.Core.Path.{ap}
 use borrow.Author.Needs.{needs}
 use Rattle.book.specs.declared.Ids16.{Ids16}

@@ -1,3 +1,4 @@
+-- By the mark of the live slot: the callee fills it with the attempt under its final fingerprint, or the slots stay.
 use Rattle.rules.specs.Steps.Slots.{slotsFinal}
 use borrow.Author.Needs.{needs}
 use Rattle.part_slots.proofs.finalized.Statement.{statement}

@@ -1,3 +1,4 @@
+-- The callees answer the live slot, and the mark of the old one decides whether the set-aside slot is kept or emptied.
 use Rattle.rules.specs.Steps.Slots.{slotsIssued}
 use borrow.Author.Needs.{needs}
 use Rattle.part_slots.proofs.issued.Statement.{statement}

@@ -1,3 +1,4 @@
+-- The callee's zero hash is the one of the rules' new attempt, and the other fields are the arguments.
 use Rattle.rules.specs.Steps.Slots.{issueAttempt}
 use borrow.Author.Needs.{needs}
 use Rattle.part_slots.proofs.new_attempt.Statement.{statement}

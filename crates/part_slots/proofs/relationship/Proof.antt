@@ -1,3 +1,4 @@
+-- The code asks the rule's tests in the rule's order, so on each path the rule comes to the answer: present, goal, fingerprint.
 use Rattle.rules.specs.Steps.Slots.{relationshipTo}
 use mathlib.Core.Path.{sym, _∙_}
 use borrow.Author.Needs.{needs}

@@ -1,3 +1,4 @@
+-- The mark of the final fingerprint decides between the two, in the code as in the rule.
 use Rattle.rules.specs.Steps.Slots.{resolved}
 use borrow.Author.Needs.{needs}
 use Rattle.part_slots.proofs.resolved_variant_fingerprint.Statement.{statement}

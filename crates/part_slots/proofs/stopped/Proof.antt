@@ -1,3 +1,4 @@
+-- By the mark of the live slot: its attempt is set aside and the callee's empty one put there, or the slots stay.
 use Rattle.rules.specs.Steps.Slots.{slotsAside}
 use borrow.Author.Needs.{needs}
 use Rattle.part_slots.proofs.stopped.Statement.{statement}

@@ -1,3 +1,4 @@
+-- The mark of the live slot decides between the two slots, in the code as in the rule.
 use Rattle.rules.specs.Steps.Slots.{taken}
 use borrow.Author.Needs.{needs}
 use Rattle.part_slots.proofs.taken.Statement.{statement}

@@ -1,3 +1,4 @@
+-- The removal leaves a normal book that holds the lists of the rules' removal, so retiring from it is retiring from those.
 use Rattle.part_lookup.specs.Normal.{sound-normal}
 use Rattle.part_withdraw.specs.WithdrawLaws.{kept-normal, withdraw-is}
 use Rattle.part_withdraw.proofs.withdraw.Statement.{statement}

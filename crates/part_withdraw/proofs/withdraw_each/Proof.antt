@@ -1,3 +1,4 @@
+-- The loop keeps: the book is sound, and the rules' withdrawal of the ids left from it has the outcome of the whole withdrawal.
 use borrow.Author.Needs.{needs}
 use native.Mathlib.Omega.{arith}
 use mathlib.Core.Path.{_≡_}

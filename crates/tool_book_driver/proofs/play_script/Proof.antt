@@ -1,3 +1,4 @@
+-- The loop keeps the room's length, and it ends because `calls_left` answers fewer calls after each turn.
 use borrow.Author.Needs.{needs}
 use mathlib.Core.Path.{_≡_}
 use lib.ListN.{length}

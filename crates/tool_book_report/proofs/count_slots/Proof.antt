@@ -1,3 +1,4 @@
+-- Both counts are at most `i`, and `i` at most 16, so no addition overflows and every read is within the array.
 use borrow.Author.Needs.{needs}
 use native.Mathlib.Omega.{arith}
 use mathlib.Core.Path.{_≡_, refl, sym, ap, _∙_, subst}

@@ -1,3 +1,4 @@
+-- The capped count is at most 16 and `i` stays within it, so each submission read lies in the array.
 use borrow.Author.Needs.{needs}
 use native.Mathlib.Omega.{arith}
 use mathlib.Core.Path.{_≡_, refl, sym, ap, _∙_, subst}

@@ -1,3 +1,4 @@
+-- The loop keeps `i` at most 32, `x` below 256, so that the sum does not overflow, and the array 32 bytes long.
 use mathlib.Core.Path.{_≡_, refl}
 use Prim.Native.Nat.{_≤_, _<_, _-_}
 use native.Mathlib.Omega.{arith}

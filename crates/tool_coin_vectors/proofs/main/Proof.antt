@@ -1,3 +1,4 @@
+-- The loop keeps `k` at most 35, so the amount read is inside the array and `k` below the 256 that `show_coin` requires.
 use mathlib.Core.Path.{_≡_, refl}
 use Prim.Native.Nat.{_≤_, _-_}
 use native.Mathlib.Omega.{arith}

@@ -1,3 +1,4 @@
+-- The loop keeps `i` at most the slice's length, so behind the test the byte read is inside.
 use Prim.Native.Nat.{_≤_, _-_}
 use lib.ListN.{length}
 use borrow.Author.Needs.{needs}

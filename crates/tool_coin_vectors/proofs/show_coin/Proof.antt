@@ -1,3 +1,4 @@
+-- What `used` answers lies from 64 to 73, so both parts shown lie inside the cell of 73 bytes.
 use mathlib.Core.Path.{_≡_}
 use Prim.Native.Nat.{_≤_}
 use native.Mathlib.Omega.{arith}

@@ -1,3 +1,4 @@
+-- The loop keeps `n` at most 131, and its test leaves the 130 that `show_length` requires.
 use Prim.Native.Nat.{_≤_, _-_}
 use borrow.Author.Needs.{needs}
 use Rattle.tool_sha256_vectors.proofs.lengths.Statement.{statement}

@@ -1,3 +1,4 @@
+-- The loop keeps `i` at most `n`, itself at most 130, and the array 130 bytes long, so each write is inside.
 use mathlib.Core.Path.{_≡_, refl}
 use Prim.Native.Nat.{_≤_, _-_}
 use borrow.Author.Needs.{needs}

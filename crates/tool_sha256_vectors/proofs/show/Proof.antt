@@ -1,3 +1,4 @@
+-- The loop keeps `i` at most 32, so behind the test the byte read is inside the digest.
 use Prim.Native.Nat.{_≤_, _-_}
 use borrow.Author.Needs.{needs}
 use Rattle.tool_sha256_vectors.proofs.show.Statement.{statement}

@@ -1,3 +1,4 @@
+-- The cells from where `spell` says the digits start are the decimal text, and those are the bytes appended.
 use Rattle.codec_append.specs.Fits.{fits-as}
 use Rattle.tool_text.proofs.Decimal.{rest-taken}
 use native.Mathlib.Omega.{arith}

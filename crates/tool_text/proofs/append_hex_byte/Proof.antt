@@ -1,3 +1,4 @@
+-- Straight code: the two digits are those of the quotient and the remainder by 16, both below 16.
 use Rattle.codec_append.specs.Fits.{fits-as}
 use native.Mathlib.Omega.{arith}
 use mathlib.Core.Path.{_≡_, refl, sym, ap, _∙_, subst}

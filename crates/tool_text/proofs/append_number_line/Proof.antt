@@ -1,3 +1,4 @@
+-- Three parts written one behind the other make the line: the label, the decimal number and the line end.
 use Rattle.codec_append.specs.Fits.{fits-join}
 use Rattle.tool_text.specs.Numbers.{numberLine}
 use native.Mathlib.Omega.{arith}

@@ -1,3 +1,4 @@
+-- Two parts written one behind the other: the space, and the byte's two hex digits.
 use Rattle.codec_append.specs.Fits.{fits-join}
 use native.Mathlib.Omega.{arith}
 use mathlib.Core.Path.{_≡_, refl, sym, ap, _∙_, subst}

@@ -1,3 +1,4 @@
+-- By the test of ten, which is the one that `digit` makes; below 16 neither sum leaves a byte.
 use borrow.Author.Tests.{lt-ltb, le-ltb}
 use native.Mathlib.Omega.{arith}
 use mathlib.Core.Path.{_≡_, refl, sym, ap, _∙_, subst}

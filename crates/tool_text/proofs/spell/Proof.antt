@@ -1,3 +1,4 @@
+-- The loop keeps: the digits of `rest`, which `i` cells hold, and behind them the cells from `i` on spell the number.
 use Rattle.tool_text.proofs.Decimal.{Spelt, spelt-start, spelt-next, spelt-last}
 use lib.ListN.{length-set}
 use borrow.Author.Needs.{needs}

@@ -1,3 +1,4 @@
+-- Straight code: the definition joins the tests of the two slots, and each is the answer of `OptionalAttempt::is_zero`.
 use Rattle.book.specs.Zero.{isNoSlots}
 use borrow.Author.Needs.{needs}
 use Rattle.book.proofs.AttemptSlots.is_zero.Statement.{statement}

@@ -1,3 +1,4 @@
+-- Straight code: the empty slot that the callee promises stands in both fields, as in the definition.
 use Rattle.book.specs.Zero.{noSlots}
 use borrow.Author.Needs.{needs}
 use Rattle.book.proofs.AttemptSlots.zero.Statement.{statement}

@@ -1,3 +1,4 @@
+-- Straight code: the outputs from 0 on are all of them, coin and digest have their callees, and length, mark and count are tested here.
 use Rattle.book.specs.Zero.{isZeroSpend}
 use borrow.Author.Needs.{needs}
 use Rattle.book.proofs.CoinSpend.is_zero.Statement.{statement}

@@ -1,3 +1,4 @@
+-- Straight code: four cells of the zero output that the callee promises, and every other field as the definition writes it.
 use Rattle.book.specs.Zero.{zeroSpend}
 use borrow.Author.Needs.{needs}
 use Rattle.book.proofs.CoinSpend.zero.Statement.{statement}

@@ -1,3 +1,4 @@
+-- Straight code: goal and both hashes are tested by callees and the token by comparison with 0, joined as in the definition.
 use Rattle.book.specs.Zero.{isZeroAttempt}
 use borrow.Author.Needs.{needs}
 use Rattle.book.proofs.DeliveryAttempt.is_zero.Statement.{statement}

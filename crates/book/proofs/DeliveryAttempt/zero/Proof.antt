@@ -1,3 +1,4 @@
+-- Straight code: the callee promises the empty hash, and token, goal and drained hash are those of the definition.
 use Rattle.book.specs.Zero.{zeroAttempt}
 use borrow.Author.Needs.{needs}
 use Rattle.book.proofs.DeliveryAttempt.zero.Statement.{statement}

@@ -1,3 +1,4 @@
+-- Straight code: the negated mark and the callee's test of the attempt are the two halves of the definition.
 use Rattle.book.specs.Zero.{isNoAttempt}
 use borrow.Author.Needs.{needs}
 use Rattle.book.proofs.OptionalAttempt.is_zero.Statement.{statement}

@@ -1,3 +1,4 @@
+-- Straight code: the mark is false and the attempt is the zero that the callee promises.
 use Rattle.book.specs.Zero.{noAttempt}
 use borrow.Author.Needs.{needs}
 use Rattle.book.proofs.OptionalAttempt.zero.Statement.{statement}

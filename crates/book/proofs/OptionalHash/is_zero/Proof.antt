@@ -1,3 +1,4 @@
+-- Straight code: the negated mark and the answer of `zero32` for the bytes are the two halves of the definition.
 use Rattle.book.specs.Zero.{isZeroHash}
 use borrow.Author.Needs.{needs}
 use Rattle.book.proofs.OptionalHash.is_zero.Statement.{statement}

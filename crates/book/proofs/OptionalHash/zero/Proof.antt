@@ -1,3 +1,4 @@
+-- Holds by computation: a false mark and 32 zero bytes are what the definition unfolds to.
 use Rattle.book.specs.Zero.{zeroHash}
 use mathlib.Core.Path.{refl}
 use Rattle.book.proofs.OptionalHash.zero.Statement.{statement}

@@ -1,3 +1,4 @@
+-- Straight code: the amount compared with 0 and the answer of `zero32` for the hash are the two halves of the definition.
 use Rattle.book.specs.Zero.{isZeroOutput}
 use borrow.Author.Needs.{needs}
 use Rattle.book.proofs.Output.is_zero.Statement.{statement}

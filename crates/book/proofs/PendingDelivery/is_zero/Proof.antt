@@ -1,3 +1,4 @@
+-- Straight code: intent, trigger and goal are each tested by a callee, whose answer is that part of the definition.
 use Rattle.book.specs.Zero.{isZeroDelivery}
 use borrow.Author.Needs.{needs}
 use Rattle.book.proofs.PendingDelivery.is_zero.Statement.{statement}

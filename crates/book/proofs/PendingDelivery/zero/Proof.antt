@@ -1,3 +1,4 @@
+-- Straight code: the intent is the zero that the callee promises, trigger and goal are the variants that the definition names.
 use Rattle.book.specs.Zero.{zeroDelivery}
 use borrow.Author.Needs.{needs}
 use Rattle.book.proofs.PendingDelivery.zero.Statement.{statement}

@@ -1,3 +1,4 @@
+-- Straight code: the tests of id, bundle, expiry and fee intent are four callees' answers, joined in the order of the definition.
 use Rattle.book.specs.Zero.{isZeroIntent}
 use borrow.Author.Needs.{needs}
 use Rattle.book.proofs.PendingSubmissionIntent.is_zero.Statement.{statement}

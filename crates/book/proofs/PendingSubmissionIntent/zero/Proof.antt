@@ -1,3 +1,4 @@
+-- Straight code: bundle and fee intent are the zeros that two callees promise, id and expiry the empty variants.
 use Rattle.book.specs.Zero.{zeroIntent}
 use borrow.Author.Needs.{needs}
 use Rattle.book.proofs.PendingSubmissionIntent.zero.Statement.{statement}

@@ -1,3 +1,4 @@
+-- Straight code: `zero_spends` from 0 on answers for all four cells, and the count is compared with 0.
 use Rattle.book.specs.Zero.{isZeroBundle}
 use borrow.Author.Needs.{needs}
 use Rattle.book.proofs.SpendBundle.is_zero.Statement.{statement}

@@ -1,3 +1,4 @@
+-- Straight code: the count is 0 and all four cells hold the zero spend that the callee promises.
 use Rattle.book.specs.Zero.{zeroBundle}
 use borrow.Author.Needs.{needs}
 use Rattle.book.proofs.SpendBundle.zero.Statement.{statement}

@@ -1,3 +1,4 @@
+-- Straight code: the bundle is tested by the callee, mark and applied fee here, joined as in the definition.
 use Rattle.book.specs.Zero.{isBaseVariant}
 use borrow.Author.Needs.{needs}
 use Rattle.book.proofs.SubmissionBroadcastVariant.is_zero.Statement.{statement}

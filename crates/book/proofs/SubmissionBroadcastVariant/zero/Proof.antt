@@ -1,3 +1,4 @@
+-- Straight code: the bundle is the zero that the callee promises, the mark is false and the applied fee 0.
 use Rattle.book.specs.Zero.{baseVariant}
 use borrow.Author.Needs.{needs}
 use Rattle.book.proofs.SubmissionBroadcastVariant.zero.Statement.{statement}

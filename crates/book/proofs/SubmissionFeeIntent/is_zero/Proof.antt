@@ -1,3 +1,4 @@
+-- Straight code: kind and target are tested by callees and the amount by comparison with 0, the three parts of the definition.
 use Rattle.book.specs.Zero.{isZeroFeeIntent}
 use borrow.Author.Needs.{needs}
 use Rattle.book.proofs.SubmissionFeeIntent.is_zero.Statement.{statement}

@@ -1,3 +1,4 @@
+-- Straight code: each of the three enums is tested by a callee, whose answer is that part of the definition.
 use Rattle.book.specs.Zero.{isZeroStatus}
 use borrow.Author.Needs.{needs}
 use Rattle.book.proofs.SubmissionStatus.is_zero.Statement.{statement}

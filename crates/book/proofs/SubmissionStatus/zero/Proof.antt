@@ -1,3 +1,4 @@
+-- Holds by computation: `Unresolved`, `Active` and `NoHeight` are what the definition unfolds to.
 use Rattle.book.specs.Zero.{zeroStatus}
 use mathlib.Core.Path.{refl}
 use Rattle.book.proofs.SubmissionStatus.zero.Statement.{statement}

@@ -1,3 +1,4 @@
+-- Straight code: six parts are tested by callees and the id by comparison with 0, joined in the order of the definition.
 use Rattle.book.specs.Zero.{isZeroEntry}
 use borrow.Author.Needs.{needs}
 use Rattle.book.proofs.SubmittedEntry.is_zero.Statement.{statement}

@@ -1,3 +1,4 @@
+-- Straight code: five callees promise the zeros of the parts, and id and fingerprint are zeros written here.
 use Rattle.book.specs.Zero.{zeroEntry}
 use borrow.Author.Needs.{needs}
 use Rattle.book.proofs.SubmittedEntry.zero.Statement.{statement}

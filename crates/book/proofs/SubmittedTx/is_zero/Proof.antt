@@ -1,3 +1,4 @@
+-- Straight code: the definition joins the test of the slots and the test of the entry, and each is a callee's answer.
 use Rattle.book.specs.Zero.{isZeroSubmitted}
 use borrow.Author.Needs.{needs}
 use Rattle.book.proofs.SubmittedTx.is_zero.Statement.{statement}

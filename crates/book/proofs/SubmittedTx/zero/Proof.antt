@@ -1,3 +1,4 @@
+-- Straight code: the slots and the entry are the zeros that the two callees promise.
 use Rattle.book.specs.Zero.{zeroSubmitted}
 use borrow.Author.Needs.{needs}
 use Rattle.book.proofs.SubmittedTx.zero.Statement.{statement}

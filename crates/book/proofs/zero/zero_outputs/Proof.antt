@@ -1,3 +1,4 @@
+-- The loop keeps: the outputs from n on are zero exactly if `ok` holds and those from i on are; at its end none is left.
 use Rattle.base_lists.specs.Lists.{allb}
 use Rattle.base_lists.specs.Laws.{all-turn-by, all-done, rest-step, tail-of}
 use Rattle.book.specs.Zero.{isZeroOutput}

@@ -1,3 +1,4 @@
+-- Straight code: both slices are the first cells by their counts, the lists that the definition compares.
 use borrow.Author.Needs.{needs}
 use Rattle.book_sound.proofs.cells.among16.Statement.{statement}
 use Rattle.book_sound.proofs.cells.among16.Tie as tie

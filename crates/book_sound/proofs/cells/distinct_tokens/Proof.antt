@@ -1,3 +1,4 @@
+-- Straight code: `first` lends the first `count` tokens, and `distinct` answers the test of that list.
 use borrow.Author.Needs.{needs}
 use Rattle.book_sound.proofs.cells.distinct_tokens.Statement.{statement}
 use Rattle.book_sound.proofs.cells.distinct_tokens.Tie as tie

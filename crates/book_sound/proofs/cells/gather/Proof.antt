@@ -1,3 +1,4 @@
+-- One loop keeps three things: soundness as `ok` and the rest, the ids of the first `i`, and the tokens so far, at most `2 * i`.
 use native.Mathlib.Nat.{min-le-right}
 use Rattle.base_lists.specs.Lists.{allb, cells, flatMap}
 use Rattle.base_lists.specs.Laws.{all-turn-by, all-done, counted-step, counted-end, take-cut, count-cut, flat-turn, flat-done}

@@ -1,3 +1,4 @@
+-- `zeros_from` tests the cells from the count on, and the type gives the 64 cells that the definition also asks.
 use Rattle.base_lists.specs.Lists.{isZero}
 use Rattle.base_lists.specs.Laws.{tail-of}
 use borrow.Author.Needs.{needs}

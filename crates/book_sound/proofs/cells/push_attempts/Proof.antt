@@ -1,3 +1,4 @@
+-- Two optional pushes in a row append the active slot's token and then the completed one's, which are the slots' tokens.
 use borrow.Author.Needs.{needs}
 use Rattle.base_lists.specs.Laws.{push-twice}
 use lib.ListN.{take}

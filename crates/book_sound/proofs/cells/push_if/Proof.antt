@@ -1,3 +1,4 @@
+-- Two cases: a wanted number is stored behind the first `count`, which appends it; otherwise nothing is appended.
 use mathlib.Core.List.{append-nil}
 use Rattle.base_lists.specs.Laws.{store-step}
 use borrow.Author.Needs.{needs}

@@ -1,3 +1,4 @@
+-- The loop keeps: the first `k` cells are sound exactly if `ok` holds and those from `i` to `k` are; `k` is `n` cut at 16.
 use native.Mathlib.Nat.{min-le-right}
 use Rattle.base_lists.specs.Lists.{allb}
 use Rattle.base_lists.specs.Laws.{all-turn-by, all-done, counted-step, counted-end, take-cut}

@@ -1,3 +1,4 @@
+-- Straight code: `first` lends the first `count` tokens, and `all_below` tests that list against the next token.
 use borrow.Author.Needs.{needs}
 use Rattle.book_sound.proofs.cells.tokens_below.Statement.{statement}
 use Rattle.book_sound.proofs.cells.tokens_below.Tie as tie

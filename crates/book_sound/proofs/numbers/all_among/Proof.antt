@@ -1,3 +1,4 @@
+-- The loop keeps: all of `s` are among the ids exactly if `ok` holds and those from `i` on are; `contains` answers for one.
 use Rattle.base_lists.specs.Lists.{allb, elemb}
 use Rattle.base_lists.specs.Laws.{all-turn-by, all-done, rest-step}
 use borrow.Author.Needs.{needs}

@@ -1,3 +1,4 @@
+-- The count is cut at the length, so the part lies within the slice, and a cut count takes the same numbers.
 use native.Mathlib.Nat.{min-le-right, sub-zero}
 use Rattle.base_lists.specs.Laws.{take-min}
 use borrow.Author.Needs.{needs}

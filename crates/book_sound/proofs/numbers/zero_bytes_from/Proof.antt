@@ -1,3 +1,4 @@
+-- The loop keeps: the bytes from `n` on are zero exactly if `ok` holds and those from `i` on are; past the end none is left.
 use Rattle.base_lists.specs.Lists.{allb, isZero}
 use Rattle.base_lists.specs.Laws.{all-turn, all-done, rest-step}
 use borrow.Author.Needs.{needs}

@@ -1,3 +1,4 @@
+-- The three tests settle 0, 1 and 2; a number that is none of them is three or more, where `sourceFrom` says failed.
 use mathlib.Core.Path.{refl}
 use Rattle.archive_bundle_read.specs.Parts.{after-three}
 use Rattle.c_api.specs.Laws.{sourceFrom}

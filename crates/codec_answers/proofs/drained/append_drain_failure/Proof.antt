@@ -1,3 +1,4 @@
+-- The parts that `append_failure` writes are the form of the failure, once its retained id and stage are those that the rules name.
 use Rattle.codec_append.specs.Fits.{within-as}
 use Rattle.codec_answers.specs.Drain.{stageNumber, failed-parts}
 use mathlib.Core.Path.{ap, _∙_}

@@ -1,3 +1,4 @@
+-- Seven parts written one behind the other make the form; the sizes of bundle, expiry and fee intent bound it by 1149 bytes.
 use Rattle.codec_forms.specs.Wire.{be}
 use Rattle.codec_append.specs.Fits.{fits-join, fits-as}
 use Rattle.codec_answers.specs.Forms.{encodeDrained}

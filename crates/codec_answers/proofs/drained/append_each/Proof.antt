@@ -1,3 +1,4 @@
+-- The loop keeps: the first `i` submissions are appended, within 1149 bytes each; the capped count takes the same as `n`.
 use Rattle.codec_forms.specs.Wire.{encMany}
 use Rattle.codec_append.specs.Fits.{FitsWithin, within-start, within-more, within-done}
 use Rattle.codec_answers.specs.Forms.{encodeDrained}

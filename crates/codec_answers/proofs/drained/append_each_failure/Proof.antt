@@ -1,3 +1,4 @@
+-- The loop keeps: the first `i` failures are appended, within 59 bytes each; the capped count takes the same as `n`.
 use Rattle.codec_forms.specs.Wire.{encMany}
 use Rattle.codec_append.specs.Fits.{FitsWithin, within-start, within-more, within-done}
 use Rattle.codec_answers.specs.Drain.{encodeFailed}

@@ -1,3 +1,4 @@
+-- Five parts written one behind the other; two ids of at most nine bytes and the fixed 41 bound the whole by 59.
 use Rattle.codec_append.specs.Fits.{fits-join}
 use Rattle.codec_answers.specs.Drain.{failure-most}
 use borrow.Author.Needs.{needs}

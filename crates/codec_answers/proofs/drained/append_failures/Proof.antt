@@ -1,3 +1,4 @@
+-- Straight code: the byte of the capped count, and behind it the failures, joined with their bounds 1 and 944.
 use Rattle.codec_append.specs.Fits.{within-join, within-byte}
 use Rattle.codec_answers.specs.Drain.{encodeFailures}
 use borrow.Author.Needs.{needs}

@@ -1,3 +1,4 @@
+-- By the variant: the form of no token is the byte 0, that of a token the byte 1 with the number behind it.
 use Rattle.codec_append.specs.Fits.{fits-join, fits-as}
 use Rattle.codec_answers.specs.Forms.{token-no, token-of}
 use borrow.Author.Needs.{needs}

@@ -1,3 +1,4 @@
+-- The byte appended is the flag's number, which is what its one-byte form names.
 use Rattle.codec_forms.specs.Wire.{be}
 use Rattle.codec_append.specs.Fits.{fits-as}
 use mathlib.Core.Path.{ap}

@@ -1,3 +1,4 @@
+-- The last four of the number's eight bytes are its four-byte form, by the definition of `be`.
 use Rattle.codec_forms.specs.Wire.{be}
 use borrow.Author.Needs.{needs}
 use Rattle.codec_answers.proofs.part.append_length.Statement.{statement}

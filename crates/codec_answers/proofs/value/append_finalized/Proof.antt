@@ -1,3 +1,4 @@
+-- Six parts written one behind the other make the form, the disposition's byte being the number that the form names.
 use Rattle.codec_forms.specs.Wire.{be}
 use Rattle.codec_append.specs.Fits.{fits-join, fits-as}
 use Rattle.codec_answers.specs.Forms.{encodeFinal}

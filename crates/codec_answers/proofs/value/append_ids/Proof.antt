@@ -1,3 +1,4 @@
+-- Straight code: the byte of the capped count, and behind it the numbers, as the form of an id list names them.
 use Rattle.codec_forms.specs.Wire.{be}
 use Rattle.codec_append.specs.Fits.{fits-join, fits-as}
 use Rattle.codec_answers.specs.Forms.{encodeIds}

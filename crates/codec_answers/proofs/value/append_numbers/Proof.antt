@@ -1,3 +1,4 @@
+-- The loop keeps: the first `i` numbers are appended in eight bytes each; the capped count takes the same cells as `n`.
 use Rattle.codec_forms.specs.Wire.{be, encMany}
 use Rattle.codec_append.specs.Fits.{Fits, each-start, each-more, each-done}
 use borrow.Author.Needs.{needs}

@@ -1,3 +1,4 @@
+-- By `present`: the form of an absent part is the byte 0, that of a present one the byte 1 with the fee intent behind it.
 use borrow.Author.Tests.{not-true, not-false}
 use Rattle.archive_bundle_form.specs.Forms.{encodeFeeIntent}
 use Rattle.archive_entry_write.specs.Laws.{opt-no, opt-yes}

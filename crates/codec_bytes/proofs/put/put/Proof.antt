@@ -1,3 +1,4 @@
+-- The loop keeps: `dst` is the first `i` bytes of `src` and then the old bytes from `i` on; its length stays.
 use lib.ListN.{length-set}
 use Rattle.codec_bytes.proofs.Bytes.{store-step, store-done}
 use borrow.Author.Needs.{needs}

@@ -1,3 +1,4 @@
+-- Two cases: a position past the end has no room; else `n` at most the bytes left says that `at + n` is at most the length.
 use borrow.Author.Tests.{lt-leb}
 use Rattle.codec_bytes.proofs.Bytes.{has-room}
 use native.Mathlib.Omega.{arith}

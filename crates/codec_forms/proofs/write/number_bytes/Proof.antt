@@ -1,3 +1,4 @@
+-- Holds by computation: `be 8 n` unfolds to the eight remainders that the code takes, one division by 256 after the other.
 use mathlib.Core.Path.{refl}
 use Prim.Native.Nat.{_-_}
 use Rattle.codec_forms.specs.Wire.{be}

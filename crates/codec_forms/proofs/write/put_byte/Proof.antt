@@ -1,3 +1,4 @@
+-- A byte below 256 is its own one-byte form (`one-byte`), so room and promise of `put_bytes` for it are the ones asked.
 use borrow.Author.Needs.{needs}
 use Prim.Native.Nat.{_-_, _<_}
 use Rattle.codec_forms.specs.Puts.{puts-long, puts-as, room-as}

@@ -1,3 +1,4 @@
+-- The loop keeps: the buffer is the old one with the first i bytes of the source pasted at `at`; `Room` bounds every index.
 use native.Mathlib.Omega.{arith}
 use mathlib.Core.Path.{_≡_, refl}
 use Prim.Native.Nat.{_-_, _≤_}

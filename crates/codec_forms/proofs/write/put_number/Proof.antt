@@ -1,3 +1,4 @@
+-- `number_bytes` answers `be 8 n`, so room and promise of `put_bytes` for its bytes are those asked for the number.
 use borrow.Author.Needs.{needs}
 use Prim.Native.Nat.{_-_}
 use Rattle.codec_forms.specs.Puts.{puts-long, puts-as, room-as}

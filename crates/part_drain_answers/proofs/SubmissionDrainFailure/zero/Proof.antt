@@ -1,3 +1,4 @@
+-- Unfolded, `zeroFailure` has these very fields.
 use mathlib.Core.Path.{refl}
 use Rattle.part_drain_answers.specs.Failures.{zeroFailure}
 use Rattle.part_drain_answers.proofs.SubmissionDrainFailure.zero.Statement.{statement}

@@ -1,3 +1,4 @@
+-- Every field is written as `zeroDrained` has it, and bundle and fee intent are zero by their own `zero`.
 use Rattle.part_submitted.specs.Drained.{zeroDrained}
 use borrow.Author.Needs.{needs}
 use Rattle.part_submitted.proofs.DrainedSubmission.zero.Statement.{statement}

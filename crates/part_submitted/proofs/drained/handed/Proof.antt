@@ -1,3 +1,4 @@
+-- Straight code: each callee gives one field of `handed`, the relationship by the current fingerprint, as required.
 use Rattle.part_submitted.specs.Drained.{drainedOf}
 use Rattle.rules.specs.Steps.Slots.{handed}
 use borrow.Author.Needs.{needs}

@@ -1,3 +1,4 @@
+-- Straight code: variant, hash and fee resolution are the callees' answers, and the fingerprint is the intent's as required.
 use Rattle.rules.specs.Steps.Entry.{newEntry}
 use borrow.Author.Needs.{needs}
 use Rattle.part_submitted.proofs.drained.new_entry.Statement.{statement}

@@ -1,3 +1,4 @@
+-- The two cases of `tokenIn`: a present slot gives its token, an empty one none.
 use borrow.Author.Needs.{needs}
 use Rattle.part_submitted.proofs.drained.token_in.Statement.{statement}
 use Rattle.part_submitted.proofs.drained.token_in.Tie as tie

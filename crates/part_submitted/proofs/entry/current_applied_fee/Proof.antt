@@ -1,3 +1,4 @@
+-- The two cases of `currentAppliedFee`: a variant that bears a fee gives the applied fee, any other 0.
 use Rattle.rules.specs.Parts.{currentAppliedFee}
 use borrow.Author.Needs.{needs}
 use Rattle.part_submitted.proofs.entry.current_applied_fee.Statement.{statement}

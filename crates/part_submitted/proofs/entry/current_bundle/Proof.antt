@@ -1,3 +1,4 @@
+-- The two cases of `currentBundle`: a variant that bears a fee gives its bundle, any other the base.
 use Rattle.rules.specs.Parts.{currentBundle}
 use borrow.Author.Needs.{needs}
 use Rattle.part_submitted.proofs.entry.current_bundle.Statement.{statement}

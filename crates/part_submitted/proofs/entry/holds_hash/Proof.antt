@@ -1,3 +1,4 @@
+-- `same32` answers whether the hashes are equal, and that and the flag are the two conditions of `holdsHash`.
 use Rattle.rules.specs.Parts.{holdsHash}
 use borrow.Author.Needs.{needs}
 use Rattle.part_submitted.proofs.entry.holds_hash.Statement.{statement}

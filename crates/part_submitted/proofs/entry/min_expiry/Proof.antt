@@ -1,3 +1,4 @@
+-- By the cases of the two heights: where one is absent it is the other, and where both are there the test picks the smaller.
 use mathlib.Core.Path.{ap, sym, _∙_}
 use borrow.Author.Tests.{lt-ltb, le-ltb}
 use Rattle.part_submitted.specs.Laws.{none-first, none-second, both}

@@ -1,3 +1,4 @@
+-- The test is that of `openFeeIntent`: an unresolved fee gives the entry's intent, any other the zero intent.
 use Rattle.rules.specs.Parts.{openFeeIntent}
 use mathlib.Core.Path.{sym, _∙_}
 use borrow.Author.Needs.{needs}

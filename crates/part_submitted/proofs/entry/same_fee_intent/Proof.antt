@@ -1,3 +1,4 @@
+-- The callees' answers are the kinds' numbers and the targets' equality, which `sameFeeIntent` joins with the amounts'.
 use Rattle.rules.specs.Parts.{sameFeeIntent}
 use borrow.Author.Needs.{needs}
 use Rattle.part_submitted.proofs.entry.same_fee_intent.Statement.{statement}

@@ -1,3 +1,4 @@
+-- `same32` answers the equality with the hash that `variant_fingerprint` promises of the bundle.
 use borrow.Author.Needs.{needs}
 use Rattle.part_submitted.proofs.fingerprint.acknowledges.Statement.{statement}
 use Rattle.part_submitted.proofs.fingerprint.acknowledges.Tie as tie

@@ -1,3 +1,4 @@
+-- Each arm of the match is one clause of `consistentFee`.
 use borrow.Author.Needs.{needs}
 use Rattle.part_submitted.proofs.fingerprint.consistent.Statement.{statement}
 use Rattle.part_submitted.proofs.fingerprint.consistent.Tie as tie

@@ -1,3 +1,4 @@
+-- Straight code: `is_attach` tells the intent's kind, and `consistent` answers for that and the two other fields.
 use borrow.Author.Needs.{needs}
 use Rattle.part_submitted.proofs.fingerprint.consistent_fee.Statement.{statement}
 use Rattle.part_submitted.proofs.fingerprint.consistent_fee.Tie as tie

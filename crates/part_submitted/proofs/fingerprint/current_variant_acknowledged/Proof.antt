@@ -1,3 +1,4 @@
+-- With a hash present the callees' promises make up the definition; without one its first condition is false.
 use Rattle.rules.specs.Parts.{currentAcknowledged}
 use borrow.Author.Needs.{needs}
 use Rattle.part_submitted.proofs.fingerprint.current_variant_acknowledged.Statement.{statement}

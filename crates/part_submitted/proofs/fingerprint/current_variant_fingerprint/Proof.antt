@@ -1,3 +1,4 @@
+-- The promise of `variant_fingerprint` at the bundle that `current_bundle` promises is the definition.
 use Rattle.rules.specs.Parts.{currentFingerprint}
 use borrow.Author.Needs.{needs}
 use Rattle.part_submitted.proofs.fingerprint.current_variant_fingerprint.Statement.{statement}

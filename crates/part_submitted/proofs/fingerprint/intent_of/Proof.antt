@@ -1,3 +1,4 @@
+-- The promise of `intent_fingerprint` for the intent's three fields is the definition of `intentOf`.
 use Rattle.rules.specs.Parts.{intentOf}
 use borrow.Author.Needs.{needs}
 use Rattle.part_submitted.proofs.fingerprint.intent_of.Statement.{statement}

@@ -1,3 +1,4 @@
+-- Each return has its law: none acknowledged, the base, the fee bundle, or no fee bundle, where the current one is the base.
 use mathlib.Core.Path.{sym, _∙_}
 use Rattle.part_submitted.specs.Known.{known-none, known-base, known-fee, known-plain}
 use borrow.Author.Needs.{needs}

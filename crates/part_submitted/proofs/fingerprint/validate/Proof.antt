@@ -1,3 +1,4 @@
+-- Straight code: the three callees answer the three conditions that `validate` joins.
 use Rattle.rules.specs.Parts.{validate}
 use borrow.Author.Needs.{needs}
 use Rattle.part_submitted.proofs.fingerprint.validate.Statement.{statement}

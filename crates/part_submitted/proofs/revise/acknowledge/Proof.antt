@@ -1,3 +1,4 @@
+-- Straight code: the one field written is the one that `revised` sets for an acknowledgement.
 use Rattle.rules.specs.Steps.Entry.{revised}
 use borrow.Author.Needs.{needs}
 use Rattle.part_submitted.proofs.revise.acknowledge.Statement.{statement}

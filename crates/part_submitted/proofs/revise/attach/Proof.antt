@@ -1,3 +1,4 @@
+-- The bundle is sound as required, so `revised` takes the branch that joins it, with the status of `with_fee_attached`.
 use Rattle.rules.specs.Steps.Entry.{revised}
 use borrow.Author.Needs.{needs}
 use Rattle.part_submitted.proofs.revise.attach.Statement.{statement}

@@ -1,3 +1,4 @@
+-- Straight code: `with_chain` gives the Active status and `zero` the empty hash, the two fields that `revised` sets.
 use Rattle.rules.specs.Steps.Entry.{revised}
 use borrow.Author.Needs.{needs}
 use Rattle.part_submitted.proofs.revise.reopen.Statement.{statement}

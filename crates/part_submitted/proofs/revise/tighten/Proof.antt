@@ -1,3 +1,4 @@
+-- Straight code: the status is what `with_expiry` promises, with the expiry that `min_expiry` promises.
 use Rattle.rules.specs.Steps.Entry.{revised}
 use borrow.Author.Needs.{needs}
 use Rattle.part_submitted.proofs.revise.tighten.Statement.{statement}

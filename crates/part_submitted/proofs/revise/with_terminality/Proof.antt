@@ -1,3 +1,4 @@
+-- Straight code: the status is what `with_chain` promises, and no other field changes.
 use Rattle.rules.specs.Steps.Entry.{revised}
 use borrow.Author.Needs.{needs}
 use Rattle.part_submitted.proofs.revise.with_terminality.Statement.{statement}

@@ -1,3 +1,4 @@
+-- The loop keeps the number of lines, so `i * 16` is at most the number of bytes and cannot overflow.
 use borrow.Author.Needs.{needs}
 use native.Mathlib.Omega.{arith}
 use mathlib.Core.Path.{_≡_, refl, sym, ap, _∙_, subst}

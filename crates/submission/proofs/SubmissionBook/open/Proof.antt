@@ -1,3 +1,4 @@
+-- The callee answers the opened book's cells, and the struct around them is what `bookOf` makes.
 use borrow.Author.Needs.{needs}
 use mathlib.Core.Path.{ap}
 use Rattle.submission.specs.Book.{bookOf}

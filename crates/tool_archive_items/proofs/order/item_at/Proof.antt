@@ -1,3 +1,4 @@
+-- No value is promised: the place grows by at least 1 a turn, so the loop ends, and the tests before the read keep it in bounds.
 use borrow.Author.Needs.{needs}
 use native.Mathlib.Omega.{arith}
 use mathlib.Core.Path.{_≡_, refl, sym, ap, _∙_, subst}

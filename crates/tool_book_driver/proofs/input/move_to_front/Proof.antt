@@ -1,3 +1,4 @@
+-- The loop keeps the room's length, and `at` with all `n` bytes lies within it, so each read and write and the answer are in bounds.
 use lib.ListN.{length-set}
 use borrow.Author.Needs.{needs}
 use native.Mathlib.Omega.{arith}

@@ -1,3 +1,4 @@
+-- A cell has 73 bytes, so its first min(n, 73) bytes are its first n (`take-cut`), whose text `append_coin` writes.
 use Rattle.base_lists.specs.Laws.{take-cut}
 use Rattle.codec_append.specs.Fits.{Fits, fits-join, fits-as, fits-none}
 use Rattle.tool_book_text.specs.Coins.{amountFrom, amountOf, isCoin, partsText, coinOr, coinOrBytes, coinText, parentOf, puzzleOf, coin-short, coin-long, coin-room, coin-is, read-is}

@@ -1,3 +1,4 @@
+-- Word, number, hash line and amount line follow one another (`fits-join`), and i below 4 keeps i + 1 in range.
 use Rattle.codec_append.specs.Fits.{Fits, fits-join, fits-as, fits-none, each-start, each-more}
 use Rattle.tool_book_text.specs.Bundles.{outputText, runText, spendText, bundleText, variantOr, variantText, variant-no, variant-yes, run-no, run-yes}
 use native.Mathlib.Omega.{arith}

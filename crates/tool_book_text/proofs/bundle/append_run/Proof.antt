@@ -1,3 +1,4 @@
+-- By the mark: an unreadable run is its one line, a readable one the line of its count and the outputs behind it.
 use Rattle.codec_append.specs.Fits.{Fits, fits-join, fits-as, fits-none, each-start, each-more}
 use Rattle.tool_book_text.specs.Bundles.{outputText, runText, spendText, bundleText, variantOr, variantText, variant-no, variant-yes, run-no, run-yes}
 use Rattle.tool_text.specs.Ascii.{ascii}

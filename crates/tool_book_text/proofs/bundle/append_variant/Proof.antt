@@ -1,3 +1,4 @@
+-- By the mark: without a fee bundle the line that says none, else the bundle and the line of the applied fee behind it.
 use Rattle.codec_append.specs.Fits.{Fits, fits-join, fits-as, fits-none, each-start, each-more}
 use Rattle.tool_book_text.specs.Bundles.{outputText, runText, spendText, bundleText, variantOr, variantText, variant-no, variant-yes, run-no, run-yes}
 use Rattle.tool_text.specs.Ascii.{ascii}

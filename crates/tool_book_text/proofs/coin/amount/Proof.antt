@@ -1,3 +1,4 @@
+-- The loop keeps: going on from v over the bytes left gives the amount; v modulo 2^56 leaves room for the next byte.
 use Rattle.tool_book_text.specs.Coins.{amountFrom, amountOf, isCoin, partsText, coinOr, coinOrBytes, coinText, parentOf, puzzleOf, amount-turn, amount-done, coin-short, coin-long, coin-room}
 use borrow.Author.Needs.{needs}
 use native.Mathlib.Omega.{arith}

@@ -1,3 +1,4 @@
+-- The parts or the bytes, and behind them the line of the id, which is what `sha256` promises of the coin string.
 use Rattle.codec_append.specs.Fits.{Fits, fits-join, fits-as, fits-none, each-start, each-more}
 use Rattle.tool_book_text.specs.Coins.{amountFrom, amountOf, isCoin, partsText, coinOr, coinOrBytes, coinText, parentOf, puzzleOf, amount-turn, amount-done, coin-short, coin-long, coin-room}
 use Rattle.tool_text.specs.Ascii.{ascii}

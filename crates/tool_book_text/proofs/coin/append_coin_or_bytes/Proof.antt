@@ -1,3 +1,4 @@
+-- By the answer of `is_coin`: a coin of parts has the 64 bytes that `append_parts` asks for (`coin-room`), any other is its bytes.
 use Rattle.codec_append.specs.Fits.{Fits, fits-join, fits-as, fits-none, each-start, each-more}
 use Rattle.tool_book_text.specs.Coins.{amountFrom, amountOf, isCoin, partsText, coinOr, coinOrBytes, coinText, parentOf, puzzleOf, amount-turn, amount-done, coin-short, coin-long, coin-room}
 use Rattle.tool_text.specs.Ascii.{ascii}

@@ -1,3 +1,4 @@
+-- Three lines joined by `fits-join`: 64 bytes or more keep both slices inside, and the number is what `amount` promises.
 use Rattle.codec_append.specs.Fits.{Fits, fits-join, fits-as, fits-none, each-start, each-more}
 use Rattle.tool_book_text.specs.Coins.{amountFrom, amountOf, isCoin, partsText, coinOr, coinOrBytes, coinText, parentOf, puzzleOf, amount-turn, amount-done, coin-short, coin-long, coin-room}
 use native.Mathlib.Nat.{sub-zero}

@@ -1,3 +1,4 @@
+-- By the length: an empty list has the word none, any other nothing, and to append nothing changes nothing (`fits-none`).
 use Rattle.codec_append.specs.Fits.{Fits, fits-join, fits-as, fits-none, each-start, each-more}
 use Rattle.tool_book_text.specs.Entries.{attemptText, slotOr, slotText, slotsText, factsText, entryText, headingText, submissionText, deliveryText, tokenOr, tokenText, tokensText, idAfterSpace, noneOf, idsText, slot-no, slot-yes, token-no, token-yes, none-empty, none-some}
 use native.Mathlib.Omega.{arith}

@@ -1,3 +1,4 @@
+-- The loop keeps `Fits` of the first i ids, each behind a space, and at its end i is the length of the list.
 use Rattle.codec_append.specs.Fits.{Fits, fits-join, fits-as, fits-none, each-start, each-more}
 use Rattle.tool_book_text.specs.Entries.{attemptText, slotOr, slotText, slotsText, factsText, entryText, headingText, submissionText, deliveryText, tokenOr, tokenText, tokensText, idAfterSpace, noneOf, idsText, slot-no, slot-yes, token-no, token-yes, none-empty, none-some}
 use Rattle.codec_forms.specs.Wire.{encMany}

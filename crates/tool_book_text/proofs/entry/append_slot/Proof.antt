@@ -1,3 +1,4 @@
+-- By the mark: an absent attempt is the label with the word none behind it, a present one what `append_attempt` promises.
 use Rattle.codec_append.specs.Fits.{Fits, fits-join, fits-as, fits-none, each-start, each-more}
 use Rattle.tool_book_text.specs.Entries.{attemptText, slotOr, slotText, slotsText, factsText, entryText, headingText, submissionText, deliveryText, tokenOr, tokenText, tokensText, idAfterSpace, noneOf, idsText, slot-no, slot-yes, token-no, token-yes, none-empty, none-some}
 use Rattle.tool_text.specs.Ascii.{ascii}

@@ -1,3 +1,4 @@
+-- By the mark: an absent token appends nothing (`fits-none`), a present one a word, its number and the line of its fate.
 use Rattle.codec_append.specs.Fits.{Fits, fits-join, fits-as, fits-none, each-start, each-more}
 use Rattle.tool_book_text.specs.Entries.{attemptText, slotOr, slotText, slotsText, factsText, entryText, headingText, submissionText, deliveryText, tokenOr, tokenText, tokensText, idAfterSpace, noneOf, idsText, slot-no, slot-yes, token-no, token-yes, none-empty, none-some}
 use Rattle.tool_text.specs.Ascii.{ascii}

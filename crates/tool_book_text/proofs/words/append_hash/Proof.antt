@@ -1,3 +1,4 @@
+-- The label, and behind it by the mark the word no or the line of the fingerprint, joined by `fits-join`.
 use Rattle.codec_append.specs.Fits.{Fits, fits-join, fits-as, fits-none, each-start, each-more}
 use Rattle.tool_book_text.specs.Words.{goalText, triggerText, chainText, resolutionText, feeIntentText, feeKindText, heightText, idText, hashText, hashOr, hash-no, hash-yes}
 use Rattle.tool_text.specs.Ascii.{ascii}
