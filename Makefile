@@ -77,7 +77,7 @@ target/bin/show_archive target/bin/tool_book_driver: $(SOURCES)
 # What is installed, below DESTDIR and PREFIX.
 PLACE = $(DESTDIR)$(abspath $(PREFIX))
 INSTALLED = lib/libsubmission_book.a lib/$(SONAME) lib/libsubmission_book.so lib/pkgconfig/submission_book.pc $(addprefix include/, $(PUBLIC)) \
-	bin/show_archive $(addprefix share/doc/submission_book/, ARCHIVE.md NOTICE)
+	bin/show_archive libexec/submission_book/show_archive $(addprefix share/doc/submission_book/, ARCHIVE.md NOTICE)
 
 install: lib target/bin/show_archive
 	@mkdir -p $(addprefix $(PLACE)/, $(sort $(dir $(INSTALLED))))
@@ -85,13 +85,15 @@ install: lib target/bin/show_archive
 	@ln -sf $(SONAME) $(PLACE)/lib/libsubmission_book.so
 	@sed -e 's|@PREFIX@|$(abspath $(PREFIX))|' -e 's|@VERSION@|$(VERSION)|' tools/submission_book.pc.in >$(PLACE)/lib/pkgconfig/submission_book.pc
 	@install -m 644 $(addprefix include/, $(PUBLIC)) $(PLACE)/include/
-	@install -m 755 target/bin/show_archive $(PLACE)/bin/
+	@install -m 755 target/bin/show_archive $(PLACE)/libexec/submission_book/
+	@sed -e 's|@LIBEXEC@|$(abspath $(PREFIX))/libexec/submission_book|' tools/show_archive.in >$(PLACE)/bin/show_archive
+	@chmod 755 $(PLACE)/bin/show_archive
 	@install -m 644 docs/ARCHIVE.md NOTICE $(PLACE)/share/doc/submission_book/
 	@echo "installed below $(PLACE): $(INSTALLED)"
 
 uninstall:
 	@rm -f $(addprefix $(PLACE)/, $(INSTALLED))
-	@rmdir $(PLACE)/share/doc/submission_book 2>/dev/null || true
+	@rmdir $(PLACE)/share/doc/submission_book $(PLACE)/libexec/submission_book 2>/dev/null || true
 
 target/first: examples/first.c $(LIBRARY) $(addprefix target/lib/, $(PUBLIC))
 	$(CC) $(CFLAGS) -I target/lib examples/first.c $(LIBRARY) -o $@

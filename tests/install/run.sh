@@ -21,7 +21,38 @@ fi
 expected='submissions to deliver: 1, the first has the id 1 and the token 5'
 [ "$(LD_LIBRARY_PATH=$prefix/lib "$work/shared")" = "$expected" ]
 [ "$("$work/static")" = "$expected" ]
-[ "$(cd / && printf '\002\0\0\0\0\0\0\0\005\0\0\0\0\0\0\0\001\0\0\0\0\0' | "$prefix/bin/show_archive")" = "$(cat tests/show_archive/expected/opened)" ]
+show=$prefix/bin/show_archive
+printf '\002\0\0\0\0\0\0\0\005\0\0\0\0\0\0\0\001\0\0\0\0\0' >"$work/opened"
+cp "$work/opened" "$work/--hex"
+head -c 21 "$work/opened" >"$work/cut"
+# the words behind the first one, in a folder of its own: exit status, and the first line on standard output
+shows() {
+    local status=$1 first=$2 got=0
+    shift 2
+    (cd "$work" && "$show" "$@" <opened >out 2>err) || got=$?
+    [ $got = "$status" ] || { echo "install: show_archive $*: exit status $got in place of $status"; exit 1; }
+    [[ "$(head -n 1 "$work/out")" == "$first"* ]] || { echo "install: show_archive $*: $(head -n 1 "$work/out")"; exit 1; }
+}
+[ "$(cd / && "$show" <"$work/opened")" = "$(cat tests/show_archive/expected/opened)" ]
+shows 0 'archive of '
+shows 0 'archive of ' -
+shows 0 'archive of ' opened
+shows 0 'archive of ' -- --hex
+shows 0 'archive of ' --hex opened
+shows 0 'archive of ' opened --hex
+grep -q '^00016 ' "$work/out"
+shows 0 'usage: ' --help
+shows 0 'usage: ' opened -h
+shows 1 'not an archive' cut
+shows 2 '' nothing
+grep -q '^not read: the file cannot be opened' "$work/err"
+shows 2 '' --hexa opened
+shows 2 '' opened cut
+if [ -w /dev/full ]; then
+    got=0
+    "$show" "$work/opened" >/dev/full 2>/dev/null || got=$?
+    [ $got = 3 ] || { echo "install: show_archive: exit status $got for text that could not be written"; exit 1; }
+fi
 make --no-print-directory uninstall PREFIX="$prefix" DESTDIR=
 left=$(find "$work/usr" -not -type d)
 [ -z "$left" ] || { echo "install: left behind: $left"; exit 1; }
