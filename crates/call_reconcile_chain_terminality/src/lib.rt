@@ -66,12 +66,7 @@ fn halt(b: BookData, k: usize, c: SubmissionChainTerminality) -> Retired
     let id = e.id;
     let stored = store_submitted(b, k, halted(t, c));
     let out = unqueue(unmark(stored, id), id);
-    let next = retire(out, id);
-    let book = next.book;
-    Retired {
-        full: next.full,
-        book: book,
-    }
+    retire(out, id)
 }
 
 // The submission at k is Active again.

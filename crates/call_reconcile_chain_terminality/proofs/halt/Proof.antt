@@ -25,9 +25,9 @@ retire-requires c κs = let p = c .before .before in let t = p .before .before .
     (c .before .unmark .ensures) (c .unqueue .ensures)
 
 returns : tie.Need-returns
-returns c = let p = c .before .before .before .before in let t = p .before .before .before .before in let s = t .before in
+returns c = let p = c .before .before .before in let t = p .before .before .before .before in let s = t .before in
     halted-by (stored-by (s .args .b) (s .args .k) (s .pre .0) (s .pre .1) (t .submitted-at .ensures) (p .before .halted .ensures) (p .store-submitted .ensures))
-    (c .before .before .before .unmark .ensures) (c .before .before .unqueue .ensures) (c .before .retire .result) (c .before .retire .ensures)
+    (c .before .before .unmark .ensures) (c .before .unqueue .ensures) (c .retire .result) (c .retire .ensures)
 
 pub halt-spec : {M : Type 1} → statement M
 halt-spec =
