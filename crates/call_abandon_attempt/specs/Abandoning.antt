@@ -7,13 +7,13 @@ use Rattle.book.specs.Model.{view, back}
 use Rattle.book.specs.Sound.{idOf, soundb}
 use Rattle.book.specs.declared.SubmittedTx.{SubmittedTx}
 use Rattle.book.specs.declared.BookData.{BookData}
-use Rattle.rules.specs.Call.{Applied, statusIs, Value}
+use Rattle.book_answers.specs.declared.SubmissionAttemptStatus.the-variants.{Applied}
+use Rattle.rules.specs.Call.{statusIs, Value}
 use Rattle.rules.specs.Rule.{Rule, done, act, turn, note, remove, retire, ended, undone, full, run}
 use Rattle.rules.specs.Steps.{noteBook, removeBook, onBook, runBook}
 use Rattle.rules.specs.Calls.Common.{withdraw}
 use Rattle.rules.specs.Calls.AbandonAttempt.{abandonLive}
 use Rattle.part_replies.specs.Reply.{statusReply}
-use Rattle.part_replies.specs.Values.{statusOf}
 use Rattle.part_replies.specs.declared.CallAnswer.the-variants.{Done}
 use Rattle.part_lookup.specs.Normal.{Normal}
 use Rattle.part_change.specs.declared.Retired.{Retired}
@@ -69,7 +69,7 @@ module _ (b : BookData) (sound : soundb b ≡ true) (k : ℕ) {s : SubmittedTx} 
   unfolding abandonLive withdraw ending
   abandon-full e = ap (statusReply b) (of-read abandonLive (view b) read (sym (full-run b sound (idOf s) gone retired e)))
 
-  pub abandon-answer : x .full ≡ false → record { answer = Done; status = statusOf Applied; book = x .book } ≡ statusReply b (runBook (abandonLive (at (view b) k)) (view b))
+  pub abandon-answer : x .full ≡ false → record { answer = Done; status = Applied; book = x .book } ≡ statusReply b (runBook (abandonLive (at (view b) k)) (view b))
   unfolding abandonLive withdraw ending
   abandon-answer e = status-ended b Applied (retired-book b sound (idOf s) gone retired e)
       (of-read abandonLive (view b) read (sym (done-run b sound (idOf s) gone retired e)))

@@ -1,6 +1,7 @@
 // `abandon_attempt`: the submission of a live attempt is removed and retired.
 use book::BookData;
 use book::Token;
+use book_answers::SubmissionAttemptStatus;
 use part_attempt_answers::live_place;
 use part_attempt_answers::status_done;
 use part_attempt_answers::status_inactive;
@@ -11,7 +12,6 @@ use part_lookup::Place;
 use part_lookup::find_attempt;
 use part_lookup::submitted_at;
 use part_replies::StatusReply;
-use part_replies::SubmissionAttemptStatus;
 ghost use Prim.Native.Nat.{_<_};
 ghost use mathlib.Core.Bool.{true};
 ghost use mathlib.Core.Path.{_≡_};

@@ -9,7 +9,8 @@ use Rattle.book.specs.Model.{Book, view, back}
 use Rattle.book.specs.Sound.{idOf, soundb}
 use Rattle.book.specs.declared.SubmittedTx.{SubmittedTx}
 use Rattle.book.specs.declared.BookData.{BookData}
-use Rattle.rules.specs.Call.{Applied, statusIs, Value}
+use Rattle.book_answers.specs.declared.SubmissionAttemptStatus.the-variants.{Applied}
+use Rattle.rules.specs.Call.{statusIs, Value}
 use Rattle.rules.specs.Parts.{currentFingerprint}
 use Rattle.rules.specs.Rule.{Rule, done, undo, acknowledge, unqueue, note, revise, setAside, _>>=_, _>>_, step, Outcome, ended, undone, run}
 use Rattle.rules.specs.Steps.{withEntry, withSlots, noteBook, onBook, runBook}
@@ -17,7 +18,6 @@ use Rattle.rules.specs.Steps.Entry.{revised}
 use Rattle.rules.specs.Steps.Slots.{slotsAside, resolved}
 use Rattle.rules.specs.Calls.AcknowledgeAttempt.{acknowledgeLive}
 use Rattle.part_replies.specs.Reply.{statusReply}
-use Rattle.part_replies.specs.Values.{statusOf}
 use Rattle.part_replies.specs.declared.CallAnswer.the-variants.{Done}
 use Rattle.part_lookup.specs.Normal.{view-of}
 use Rattle.part_change.specs.Changes.{storedAt}
@@ -85,7 +85,7 @@ module _ (b : BookData) (sound : soundb b ≡ true) (k : ℕ) (within : k < leng
     pub acknowledge-answer : finalised s ≡ true → eqs (currentFingerprint (s .entry)) (final s) ≡ true
         → {f : List ℕ} {x : SubmittedTx} {stored out : BookData} → f ≡ final s → x ≡ acknowledgedAside f s → stored ≡ back (storedAt k x (view b))
         → out ≡ back (noteBook (unqueue (idOf s)) (view stored))
-        → record { answer = Done; status = statusOf Applied; book = out } ≡ statusReply b (runBook (acknowledgeLive (at (view b) k)) (view b))
+        → record { answer = Done; status = Applied; book = out } ≡ statusReply b (runBook (acknowledgeLive (at (view b) k)) (view b))
     acknowledge-answer e q {f} {x} f-is x-is stored-is out-is =
         status-ended b Applied
         (out-is

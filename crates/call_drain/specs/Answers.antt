@@ -1,9 +1,9 @@
 -- The answers of a drain in counted cells, and the lists that they hold.
 use Prim.Native.Nat.{ℕ, _+_, _≤_, _<_}
-use mathlib.Core.List.{List, [], _∷_, _++_, map, append-nil, map-append}
+use mathlib.Core.List.{List, [], _∷_, _++_, append-nil}
 use mathlib.Core.Path.{_≡_, refl, sym, ap, _∙_}
 use native.Mathlib.Omega.{arith}
-use lib.ListN.{length, set, length-append, length-map}
+use lib.ListN.{length, set, length-append}
 use Rattle.base_lists.specs.Lists.{cells}
 use Rattle.base_lists.specs.Laws.{take-cells, length-cells, length-snoc}
 use Rattle.book.specs.Model.{list16, ids16}
@@ -12,28 +12,26 @@ use Rattle.book.specs.declared.Ids16.{Ids16}
 use Rattle.book.specs.declared.SubmissionId.{SubmissionId}
 use Rattle.book.specs.declared.BookData.{BookData}
 use Rattle.part_ids.specs.Counted.{counted-push}
-use Rattle.rules.specs.Rule as rule
 use Rattle.rules.specs.Calls.Plan.{Memory}
 use Rattle.part_replies.specs.declared.CallAnswer.the-variants.{Done}
-use Rattle.part_submitted.specs.declared.DrainedSubmission.{DrainedSubmission}
-use Rattle.part_submitted.specs.Drained.{drainedOf, drainedBack, zeroDrained, drained-back}
-use Rattle.part_drain_answers.specs.Failures.{failureOf, failureBack, zeroFailure, failure-back}
+use Rattle.book_answers.specs.declared.DrainedSubmission.{DrainedSubmission}
+use Rattle.book_answers.specs.Zero.{zeroDrained, zeroFailure}
 use Rattle.part_drain_answers.specs.declared.DrainReply.{DrainReply}
-use Rattle.part_drain_answers.specs.declared.SubmissionDrainFailure.{SubmissionDrainFailure}
+use Rattle.book_answers.specs.declared.SubmissionDrainFailure.{SubmissionDrainFailure}
 use Rattle.part_plan.specs.declared.PlanAction.{PlanAction}
 use Rattle.part_plan.specs.declared.PlanAction.the-variants.{Passed, Failed, Removed, Stored, Issued}
 use Rattle.part_plan.specs.declared.SubmissionPlanDelta.{SubmissionPlanDelta}
 use Rattle.call_drain.specs.declared.DrainAnswers.{DrainAnswers}
 use Rattle.call_drain.specs.Carried.{memoryBy, drainedIn}
 
-abbrev pub answersOf : List rule.DrainedSubmission → Memory → DrainAnswers
+abbrev pub answersOf : List DrainedSubmission → Memory → DrainAnswers
 answersOf xs a = record {
   emitted = ids16 (a .emitted);
   removed = ids16 (a .removed);
   «submission_count» = length xs;
-  submissions = cells 16 zeroDrained (map drainedBack xs);
+  submissions = cells 16 zeroDrained xs;
   «failure_count» = length (a .failed);
-  failures = cells 16 zeroFailure (map failureBack (a .failed));
+  failures = cells 16 zeroFailure (a .failed);
 }
 
 -- ---- the cells after a plan
@@ -94,7 +92,7 @@ pub record Room (a : DrainAnswers) : Type 0 where
   pub failures-long : length (a .failures) ≡ 16
 
 -- at most n of each
-pub record Few (n : ℕ) (xs : List rule.DrainedSubmission) (a : Memory) : Type 0 where
+pub record Few (n : ℕ) (xs : List DrainedSubmission) (a : Memory) : Type 0 where
   pub emitted : length (a .emitted) ≤ n
   pub removed : length (a .removed) ≤ n
   pub failed : length (a .failed) ≤ n
@@ -105,10 +103,7 @@ ids-room is {x} e h =
     let c : x .count ≡ length is = ap (λ (y : Ids16). y .count) e in
     (omega arith, e ∙ ap ids16 (sym (take-cells 16 0 is) ∙ sym (ap list16 e)))
 
-cells-long : {A B : Type 0} (z : B) (f : A → B) (xs : List A) → length xs < 16 → length (cells 16 z (map f xs)) ≡ 16
-cells-long z f xs h = length-cells 16 z (map f xs) (let l = length-map xs f in omega arith)
-
-pub room : (xs : List rule.DrainedSubmission) (a : Memory) {d : DrainAnswers} → d ≡ answersOf xs a → {n : ℕ} → Few n xs a → n < 16 → Room d
+pub room : (xs : List DrainedSubmission) (a : Memory) {d : DrainAnswers} → d ≡ answersOf xs a → {n : ℕ} → Few n xs a → n < 16 → Room d
 room xs a {d} e {n} k h =
     let s : d .«submission_count» ≡ length xs = ap (λ (y : DrainAnswers). y .«submission_count») e in
     let f : d .«failure_count» ≡ length (a .failed) = ap (λ (y : DrainAnswers). y .«failure_count») e in
@@ -116,34 +111,28 @@ room xs a {d} e {n} k h =
       emitted = ids-room (a .emitted) (ap (λ (y : DrainAnswers). y .emitted) e) (let l = k .emitted in omega arith);
       removed = ids-room (a .removed) (ap (λ (y : DrainAnswers). y .removed) e) (let l = k .removed in omega arith);
       submissions = let l = k .issued in omega arith;
-      submissions-long = ap (λ (y : DrainAnswers). length (y .submissions)) e ∙ cells-long zeroDrained drainedBack xs (let l = k .issued in omega arith);
+      submissions-long = ap (λ (y : DrainAnswers). length (y .submissions)) e ∙ length-cells 16 zeroDrained xs (let l = k .issued in omega arith);
       failures = let l = k .failed in omega arith;
-      failures-long = ap (λ (y : DrainAnswers). length (y .failures)) e ∙ cells-long zeroFailure failureBack (a .failed) (let l = k .failed in omega arith);
+      failures-long = ap (λ (y : DrainAnswers). length (y .failures)) e ∙ length-cells 16 zeroFailure (a .failed) (let l = k .failed in omega arith);
     }
 
 -- ---- the lists after a plan
--- one more at the end of mapped cells
-push-mapped : {A B : Type 0} (z : B) (f : A → B) (xs : List A) (x : A) {y : B} → f x ≡ y → length xs < 16
-    → Counted 16 z (length xs + 1) (set (cells 16 z (map f xs)) (length xs) y) (map f (xs ++ x ∷ []))
-push-mapped {A} {B} z f xs x {y} e h =
-    let l : length (map f xs) ≡ length xs = length-map xs f in
-    let c : Counted 16 z (length xs) (cells 16 z (map f xs)) (map f xs) = record { count = sym l; held = refl } in
-    let q : map f xs ++ y ∷ [] ≡ map f (xs ++ x ∷ []) = ap (λ (w : B). map f xs ++ w ∷ []) (sym e) ∙ sym (map-append f xs (x ∷ [])) in
-    let k = counted-push c y h in
-    record { count = k .count ∙ ap length q; held = k .held ∙ ap (cells 16 z) q }
+-- one more at the end of counted cells
+push : {A : Type 0} (z : A) (xs : List A) (x : A) → length xs < 16 → set (cells 16 z xs) (length xs) x ≡ cells 16 z (xs ++ x ∷ [])
+push z xs x h = let c : Counted 16 z (length xs) (cells 16 z xs) xs = record { count = refl; held = refl } in counted-push c x h .held
 
 push-ids : (is : List ℕ) (i : ℕ) → ids16 (list16 (ids16 is) ++ i ∷ []) ≡ ids16 (is ++ i ∷ [])
 push-ids is i = ap (λ (js : List ℕ). ids16 (js ++ i ∷ [])) (take-cells 16 0 is)
 
-module _ (p : SubmissionPlanDelta) (xs : List rule.DrainedSubmission) (a : Memory) where
-  issued-after : length xs < 16 → withSubmission (p .tx .entry .id) (p .submission) (answersOf xs a) ≡ answersOf (xs ++ drainedOf (p .submission) ∷ []) (memoryBy Issued p a)
+module _ (p : SubmissionPlanDelta) (xs : List DrainedSubmission) (a : Memory) where
+  issued-after : length xs < 16 → withSubmission (p .tx .entry .id) (p .submission) (answersOf xs a) ≡ answersOf (xs ++ p .submission ∷ []) (memoryBy Issued p a)
   issued-after h = λ i. record {
     emitted = push-ids (a .emitted) (p .tx .entry .id .0) i;
     removed = ids16 (a .removed);
-    «submission_count» = sym (length-snoc xs (drainedOf (p .submission))) i;
-    submissions = push-mapped zeroDrained drainedBack xs (drainedOf (p .submission)) (drained-back (p .submission)) h .held i;
+    «submission_count» = sym (length-snoc xs (p .submission)) i;
+    submissions = push zeroDrained xs (p .submission) h i;
     «failure_count» = length (a .failed);
-    failures = cells 16 zeroFailure (map failureBack (a .failed));
+    failures = cells 16 zeroFailure (a .failed);
   }
 
   failed-after : length (a .failed) < 16 → withFailed (p .failure) (answersOf xs a) ≡ answersOf xs (memoryBy Failed p a)
@@ -151,9 +140,9 @@ module _ (p : SubmissionPlanDelta) (xs : List rule.DrainedSubmission) (a : Memor
     emitted = ids16 (a .emitted);
     removed = ids16 (a .removed);
     «submission_count» = length xs;
-    submissions = cells 16 zeroDrained (map drainedBack xs);
-    «failure_count» = sym (length-snoc (a .failed) (failureOf (p .failure))) i;
-    failures = push-mapped zeroFailure failureBack (a .failed) (failureOf (p .failure)) (failure-back (p .failure)) h .held i;
+    submissions = cells 16 zeroDrained xs;
+    «failure_count» = sym (length-snoc (a .failed) (p .failure)) i;
+    failures = push zeroFailure (a .failed) (p .failure) h i;
   }
 
   removed-after : length (a .failed) < 16 → withRemoval (p .failure) (answersOf xs a) ≡ answersOf xs (memoryBy Removed p a)
@@ -161,19 +150,19 @@ module _ (p : SubmissionPlanDelta) (xs : List rule.DrainedSubmission) (a : Memor
     emitted = ids16 (a .emitted);
     removed = push-ids (a .removed) (p .failure .«candidate_id» .0) i;
     «submission_count» = length xs;
-    submissions = cells 16 zeroDrained (map drainedBack xs);
-    «failure_count» = sym (length-snoc (a .failed) (failureOf (p .failure))) i;
-    failures = push-mapped zeroFailure failureBack (a .failed) (failureOf (p .failure)) (failure-back (p .failure)) h .held i;
+    submissions = cells 16 zeroDrained xs;
+    «failure_count» = sym (length-snoc (a .failed) (p .failure)) i;
+    failures = push zeroFailure (a .failed) (p .failure) h i;
   }
 
   none-more : answersOf xs a ≡ answersOf (xs ++ []) a
-  none-more = ap (λ (ys : List rule.DrainedSubmission). answersOf ys a) (sym (append-nil xs))
+  none-more = ap (λ (ys : List DrainedSubmission). answersOf ys a) (sym (append-nil xs))
 
   pub after-is : (k : PlanAction) {d : DrainAnswers} → d ≡ answersOf xs a → length xs < 16 → length (a .failed) < 16
       → answersBy k p d ≡ answersOf (xs ++ drainedIn k p) (memoryBy k p a)
   after-is Passed e h j = e ∙ none-more
-  after-is Failed e h j = ap (withFailed (p .failure)) e ∙ failed-after j ∙ ap (λ (ys : List rule.DrainedSubmission). answersOf ys (memoryBy Failed p a)) (sym (append-nil xs))
-  after-is Removed e h j = ap (withRemoval (p .failure)) e ∙ removed-after j ∙ ap (λ (ys : List rule.DrainedSubmission). answersOf ys (memoryBy Removed p a)) (sym (append-nil xs))
+  after-is Failed e h j = ap (withFailed (p .failure)) e ∙ failed-after j ∙ ap (λ (ys : List DrainedSubmission). answersOf ys (memoryBy Failed p a)) (sym (append-nil xs))
+  after-is Removed e h j = ap (withRemoval (p .failure)) e ∙ removed-after j ∙ ap (λ (ys : List DrainedSubmission). answersOf ys (memoryBy Removed p a)) (sym (append-nil xs))
   after-is Stored e h j = e ∙ none-more
   after-is Issued e h j = ap (withSubmission (p .tx .entry .id) (p .submission)) e ∙ issued-after h
 
@@ -202,8 +191,8 @@ module _ (p : SubmissionPlanDelta) (xs : List rule.DrainedSubmission) (a : Memor
 
       failed : (k : PlanAction) {n : ℕ} → length (a .failed) ≤ n → length (memoryBy k p a .failed) ≤ n + 1
       failed Passed h = omega arith
-      failed Failed h = let e = length-snoc (a .failed) (failureOf (p .failure)) in omega arith
-      failed Removed h = let e = length-snoc (a .failed) (failureOf (p .failure)) in omega arith
+      failed Failed h = let e = length-snoc (a .failed) (p .failure) in omega arith
+      failed Removed h = let e = length-snoc (a .failed) (p .failure) in omega arith
       failed Stored h = omega arith
       failed Issued h = omega arith
 

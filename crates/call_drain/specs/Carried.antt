@@ -9,12 +9,11 @@ use Rattle.book.specs.Model.{Book, view, back}
 use Rattle.book.specs.Sound.{idOf}
 use Rattle.book.specs.declared.BookData.{BookData}
 use Rattle.book.specs.declared.SubmittedTx.{SubmittedTx}
-use Rattle.rules.specs.Rule.{DrainedSubmission, retire, Outcome, ended, undone, stopped}
+use Rattle.book_answers.specs.declared.DrainedSubmission.{DrainedSubmission}
+use Rattle.rules.specs.Rule.{retire, Outcome, ended, undone, stopped}
 use Rattle.rules.specs.Steps.{noteBook, removeBook}
 use Rattle.rules.specs.Calls.Plan.{Memory, withEmitted, withRemoved}
-use Rattle.part_submitted.specs.Drained.{drainedOf}
-use Rattle.part_drain_answers.specs.Failures.{failureOf}
-use Rattle.part_drain_answers.specs.declared.SubmissionDrainFailure.{SubmissionDrainFailure}
+use Rattle.book_answers.specs.declared.SubmissionDrainFailure.{SubmissionDrainFailure}
 use Rattle.part_plan.specs.declared.PlanAction.{PlanAction}
 use Rattle.part_plan.specs.declared.PlanAction.the-variants.{Passed, Failed, Removed, Stored, Issued}
 use Rattle.part_plan.specs.declared.PlanAnswer.{PlanAnswer}
@@ -42,7 +41,7 @@ abbrev pub withdrawn : ℕ → Book → Book
 withdrawn i m = noteBook (retire i) (removeBook i m)
 
 abbrev pub withFailureOf : SubmissionDrainFailure → Memory → Memory
-withFailureOf f a = record { emitted = a .emitted; removed = a .removed; failed = a .failed ++ failureOf f ∷ [] }
+withFailureOf f a = record { emitted = a .emitted; removed = a .removed; failed = a .failed ++ f ∷ [] }
 
 abbrev pub bookBy : PlanAction → SubmissionPlanDelta → Book → Book
 bookBy Passed p m = m
@@ -63,7 +62,7 @@ drainedIn Passed p = []
 drainedIn Failed p = []
 drainedIn Removed p = []
 drainedIn Stored p = []
-drainedIn Issued p = drainedOf (p .submission) ∷ []
+drainedIn Issued p = p .submission ∷ []
 
 -- what the rules come to where the plan is carried out: 10, nothing is left; 11, the submission is stored
 abbrev pub outcomeBy : PlanAnswer → SubmissionPlanDelta → Memory → Book → Outcome Book Memory

@@ -18,7 +18,8 @@ use Rattle.book.specs.SoundLaws.{sound-lists, Counted}
 use Rattle.book.specs.declared.BookData.{BookData}
 use Rattle.book.specs.declared.PendingDelivery.{PendingDelivery}
 use Rattle.rules.specs.Call.{Value, failures}
-use Rattle.rules.specs.Rule.{DrainedSubmission, Rule, turn, note, unqueueAll, Outcome, ended, undone, logged, run, left, followed, run-bind, logged-logged}
+use Rattle.book_answers.specs.declared.DrainedSubmission.{DrainedSubmission}
+use Rattle.rules.specs.Rule.{Rule, turn, note, unqueueAll, Outcome, ended, undone, logged, run, left, followed, run-bind, logged-logged}
 use Rattle.rules.specs.Steps.{onBook, noteBook, runBook}
 use Rattle.rules.specs.Calls.Plan.{Memory, blank}
 use Rattle.rules.specs.Calls.Drain.{oneCandidate, candidates, drain}

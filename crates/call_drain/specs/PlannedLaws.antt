@@ -21,8 +21,8 @@ use Rattle.rules.specs.Calls.Drain.{isOneOf}
 use Rattle.part_lookup.specs.Normal.{Normal, submitted-are}
 use Rattle.part_lookup.specs.Place.{placeOf, placeOfId, hasIntent}
 use Rattle.part_lookup.specs.declared.Place.the-variants.{At, Nothing}
-use Rattle.part_drain_answers.specs.Failures.{zeroFailure}
-use Rattle.part_drain_answers.specs.declared.DrainFailureCause.the-variants.{NoRetainedState}
+use Rattle.book_answers.specs.Zero.{zeroFailure}
+use Rattle.book_answers.specs.declared.DrainFailureCause.the-variants.{NoRetainedState}
 use Rattle.part_plan.specs.declared.PlanAction.the-variants.{Passed, Failed}
 use Rattle.part_plan.specs.declared.PlanAnswer.the-variants.{Planned}
 use Rattle.part_plan.specs.declared.SubmittedPlace.{SubmittedPlace}

@@ -21,13 +21,12 @@ use Rattle.book.specs.declared.OptionalId.the-variants.{NoId, Of}
 use Rattle.book.specs.declared.SubmissionId.{SubmissionId}
 use Rattle.book.specs.declared.PendingDelivery.{PendingDelivery}
 use Rattle.book.specs.declared.SubmittedTx.{SubmittedTx}
-use Rattle.part_slots.specs.Meaning.{relationshipOf, relationshipBack}
-use Rattle.part_submitted.specs.Drained.{tokenOf, tokenBack, drainedOf, drainedBack}
-use Rattle.rules.specs.Call.{Cause, IdCollides, OutputsUnreadable, IdsExhausted}
+use Rattle.book_answers.specs.declared.DrainFailureCause.{DrainFailureCause}
+use Rattle.book_answers.specs.declared.DrainFailureCause.the-variants.{NoRetainedState, IdCollides, OutputsUnreadable, IdsExhausted}
+use Rattle.book_answers.specs.declared.DrainedSubmission.{DrainedSubmission}
 use Rattle.rules.specs.Keyed.{pick, change}
 use Rattle.rules.specs.Parts.{currentFingerprint, intentOf}
-use Rattle.rules.specs.Rule as rule
-use Rattle.rules.specs.Rule.{Relationship, Rule, done, stop, look, act, note, retire, revise, retain, emit, remove, tighten, Effect, Outcome, ended, full, run}
+use Rattle.rules.specs.Rule.{Rule, done, stop, look, act, note, retire, revise, retain, emit, remove, tighten, Effect, Outcome, ended, full, run}
 use Rattle.rules.specs.Steps.{withSubmitted, withSlots, noteBook, reviseBook, retainable, retained, retainBook, issueBook, emitTo, emitBook, removeBook, onBook, runBook}
 use Rattle.rules.specs.Steps.Entry.{revised, newEntry}
 use Rattle.rules.specs.Steps.Notes.{forgotten}
@@ -46,8 +45,7 @@ use Rattle.part_change.specs.ChangeLaws.{revise-at}
 use Rattle.part_sound_laws.specs.Acts.{act-full, act-silent}
 use Rattle.part_sound_laws.specs.Holds.{sound-stepped}
 use Rattle.part_sound_laws.specs.Room.{full-retire, full-retain}
-use Rattle.part_drain_answers.specs.Failures.{causeBack, cause-of, failureOf, zeroFailure}
-use Rattle.part_drain_answers.specs.declared.DrainFailureCause.the-variants as cause
+use Rattle.book_answers.specs.Zero.{zeroFailure}
 use Rattle.part_plan.specs.declared.PlanAction.the-variants.{Passed, Failed, Removed, Stored, Issued}
 use Rattle.part_plan.specs.declared.PlanAnswer.the-variants.{Full, Exhausted, Planned}
 use Rattle.part_plan.specs.declared.SubmittedPlace.{SubmittedPlace}
@@ -67,29 +65,6 @@ carries-by e h = record { outcome = e ∙ h .outcome; fits = h .fits }
 
 ids-of : {m : Book} → SoundBook m → distinctb (map idOf (m .submitted)) ≡ true
 ids-of {m} s = sound-lists m (s .lists) .ids
-
--- ---- what is handed out, there and back
-token-of : (t : Option ℕ) → tokenOf (tokenBack t) ≡ t
-token-of none = refl
-token-of (some t) = refl
-
-relationship-of : (r : Relationship) → relationshipOf (relationshipBack r) ≡ r
-relationship-of rule.Initial = refl
-relationship-of rule.Exact = refl
-relationship-of rule.NewerFeeBearing = refl
-relationship-of rule.Other = refl
-
-drained-of : (d : rule.DrainedSubmission) → drainedOf (drainedBack d) ≡ d
-unfolding drainedOf drainedBack
-drained-of d = λ i. record {
-  id = d .id;
-  token = d .token;
-  predecessor = token-of (d .predecessor) i;
-  relationship = relationship-of (d .relationship) i;
-  bundle = d .bundle;
-  expiry = d .expiry;
-  feeIntent = d .feeIntent;
-}
 
 -- ---- `deliver`, of the submission t in the place p
 module _ (p : SubmittedPlace) (t : SubmittedTx) (g : SubmissionDeliveryGoal) (a : Memory) (m : Book) (fits : InPlace p m)
@@ -111,7 +86,7 @@ module _ (p : SubmittedPlace) (t : SubmittedTx) (g : SubmissionDeliveryGoal) (a 
   abbrev issuedTx : SubmittedTx
   issuedTx = withSlots (slotsIssued (issueAttempt (p .«next_token» .0) g (currentFingerprint (t .entry)))) t
 
-  abbrev handedOut : rule.DrainedSubmission
+  abbrev handedOut : DrainedSubmission
   handedOut = handed (p .«next_token» .0) g (t .entry) (taken (t .slots))
 
   emit-is : emitBook (idOf t) g (placed p t m) ≡ record { after = placed (tokenTaken p) issuedTx m; out = handedOut ∷ [] }
@@ -133,9 +108,7 @@ module _ (p : SubmittedPlace) (t : SubmittedTx) (g : SubmissionDeliveryGoal) (a 
 
   emitted-is : runBook (act (emit (idOf t) g) (done (withEmitted (idOf t) a))) (placed p t m) ≡ outcomeBy (Planned Issued) (issuePlan p t g) a m
   unfolding run onBook issuePlan
-  emitted-is =
-      ap (λ (e : Effect Book). ended (e .after) (e .out ++ []) (withEmitted (idOf t) a)) emit-is
-      ∙ ap (λ (x : rule.DrainedSubmission). ended (placed (tokenTaken p) issuedTx m) (x ∷ []) (withEmitted (idOf t) a)) (sym (drained-of handedOut))
+  emitted-is = ap (λ (e : Effect Book). ended (e .after) (e .out ++ []) (withEmitted (idOf t) a)) emit-is
 
   issue-carries : Carries (runBook (act (emit (idOf t) g) (done (withEmitted (idOf t) a))) (placed p t m)) (issuePlan p t g) a m
   unfolding issuePlan
@@ -206,8 +179,8 @@ module _ (m : Book) (s : SoundBook m) (c : PendingDelivery) (a : Memory) (k : �
   retire-full = full-retire (removeBook (idOf t) m) (removed-sound .fits) (idOf t) ∙ ap (λ (is : List ℕ). ltb 64 (length (pushNew is (idOf t)))) kept-retired
 
   module _ (n : ℕ) (f : List ℕ) where
-    miss-carries : (x : Cause) → Carries (runBook (knownBy n c f t a (some x)) m) (removalPlan (m .retired) (failureAt n (causeBack x) (t .entry .id) f)) a m
-    unfolding withdraw removalPlan onBook run failureOf
+    miss-carries : (x : DrainFailureCause) → Carries (runBook (knownBy n c f t a (some x)) m) (removalPlan (m .retired) (failureAt n x (t .entry .id) f)) a m
+    unfolding withdraw removalPlan onBook run
     miss-carries x =
         carries-by (act-silent (remove (idOf t)) (act (note (retire (idOf t))) (done after)) m refl refl) (by (ltb 64 (length (pushNew (m .retired) (idOf t)))) refl)
       where
@@ -215,12 +188,10 @@ module _ (m : Book) (s : SoundBook m) (c : PendingDelivery) (a : Memory) (k : �
         after = withFailure n x (idOf t) f (withRemoved (idOf t) a)
 
         by : (u : Bool) → ltb 64 (length (pushNew (m .retired) (idOf t))) ≡ u
-            → Carries (runBook (act (note (retire (idOf t))) (done after)) (removeBook (idOf t) m)) (failing (cond u Full (Planned Removed)) (failureAt n (causeBack x) (t .entry .id) f)) a m
+            → Carries (runBook (act (note (retire (idOf t))) (done after)) (removeBook (idOf t) m)) (failing (cond u Full (Planned Removed)) (failureAt n x (t .entry .id) f)) a m
         by true e = record { outcome = act-full (note (retire (idOf t))) (done after) (removeBook (idOf t) m) (retire-full ∙ e); fits = tt }
         by false e = record {
-          outcome =
-              act-silent (note (retire (idOf t))) (done after) (removeBook (idOf t) m) (retire-full ∙ e) refl
-              ∙ ap (λ (y : Cause). ended (withdrawn (idOf t) m) [] (withFailure n y (idOf t) f (withRemoved (idOf t) a))) (sym (cause-of x));
+          outcome = act-silent (note (retire (idOf t))) (done after) (removeBook (idOf t) m) (retire-full ∙ e) refl;
           fits = ltb-false 64 (length (pushNew (m .retired) (idOf t))) e;
         }
 
@@ -228,7 +199,7 @@ module _ (m : Book) (s : SoundBook m) (c : PendingDelivery) (a : Memory) (k : �
     unfolding known knownPlan
     known-carries = by (missOf (c .intent) f (t .entry))
       where
-        by : (o : Option Cause) → Carries (runBook (knownBy n c f t a o) m) (knownPlanBy (placeOn k m) (a .emitted) (m .retired) n c f t o) a m
+        by : (o : Option DrainFailureCause) → Carries (runBook (knownBy n c f t a o) m) (knownPlanBy (placeOn k m) (a .emitted) (m .retired) n c f t o) a m
         by none = met-carries
         by (some x) = miss-carries x
 
@@ -293,26 +264,26 @@ module _ (m : Book) (s : SoundBook m) (c : PendingDelivery) (sc : soundIntent (c
   newPlan = cond (eqb (length (m .submitted)) 16) (failing Full zeroFailure) (retainPlan end (a .emitted) c)
 
   pub unknown-carries : (n : ℕ) (f : List ℕ) → Carries (runBook (unknown n c f m a) m) (unknownPlan end (a .emitted) (map idOf (m .submitted)) n c f) a m
-  unfolding unknown unknownPlan run failureOf
+  unfolding unknown unknownPlan run
   unknown-carries n f = held (elemb (m .nextId .0) (map idOf (m .submitted))) refl
     where
       new : Rule Memory
       new = act (retain (c .intent)) (deliver (m .nextId .0) (c .goal) a)
 
       last : elemb (m .nextId .0) (map idOf (m .submitted)) ≡ false → readableBundle (c .intent .bundle) ≡ true → (u : Bool)
-          → Carries (runBook (cond u (done (withFailure n IdsExhausted (m .nextId .0) f a)) new) m) (cond u (failing (Planned Failed) (failureAt n cause.IdsExhausted (m .nextId) f)) newPlan) a m
+          → Carries (runBook (cond u (done (withFailure n IdsExhausted (m .nextId .0) f a)) new) m) (cond u (failing (Planned Failed) (failureAt n IdsExhausted (m .nextId) f)) newPlan) a m
       last h r true = record { outcome = refl; fits = tt }
       last h r false = new-carries h r (eqb (length (m .submitted)) 16) refl
 
       reads : elemb (m .nextId .0) (map idOf (m .submitted)) ≡ false → (u : Bool) → not (readableBundle (c .intent .bundle)) ≡ u
           → Carries (runBook (cond u (done (withFailure n OutputsUnreadable (m .nextId .0) f a)) (cond (eqb (m .nextId .0) last64) (done (withFailure n IdsExhausted (m .nextId .0) f a)) new)) m)
-          (cond u (failing (Planned Failed) (failureAt n cause.OutputsUnreadable (m .nextId) f)) (cond (eqb (m .nextId .0) last64) (failing (Planned Failed) (failureAt n cause.IdsExhausted (m .nextId) f)) newPlan)) a m
+          (cond u (failing (Planned Failed) (failureAt n OutputsUnreadable (m .nextId) f)) (cond (eqb (m .nextId .0) last64) (failing (Planned Failed) (failureAt n IdsExhausted (m .nextId) f)) newPlan)) a m
       reads h true e = record { outcome = refl; fits = tt }
       reads h false e = last h (not-false (readableBundle (c .intent .bundle)) e) (eqb (m .nextId .0) last64)
 
       held : (u : Bool) → elemb (m .nextId .0) (map idOf (m .submitted)) ≡ u
           → Carries (runBook (cond u (done (withFailure n IdCollides (m .nextId .0) f a)) (cond (not (readableBundle (c .intent .bundle))) (done (withFailure n OutputsUnreadable (m .nextId .0) f a)) (cond (eqb (m .nextId .0) last64) (done (withFailure n IdsExhausted (m .nextId .0) f a)) new))) m)
-          (cond u (failing (Planned Failed) (failureAt n cause.IdCollides (m .nextId) f)) (cond (not (readableBundle (c .intent .bundle))) (failing (Planned Failed) (failureAt n cause.OutputsUnreadable (m .nextId) f)) (cond (eqb (m .nextId .0) last64) (failing (Planned Failed) (failureAt n cause.IdsExhausted (m .nextId) f)) newPlan))) a m
+          (cond u (failing (Planned Failed) (failureAt n IdCollides (m .nextId) f)) (cond (not (readableBundle (c .intent .bundle))) (failing (Planned Failed) (failureAt n OutputsUnreadable (m .nextId) f)) (cond (eqb (m .nextId .0) last64) (failing (Planned Failed) (failureAt n IdsExhausted (m .nextId) f)) newPlan))) a m
       held true e = record { outcome = refl; fits = tt }
       held false e = reads e (not (readableBundle (c .intent .bundle))) refl
 
@@ -331,8 +302,8 @@ module _ (m : Book) (s : SoundBook m) (c : PendingDelivery) (sc : soundIntent (c
         carries-by (ap (λ (ts : List SubmittedTx). runBook (unnamed n c print m a ts) m) (none-passes (hasIntent print) (m .submitted) e)) (unknown-carries n print)
 
     named-carries : (i : SubmissionId) (x : Place) → placeOf (hasId (i .0)) (m .submitted) ≡ x → Carries (runBook (named n c print (i .0) a (filterb (hasId (i .0)) (m .submitted))) m)
-        (foundPlan m (a .emitted) n c print (failing (Planned Failed) (failureAt n cause.NoRetainedState i print)) x) a m
-    unfolding run failureOf
+        (foundPlan m (a .emitted) n c print (failing (Planned Failed) (failureAt n NoRetainedState i print)) x) a m
+    unfolding run
     named-carries i (At k) e =
         let h = at-first (hasId (i .0)) (m .submitted) e in
         carries-by (ap (λ (ts : List SubmittedTx). runBook (named n c print (i .0) a ts) m) (first-filter (hasId (i .0)) (m .submitted) zeroSubmitted h))

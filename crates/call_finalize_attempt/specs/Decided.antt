@@ -6,12 +6,12 @@ use Rattle.book.specs.Model.{view, back}
 use Rattle.book.specs.declared.BookData.{BookData}
 use Rattle.book.specs.declared.SpendBundle.{SpendBundle}
 use Rattle.book.specs.declared.SubmittedTx.{SubmittedTx}
-use Rattle.rules.specs.Call.{FeeSource}
+use Rattle.book_answers.specs.declared.SubmissionFeeSource.{SubmissionFeeSource}
 use Rattle.rules.specs.Parts.{feeUnresolved}
 use Rattle.rules.specs.Rule.{undone}
 use Rattle.rules.specs.Steps.{runBook}
 use Rattle.rules.specs.Calls.Finalized.{unusedFee, currentFinal}
-use Rattle.rules.specs.Calls.FinalizeAttempt.{isJoined, isNoSource, finalizeWith}
+use Rattle.rules.specs.Calls.FinalizeAttempt.{isJoined, isNotRequested, finalizeWith}
 use Rattle.part_replies.specs.Reply.{finalizeReply}
 use Rattle.part_replies.specs.declared.FinalizeReply.{FinalizeReply}
 use Rattle.part_replies.specs.declared.CallAnswer.the-variants.{Done}
@@ -26,14 +26,14 @@ use Rattle.call_finalize_attempt.specs.Tests.{fee-attached, fee-unused, 
 abbrev pub stored : BookData → ℕ → Decision → FinalizeReply
 stored b k d = record { answer = Done; present = true; finalized = d .last; book = back (storedAt k (d .next) (view b)) }
 
-module _ (b : BookData) (k : ℕ) (s : SubmittedTx) (h : Standing b k s) (source : FeeSource) (j : SpendBundle) where
+module _ (b : BookData) (k : ℕ) (s : SubmittedTx) (h : Standing b k s) (source : SubmissionFeeSource) (j : SpendBundle) where
   abbrev reply : Decision → FinalizeReply
   reply d = cond (d .refused) (finalizeReply b (undone 9)) (stored b k d)
 
   abbrev ruled : FinalizeReply
   ruled = finalizeReply b (runBook (finalizeWith source j s) (view b))
 
-  by-tests : (o t n : Bool) → feeUnresolved (s .entry) ≡ o → isJoined source ≡ t → isNoSource source ≡ n → reply (byTests j s o t n) ≡ ruled
+  by-tests : (o t n : Bool) → feeUnresolved (s .entry) ≡ o → isJoined source ≡ t → isNotRequested source ≡ n → reply (byTests j s o t n) ≡ ruled
   by-tests true true n p q r = attach-answer b k s h j refl refl ∙ ap (finalizeReply b) (fee-attached source j s (view b) p q)
   by-tests true false n p q r = finalize-answer b k s h (unusedFee (s .slots .«active_attempt» .attempt .goal) (s .entry)) refl ∙ ap (finalizeReply b) (fee-unused source j s (view b) p q)
   by-tests false t true p q r = finalize-answer b k s h (currentFinal (s .slots .«active_attempt» .attempt .goal) (s .entry)) refl ∙ ap (finalizeReply b) (fee-current source j s (view b) p r)
@@ -41,7 +41,7 @@ module _ (b : BookData) (k : ℕ) (s : SubmittedTx) (h : Standing b k s) (source
 
   by-decision : reply (decision source j s) ≡ ruled
   unfolding decision
-  by-decision = by-tests (feeUnresolved (s .entry)) (isJoined source) (isNoSource source) refl refl refl
+  by-decision = by-tests (feeUnresolved (s .entry)) (isJoined source) (isNotRequested source) refl refl refl
 
   module _ {d : Decision} (e : d ≡ decision source j s) where
     pub decided-refused : d .refused ≡ true → finalizeReply b (undone 9) ≡ ruled

@@ -9,17 +9,18 @@ use Rattle.book.specs.Sound.{idOf, soundBundle}
 use Rattle.book.specs.Zero.{isZeroBundle}
 use Rattle.book.specs.declared.SpendBundle.{SpendBundle}
 use Rattle.book.specs.declared.SubmittedTx.{SubmittedTx}
-use Rattle.rules.specs.Call.{FeeSource, Value, finalized}
+use Rattle.book_answers.specs.declared.SubmissionFeeSource.{SubmissionFeeSource}
+use Rattle.rules.specs.Call.{Value, finalized}
 use Rattle.rules.specs.Parts.{currentFingerprint, feeUnresolved, validate}
 use Rattle.rules.specs.Rule.{Rule, undo, undone, run}
 use Rattle.rules.specs.Steps.{runBook}
 use Rattle.rules.specs.Calls.Common.{withLive}
 use Rattle.rules.specs.Calls.Finalized.{unusedFee, currentFinal}
-use Rattle.rules.specs.Calls.FinalizeAttempt.{isJoined, isNoSource, finalizeAs, finalizeWith, finalizeLive, soundSource, finalizeAttempt}
+use Rattle.rules.specs.Calls.FinalizeAttempt.{isJoined, isNotRequested, finalizeAs, finalizeWith, finalizeLive, soundSource, finalizeAttempt}
 use Rattle.call_finalize_attempt.specs.Finalizing.{attaching}
 
 -- ---- the joined bundle
-module _ (source : FeeSource) (j : SpendBundle) where
+module _ (source : SubmissionFeeSource) (j : SpendBundle) where
   pub joined-sound : {t : Bool} → t ≡ isJoined source → t ≡ true → soundBundle j ≡ soundSource source j
   unfolding soundSource
   joined-sound p e = ap (λ (x : Bool). cond x (soundBundle j) (isZeroBundle j)) (sym e ∙ p)
@@ -41,7 +42,7 @@ module _ (source : FeeSource) (j : SpendBundle) where
     source-sound e = sym (by-source e)
 
 -- ---- a live token
-module _ (source : FeeSource) (j : SpendBundle) (s : SubmittedTx) (m : Book) where
+module _ (source : SubmissionFeeSource) (j : SpendBundle) (s : SubmittedTx) (m : Book) where
   abbrev finalised : Bool
   finalised = s .slots .«active_attempt» .attempt .«finalized_variant_fingerprint» .present
 
@@ -80,12 +81,12 @@ module _ (source : FeeSource) (j : SpendBundle) (s : SubmittedTx) (m : Book) whe
   abbrev current : Rule Value
   current = finalizeAs (idOf s) (currentFinal (s .slots .«active_attempt» .attempt .goal) (s .entry))
 
-  by-fee : {o t n : Bool} → feeUnresolved (s .entry) ≡ o → isJoined source ≡ t → isNoSource source ≡ n
+  by-fee : {o t n : Bool} → feeUnresolved (s .entry) ≡ o → isJoined source ≡ t → isNotRequested source ≡ n
       → runBook (finalizeWith source j s) m ≡ runBook (cond o (cond t (attaching j s) unused) (cond n current (undo 9))) m
   unfolding finalizeWith
   by-fee {o} {t} p q r =
-      ap (λ (x : Bool). runBook (cond x (cond (isJoined source) (attaching j s) unused) (cond (isNoSource source) current (undo 9))) m) p
-      ∙ ap (λ (x : Bool). runBook (cond o (cond x (attaching j s) unused) (cond (isNoSource source) current (undo 9))) m) q
+      ap (λ (x : Bool). runBook (cond x (cond (isJoined source) (attaching j s) unused) (cond (isNotRequested source) current (undo 9))) m) p
+      ∙ ap (λ (x : Bool). runBook (cond o (cond x (attaching j s) unused) (cond (isNotRequested source) current (undo 9))) m) q
       ∙ ap (λ (x : Bool). runBook (cond o (cond t (attaching j s) unused) (cond x current (undo 9))) m) r
 
   pub fee-attached : feeUnresolved (s .entry) ≡ true → isJoined source ≡ true → runBook (attaching j s) m ≡ runBook (finalizeWith source j s) m
@@ -94,9 +95,9 @@ module _ (source : FeeSource) (j : SpendBundle) (s : SubmittedTx) (m : Book) whe
   pub fee-unused : feeUnresolved (s .entry) ≡ true → isJoined source ≡ false → runBook unused m ≡ runBook (finalizeWith source j s) m
   fee-unused p q = sym (by-fee p q refl)
 
-  pub fee-current : feeUnresolved (s .entry) ≡ false → isNoSource source ≡ true → runBook current m ≡ runBook (finalizeWith source j s) m
+  pub fee-current : feeUnresolved (s .entry) ≡ false → isNotRequested source ≡ true → runBook current m ≡ runBook (finalizeWith source j s) m
   fee-current p r = sym (by-fee p refl r)
 
-  pub fee-unasked : feeUnresolved (s .entry) ≡ false → isNoSource source ≡ false → undone 9 ≡ runBook (finalizeWith source j s) m
+  pub fee-unasked : feeUnresolved (s .entry) ≡ false → isNotRequested source ≡ false → undone 9 ≡ runBook (finalizeWith source j s) m
   unfolding run
   fee-unasked p r = sym (by-fee p refl r)

@@ -7,6 +7,9 @@ use book::SubmissionDeliveryGoal;
 use book::SubmittedEntry;
 use book::SubmittedTx;
 use book::Token;
+use book_answers::FeeSourceDisposition;
+use book_answers::FinalizedSubmission;
+use book_answers::SubmissionFeeSource;
 use book_sound::is_sound_bundle;
 use part_attempt_answers::is_never_issued;
 use part_attempt_answers::live_place;
@@ -14,10 +17,7 @@ use part_lookup::AttemptPlace;
 use part_lookup::Place;
 use part_lookup::find_attempt;
 use part_replies::CallAnswer;
-use part_replies::FeeSourceDisposition;
 use part_replies::FinalizeReply;
-use part_replies::FinalizedSubmission;
-use part_replies::SubmissionFeeSource;
 use part_slots::finalized;
 use part_submitted::entry::current_applied_fee;
 use part_submitted::entry::current_bundle;
@@ -40,16 +40,15 @@ ghost use Rattle.rules.specs.Rule.{undone, attach as attaches};
 ghost use Rattle.rules.specs.Steps.{withEntry, runBook};
 ghost use Rattle.rules.specs.Steps.Entry.{revised};
 ghost use Rattle.rules.specs.Calls.Finalized.{unusedFee, currentFinal, attachedFinal};
-ghost use Rattle.rules.specs.Calls.FinalizeAttempt.{isJoined, isNoSource, soundSource, finalizeLive, finalizeAttempt};
+ghost use Rattle.rules.specs.Calls.FinalizeAttempt.{isJoined, isNotRequested, soundSource, finalizeLive, finalizeAttempt};
 ghost use Rattle.part_replies.specs.Reply.{finalizeReply};
-ghost use Rattle.part_replies.specs.Values.{sourceOf, finalOf, zeroFinal};
 ghost use Rattle.part_lookup.specs.Normal.{Normal};
 ghost use Rattle.part_attempt_answers.specs.Live.{inactive, at};
 ghost use Rattle.call_finalize_attempt.specs.Decision.{decision, finalAs, notAsked};
 
 // ---- the fee source
 fn is_joined(source: SubmissionFeeSource) -> bool
-    ensures { λ r. ⌜ r ≡ isJoined (sourceOf source) ⌝ }
+    ensures { λ r. ⌜ r ≡ isJoined source ⌝ }
 {
     match source {
         SubmissionFeeSource::NotRequested => false,
@@ -60,7 +59,7 @@ fn is_joined(source: SubmissionFeeSource) -> bool
 }
 
 fn is_not_requested(source: SubmissionFeeSource) -> bool
-    ensures { λ r. ⌜ r ≡ isNoSource (sourceOf source) ⌝ }
+    ensures { λ r. ⌜ r ≡ isNotRequested source ⌝ }
 {
     match source {
         SubmissionFeeSource::NotRequested => true,
@@ -72,7 +71,7 @@ fn is_not_requested(source: SubmissionFeeSource) -> bool
 
 // A joined bundle is sound; beside any other source it is zero.
 fn is_sound_source(source: SubmissionFeeSource, joined: SpendBundle) -> bool
-    ensures { λ r. ⌜ r ≡ soundSource (sourceOf source) joined ⌝ }
+    ensures { λ r. ⌜ r ≡ soundSource source joined ⌝ }
 {
     let join = is_joined(source);
     if join {
@@ -82,26 +81,13 @@ fn is_sound_source(source: SubmissionFeeSource, joined: SpendBundle) -> bool
 }
 
 // ---- answers
-pub fn zero_finalized() -> FinalizedSubmission
-    ensures { λ r. ⌜ r ≡ zeroFinal ⌝ }
-{
-    FinalizedSubmission {
-        bundle: SpendBundle::zero(),
-        applied_fee: 0,
-        warning: false,
-        disposition: FeeSourceDisposition::Attached,
-        variant_fingerprint: [0; 32],
-        should_broadcast: false,
-    }
-}
-
 fn finalize_refused(b: BookData, n: u8) -> FinalizeReply
     ensures { λ r. ⌜ r ≡ finalizeReply b (undone n) ⌝ }
 {
     FinalizeReply {
         answer: CallAnswer::Refused(n),
         present: false,
-        finalized: zero_finalized(),
+        finalized: FinalizedSubmission::zero(),
         book: b,
     }
 }
@@ -118,7 +104,7 @@ fn finalize_inactive(b: BookData, place: AttemptPlace) -> FinalizeReply
     FinalizeReply {
         answer: CallAnswer::Done,
         present: false,
-        finalized: zero_finalized(),
+        finalized: FinalizedSubmission::zero(),
         book: b,
     }
 }
@@ -137,7 +123,7 @@ fn should_broadcast(goal: SubmissionDeliveryGoal, e: SubmittedEntry, f: [u8; 32]
 // The base is broadcast without the fee.
 fn unused_fee(goal: SubmissionDeliveryGoal, e: SubmittedEntry, f: [u8; 32]) -> FinalizedSubmission
     requires { ⌜ f ≡ currentFingerprint e ⌝ }
-    ensures { λ r. ⌜ r ≡ finalOf (unusedFee goal e) ⌝ }
+    ensures { λ r. ⌜ r ≡ unusedFee goal e ⌝ }
 {
     let base = e.base_bundle;
     let send = should_broadcast(goal, e, f);
@@ -158,7 +144,7 @@ fn current_final(
     f: [u8; 32],
 ) -> FinalizedSubmission
     requires { ⌜ f ≡ currentFingerprint e ⌝ }
-    ensures { λ r. ⌜ r ≡ finalOf (currentFinal goal e) ⌝ }
+    ensures { λ r. ⌜ r ≡ currentFinal goal e ⌝ }
 {
     let bundle = current_bundle(e);
     let fee = current_applied_fee(e);
@@ -175,7 +161,7 @@ fn current_final(
 
 // The joined bundle, with the fee that was asked for.
 fn attached_final(joined: SpendBundle, e: SubmittedEntry) -> FinalizedSubmission
-    ensures { λ r. ⌜ r ≡ finalOf (attachedFinal joined e) ⌝ }
+    ensures { λ r. ⌜ r ≡ attachedFinal joined e ⌝ }
 {
     let f = variant_fingerprint(joined);
     let h = e.wallet_acknowledged_variant;
@@ -199,8 +185,8 @@ pub struct Decision {
 }
 
 fn decide(s: SubmittedTx, f: [u8; 32], source: SubmissionFeeSource, joined: SpendBundle) -> Decision
-    requires { ⌜ (f ≡ currentFingerprint (s .entry)) × (soundSource (sourceOf source) joined ≡ true) ⌝ }
-    ensures { λ r. ⌜ r ≡ decision (sourceOf source) joined s ⌝ }
+    requires { ⌜ (f ≡ currentFingerprint (s .entry)) × (soundSource source joined ≡ true) ⌝ }
+    ensures { λ r. ⌜ r ≡ decision source joined s ⌝ }
 {
     let e = s.entry;
     let a = s.slots.active_attempt.attempt;
@@ -228,7 +214,7 @@ fn unasked(s: SubmittedTx) -> Decision
 {
     Decision {
         refused: true,
-        last: zero_finalized(),
+        last: FinalizedSubmission::zero(),
         next: s,
     }
 }
@@ -236,7 +222,7 @@ fn unasked(s: SubmittedTx) -> Decision
 // The joined bundle is the variant from here on.
 fn attached(s: SubmittedTx, joined: SpendBundle) -> Decision
     requires { ⌜ soundBundle joined ≡ true ⌝ }
-    ensures { λ r. ⌜ r ≡ finalAs (finalOf (attachedFinal joined (s .entry))) (withEntry (revised (attaches joined)) s) ⌝ }
+    ensures { λ r. ⌜ r ≡ finalAs (attachedFinal joined (s .entry)) (withEntry (revised (attaches joined)) s) ⌝ }
 {
     let e = s.entry;
     let last = attached_final(joined, e);
@@ -270,7 +256,7 @@ pub fn finalize_attempt_sound(
     joined: SpendBundle,
 ) -> FinalizeReply
     requires { ⌜ soundb b ≡ true ⌝ }
-    ensures { λ r. ⌜ r ≡ finalizeReply b (runBook (finalizeAttempt (t .0) (sourceOf source) joined) (view b)) ⌝ }
+    ensures { λ r. ⌜ r ≡ finalizeReply b (runBook (finalizeAttempt (t .0) source joined) (view b)) ⌝ }
 {
     let sound = is_sound_source(source, joined);
     if !sound {
@@ -291,8 +277,8 @@ fn finalize_live(
     source: SubmissionFeeSource,
     joined: SpendBundle,
 ) -> FinalizeReply
-    requires { ⌜ (soundb b ≡ true) × (k < length (view b .submitted)) × (soundSource (sourceOf source) joined ≡ true) ⌝ }
-    ensures { λ r. ⌜ r ≡ finalizeReply b (runBook (finalizeLive (sourceOf source) joined (at (view b) k)) (view b)) ⌝ }
+    requires { ⌜ (soundb b ≡ true) × (k < length (view b .submitted)) × (soundSource source joined ≡ true) ⌝ }
+    ensures { λ r. ⌜ r ≡ finalizeReply b (runBook (finalizeLive source joined (at (view b) k)) (view b)) ⌝ }
 {
     let s = b.submitted[k];
     let a = s.slots.active_attempt.attempt;

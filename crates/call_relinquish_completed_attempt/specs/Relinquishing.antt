@@ -4,7 +4,8 @@ use mathlib.Core.Bool.{Bool, true, false, cond}
 use mathlib.Core.List.{[]}
 use mathlib.Core.Path.{_≡_, refl, sym, ap, _∙_}
 use Rattle.book.specs.Model.{Book}
-use Rattle.rules.specs.Call.{Applied, Stale, statusIs, Value}
+use Rattle.book_answers.specs.declared.SubmissionAttemptStatus.the-variants.{Applied, Stale}
+use Rattle.rules.specs.Call.{statusIs, Value}
 use Rattle.rules.specs.Calls.Common.{Found}
 use Rattle.rules.specs.Calls.RelinquishCompletedAttempt.{relinquishBy, relinquishCompletedAttempt}
 use Rattle.rules.specs.Rule.{Outcome, ended, undone, run}

@@ -1,13 +1,13 @@
 // `relinquish_completed_attempt`: nothing changes.
 use book::BookData;
 use book::Token;
+use book_answers::SubmissionAttemptStatus;
 use part_attempt_answers::is_never_issued;
 use part_attempt_answers::status_done;
 use part_attempt_answers::status_refused;
 use part_lookup::AttemptPlace;
 use part_lookup::find_attempt;
 use part_replies::StatusReply;
-use part_replies::SubmissionAttemptStatus;
 ghost use mathlib.Core.Bool.{true};
 ghost use mathlib.Core.Path.{_≡_};
 ghost use Rattle.book.specs.Model.{view};

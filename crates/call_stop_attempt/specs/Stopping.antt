@@ -9,13 +9,13 @@ use Rattle.book.specs.Sound.{idOf, soundb}
 use Rattle.book.specs.declared.AttemptSlots.{AttemptSlots}
 use Rattle.book.specs.declared.SubmittedTx.{SubmittedTx}
 use Rattle.book.specs.declared.BookData.{BookData}
-use Rattle.rules.specs.Call.{Applied, statusIs, Value}
+use Rattle.book_answers.specs.declared.SubmissionAttemptStatus.the-variants.{Applied}
+use Rattle.rules.specs.Call.{statusIs, Value}
 use Rattle.rules.specs.Rule.{Outcome, ended, run}
 use Rattle.rules.specs.Steps.{withSlots, onBook, runBook}
 use Rattle.rules.specs.Steps.Slots.{slotsAside}
 use Rattle.rules.specs.Calls.StopAttempt.{stopLive}
 use Rattle.part_replies.specs.Reply.{statusReply}
-use Rattle.part_replies.specs.Values.{statusOf}
 use Rattle.part_replies.specs.declared.CallAnswer.the-variants.{Done}
 use Rattle.part_change.specs.Changes.{storedAt}
 use Rattle.part_change.specs.ChangeLaws.{mark-at}
@@ -31,7 +31,7 @@ module _ (b : BookData) (sound : soundb b ≡ true) (k : ℕ) (within : k < leng
 
   pub stop-answer : {s : SubmittedTx} {x : AttemptSlots} {out : BookData} → s ≡ at (view b) k → x ≡ slotsAside (s .slots)
       → out ≡ back (storedAt k (record { slots = x; entry = s .entry }) (view b))
-      → record { answer = Done; status = statusOf Applied; book = out } ≡ statusReply b (runBook (stopLive (at (view b) k)) (view b))
+      → record { answer = Done; status = Applied; book = out } ≡ statusReply b (runBook (stopLive (at (view b) k)) (view b))
   stop-answer {s} p q e =
       status-ended b Applied
       (e

@@ -1,6 +1,7 @@
 // `stop_attempt`: the live attempt is set aside.
 use book::BookData;
 use book::Token;
+use book_answers::SubmissionAttemptStatus;
 use part_attempt_answers::live_place;
 use part_attempt_answers::status_done;
 use part_attempt_answers::status_inactive;
@@ -9,7 +10,6 @@ use part_lookup::Place;
 use part_lookup::find_attempt;
 use part_lookup::submitted_at;
 use part_replies::StatusReply;
-use part_replies::SubmissionAttemptStatus;
 use part_slots::stop_lent;
 ghost use Prim.Native.Nat.{_<_};
 ghost use mathlib.Core.Bool.{true};

@@ -1,7 +1,6 @@
 -- The answer of a drain, as docs/DRIVER.md lays it out.
-use mathlib.Core.Path.{_≡_, refl, sym, ap, _∙_}
+use mathlib.Core.Path.{_≡_, ap, _∙_}
 use mathlib.Core.List.{List, _++_}
-use mathlib.Core.Option.{Option, none, some}
 use Prim.Native.Nat.{ℕ, _≤_, min}
 use native.Mathlib.Omega.{arith}
 use lib.ListN.{length, take, length-append}
@@ -13,34 +12,25 @@ use Rattle.archive_bundle_form.specs.Forms.{encodeBundle, encodeHeight, encodeF
 use Rattle.archive_form.specs.Encode.{encodeId}
 use Rattle.book.specs.declared.OptionalId.{OptionalId}
 use Rattle.book.specs.declared.OptionalId.the-variants as optional
-use Rattle.rules.specs.Call as call
-use Rattle.part_submitted.specs.declared.OptionalToken.{OptionalToken}
-use Rattle.part_submitted.specs.declared.OptionalToken.the-variants.{NoToken, Of}
-use Rattle.part_submitted.specs.declared.DrainedSubmission.{DrainedSubmission}
-use Rattle.part_drain_answers.specs.Failures.{causeOf, failureOf, idMeans}
-use Rattle.part_drain_answers.specs.declared.SubmissionDrainFailure.{SubmissionDrainFailure}
+use Rattle.rules.specs.Call.{stageOf, retainedId}
+use Rattle.book_answers.specs.declared.OptionalToken.{OptionalToken}
+use Rattle.book_answers.specs.declared.OptionalToken.the-variants.{NoToken, Of}
+use Rattle.book_answers.specs.declared.DrainedSubmission.{DrainedSubmission}
+use Rattle.book_answers.specs.declared.SubmissionDrainFailure.{SubmissionDrainFailure}
+use Rattle.book_answers.specs.declared.SubmissionDrainFailureStage.{SubmissionDrainFailureStage}
+use Rattle.book_answers.specs.declared.SubmissionDrainFailureStage.the-variants as stage
 use Rattle.codec_answers.specs.Forms.{relationshipNumber, encodeToken, encodeDrained}
 
-abbrev pub stageNumber : call.Stage → ℕ
-stageNumber call.Fingerprint = 0
-stageNumber call.RetainedState = 1
-stageNumber call.ExpectedOutputs = 2
-stageNumber call.SubmissionIdSource = 3
-
--- a mark, and the id where it is 1
-abbrev pub encodeOptional : Option ℕ → List ℕ
-encodeOptional none = be 1 0
-encodeOptional (some i) = be 1 1 ++ be 8 i
+abbrev pub stageNumber : SubmissionDrainFailureStage → ℕ
+stageNumber stage.Fingerprint = 0
+stageNumber stage.RetainedState = 1
+stageNumber stage.ExpectedOutputs = 2
+stageNumber stage.SubmissionId = 3
 
 -- candidate index, retained id, candidate id, intent fingerprint, stage
-unfoldable pub encodeFailure : call.Failure → List ℕ
-unfolding be
-encodeFailure f =
-    be 8 (f .index) ++ encodeOptional (call.retainedId f) ++ encodeOptional (some (f .candidateId)) ++ f .intentFingerprint ++ be 1 (stageNumber (call.stageOf (f .cause)))
-
-unfoldable pub encodeFailed : SubmissionDrainFailure → List ℕ
-unfolding encodeFailure failureOf
-encodeFailed f = encodeFailure (failureOf f)
+unfoldable pub encodeFailure : SubmissionDrainFailure → List ℕ
+unfolding be encodeId
+encodeFailure f = be 8 (f .«candidate_index») ++ encodeId (retainedId f) ++ encodeId (optional.Of (f .«candidate_id»)) ++ f .«intent_fingerprint» ++ be 1 (stageNumber (stageOf (f .cause)))
 
 -- the count, and the first n of 16 cells
 unfoldable pub encodeSubmissions : ℕ → List DrainedSubmission → List ℕ
@@ -48,8 +38,8 @@ unfolding be encMany encodeDrained
 encodeSubmissions n a = be 1 (min n 16) ++ encMany encodeDrained (take n a)
 
 unfoldable pub encodeFailures : ℕ → List SubmissionDrainFailure → List ℕ
-unfolding be encMany encodeFailed
-encodeFailures n a = be 1 (min n 16) ++ encMany encodeFailed (take n a)
+unfolding be encMany encodeFailure
+encodeFailures n a = be 1 (min n 16) ++ encMany encodeFailure (take n a)
 
 -- ---- lengths
 token-most : (t : OptionalToken) → length (encodeToken t) ≤ 9
@@ -96,15 +86,11 @@ failure-most n i j h k e =
     omega (arith, length-append (a ++ b ++ c ++ h) d, length-append (a ++ b ++ c) h, length-append (a ++ b) c, length-append a b, be-length 8 n, be-length 1 k, id-size i, id-size j)
 
 -- ---- what the parts of a failure are
-id-optional : (i : OptionalId) → encodeId i ≡ encodeOptional (idMeans i)
-unfolding encodeId
-id-optional optional.NoId = refl
-id-optional (optional.Of i) = refl
-
-pub failed-parts : (f : SubmissionDrainFailure) (r : OptionalId) (k : ℕ) → idMeans r ≡ call.retainedId (failureOf f) → k ≡ stageNumber (call.stageOf (causeOf (f .cause))) → be 8 (f .«candidate_index») ++ encodeId r ++ encodeId (optional.Of (f .«candidate_id»)) ++ f .«intent_fingerprint» ++ be 1 k ≡ encodeFailed f
-unfolding encodeFailed encodeFailure failureOf encodeId
+pub failed-parts : (f : SubmissionDrainFailure) (r : OptionalId) (k : ℕ) → r ≡ retainedId f → k ≡ stageNumber (stageOf (f .cause))
+    → be 8 (f .«candidate_index») ++ encodeId r ++ encodeId (optional.Of (f .«candidate_id»)) ++ f .«intent_fingerprint» ++ be 1 k ≡ encodeFailure f
+unfolding encodeFailure
 failed-parts f r k e q =
     let x = be 8 (f .«candidate_index») in
-    let i = be 1 1 ++ be 8 (f .«candidate_id» .0) in
+    let i = encodeId (optional.Of (f .«candidate_id»)) in
     let h = f .«intent_fingerprint» in
-    ap (λ (l : List ℕ). x ++ l ++ i ++ h ++ be 1 k) (id-optional r ∙ ap encodeOptional e) ∙ ap (λ (n : ℕ). x ++ encodeOptional (call.retainedId (failureOf f)) ++ i ++ h ++ be 1 n) q
+    ap (λ (y : OptionalId). x ++ encodeId y ++ i ++ h ++ be 1 k) e ∙ ap (λ (n : ℕ). x ++ encodeId (retainedId f) ++ i ++ h ++ be 1 n) q

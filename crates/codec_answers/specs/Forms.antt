@@ -9,17 +9,17 @@ use Rattle.archive_bundle_form.specs.Forms.{encodeBundle, encodeHeight, encodeF
 use Rattle.book.specs.declared.Ids64.{Ids64}
 use Rattle.part_replies.specs.declared.CallAnswer.{CallAnswer}
 use Rattle.part_replies.specs.declared.CallAnswer.the-variants.{Done, Refused}
-use Rattle.part_replies.specs.declared.SubmissionAttemptStatus.{SubmissionAttemptStatus}
-use Rattle.part_replies.specs.declared.SubmissionAttemptStatus.the-variants.{Applied, Stale}
-use Rattle.part_replies.specs.declared.FeeSourceDisposition.{FeeSourceDisposition}
-use Rattle.part_replies.specs.declared.FeeSourceDisposition.the-variants.{Attached, Unused, NotRequested}
-use Rattle.part_replies.specs.declared.FinalizedSubmission.{FinalizedSubmission}
-use Rattle.part_slots.specs.declared.SubmissionAttemptRelationship.{SubmissionAttemptRelationship}
-use Rattle.part_slots.specs.declared.SubmissionAttemptRelationship.the-variants.{Initial, Exact, NewerFeeBearing, Other}
+use Rattle.book_answers.specs.declared.SubmissionAttemptStatus.{SubmissionAttemptStatus}
+use Rattle.book_answers.specs.declared.SubmissionAttemptStatus.the-variants.{Applied, Stale}
+use Rattle.book_answers.specs.declared.FeeSourceDisposition.{FeeSourceDisposition}
+use Rattle.book_answers.specs.declared.FeeSourceDisposition.the-variants.{Attached, Unused, NotRequested}
+use Rattle.book_answers.specs.declared.FinalizedSubmission.{FinalizedSubmission}
+use Rattle.book_answers.specs.declared.SubmissionAttemptRelationship.{SubmissionAttemptRelationship}
+use Rattle.book_answers.specs.declared.SubmissionAttemptRelationship.the-variants.{Initial, Exact, NewerFeeBearing, Other}
 use Rattle.book.specs.declared.Token.{Token}
-use Rattle.part_submitted.specs.declared.OptionalToken.{OptionalToken}
-use Rattle.part_submitted.specs.declared.OptionalToken.the-variants.{NoToken, Of}
-use Rattle.part_submitted.specs.declared.DrainedSubmission.{DrainedSubmission}
+use Rattle.book_answers.specs.declared.OptionalToken.{OptionalToken}
+use Rattle.book_answers.specs.declared.OptionalToken.the-variants.{NoToken, Of}
+use Rattle.book_answers.specs.declared.DrainedSubmission.{DrainedSubmission}
 
 abbrev pub flagNumber : Bool → ℕ
 flagNumber false = 0

@@ -4,10 +4,9 @@ ghost use mathlib.Core.List.{_++_};
 ghost use lib.ListN.{take};
 ghost use Rattle.codec_forms.specs.Wire.{be, encMany};
 ghost use Rattle.archive_form.specs.Encode.{encodeId};
-ghost use Rattle.part_drain_answers.specs.Failures.{stageMeans};
 ghost use Rattle.codec_append.specs.Fits.{Fits, FitsWithin};
 ghost use Rattle.codec_answers.specs.Forms.{relationshipNumber, encodeToken, encodeDrained};
-ghost use Rattle.codec_answers.specs.Drain.{stageNumber, encodeFailed, encodeSubmissions, encodeFailures};
+ghost use Rattle.codec_answers.specs.Drain.{stageNumber, encodeFailure, encodeSubmissions, encodeFailures};
 use archive_bundle_size::size_bundle;
 use archive_bundle_size::size_fee_intent;
 use archive_bundle_size::size_height;
@@ -17,16 +16,16 @@ use archive_bundle_write::write::append_height;
 use archive_entry_write::append_id;
 use base_lists::at_most;
 use book::OptionalId;
+use book_answers::DrainedSubmission;
+use book_answers::OptionalToken;
+use book_answers::SubmissionAttemptRelationship;
+use book_answers::SubmissionDrainFailure;
+use book_answers::SubmissionDrainFailureStage;
 use codec_append::append_byte;
 use codec_append::append_bytes;
 use codec_append::append_number;
-use part_drain_answers::SubmissionDrainFailure;
-use part_drain_answers::SubmissionDrainFailureStage;
 use part_drain_answers::retained_id;
 use part_drain_answers::stage_of;
-use part_slots::SubmissionAttemptRelationship;
-use part_submitted::DrainedSubmission;
-use part_submitted::OptionalToken;
 
 pub fn relationship_number(r: SubmissionAttemptRelationship) -> u8
     ensures { λ n. ⌜ n ≡ relationshipNumber r ⌝ }
@@ -116,7 +115,7 @@ fn append_failure(
 }
 
 pub fn stage_number(s: SubmissionDrainFailureStage) -> u8
-    ensures { λ n. ⌜ n ≡ stageNumber (stageMeans s) ⌝ }
+    ensures { λ n. ⌜ n ≡ stageNumber s ⌝ }
 {
     match s {
         SubmissionDrainFailureStage::Fingerprint => 0,
@@ -127,7 +126,7 @@ pub fn stage_number(s: SubmissionDrainFailureStage) -> u8
 }
 
 fn append_drain_failure(out: &mut [u8], at: usize, f: SubmissionDrainFailure) -> usize
-    ensures { λ r. ⌜ FitsWithin 59 (encodeFailed f) at (now (out .entry)) (now (out .exit)) r ⌝ }
+    ensures { λ r. ⌜ FitsWithin 59 (encodeFailure f) at (now (out .entry)) (now (out .exit)) r ⌝ }
 {
     let cause = f.cause;
     let id = f.candidate_id;
@@ -152,7 +151,7 @@ fn append_each_failure(
     a: [SubmissionDrainFailure; 16],
     n: usize,
 ) -> usize
-    ensures { λ r. ⌜ FitsWithin 944 (encMany encodeFailed (take n a)) at (now (out .entry)) (now (out .exit)) r ⌝ }
+    ensures { λ r. ⌜ FitsWithin 944 (encMany encodeFailure (take n a)) at (now (out .entry)) (now (out .exit)) r ⌝ }
 {
     let k = at_most(n, 16);
     let mut e = at;

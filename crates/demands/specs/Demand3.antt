@@ -8,7 +8,7 @@
 --   fatesOf, fatesBy       the fates of a submission's tokens in the rows, and by what was emitted, removed and halted (rules_ledger/Events)
 --   Fits, Exact            rows against the submissions retained (rules_ledger/Tidy), rows against slots (rules_ledger/Account/Exact)
 --   history                the tokens issued and to whom, the last first; `grown` adds some, `Chained` is about their predecessors (rules_ledger/Tidy)
---   handedOut              the submissions in a drain's answer; `grownBy` and `Named` say the two of these (Predecessors)
+--   handedOut              the submissions in a drain's answer (Predecessors)
 use Prim.Native.Nat.{ℕ, _+_, _-_, _≤_}
 use mathlib.Core.Bool.{false}
 use mathlib.Core.List.{List, [], _∷_, _++_, map, List·Memᴰ}
@@ -23,7 +23,8 @@ use Rattle.rules.specs.Books.{bookAfter}
 use Rattle.rules.specs.Call.{Call, Drain}
 use Rattle.rules.specs.Keyed.{pick}
 use Rattle.rules.specs.Opened.{opened}
-use Rattle.rules.specs.Rule.{DrainedSubmission, issuedBy}
+use Rattle.book_answers.specs.declared.DrainedSubmission.{DrainedSubmission}
+use Rattle.rules.specs.Rule.{issuedBy}
 use Rattle.part_replies.specs.declared.CallAnswer.the-variants.{Done}
 use Rattle.rules_ledger.specs.Account.Counts.{count}
 use Rattle.rules_ledger.specs.Account.Exact.{Exact}
@@ -37,7 +38,7 @@ use Rattle.submission.specs.declared.DrainAnswer.{DrainAnswer}
 use Rattle.submission.specs.Answers.{drainAnswer}
 use Rattle.submission.specs.Book.{outcome}
 use Rattle.submission.specs.Calls.{after, openedBook, last-link}
-use Rattle.demands.specs.Predecessors.{handedOut, Named, grownBy, issued-by, named, grown-by}
+use Rattle.demands.specs.Predecessors.{handedOut, issued-by, named, grown-by}
 
 module _ (token id : ℕ) where
   abbrev pub programBook : List Call → SubmissionBook
@@ -79,7 +80,7 @@ module _ (token id : ℕ) where
       pub issued : (before : List Call) (c : Call) (rest : List Call) → calls ≡ before ++ c ∷ rest → tokensAt (before ++ c ∷ []) ≡ grown (issuedAt before c) (tokensAt before)
       -- the answer of an accepted drain hands out what it issued
       pub handed : (before rest : List Call) → calls ≡ before ++ Drain ∷ rest → drainAt before .answer ≡ Done
-          → tokensAt (before ++ Drain ∷ []) ≡ grownBy (handedOut (drainAt before)) (tokensAt before)
+          → tokensAt (before ++ Drain ∷ []) ≡ grown (handedOut (drainAt before)) (tokensAt before)
       -- Fates. Of one submission's tokens all but the last are displaced; the last is struck out exactly where the submission was removed since,
       -- else set aside or live
       pub fates : (i : ℕ) → fatesOf i rows ≡ fatesBy (eventsOf i events)
@@ -95,7 +96,7 @@ module _ (token id : ℕ) where
       pub oneSlot : (t : SubmittedTx) → List·Memᴰ t (book .submitted) → (t .slots .«active_attempt» .present ≡ false) ⊎ (t .slots .«completed_attempt» .present ≡ false)
       pub oneRow : (r s : Row) → List·Memᴰ r rows → List·Memᴰ s rows → Open r → Open s → r .id ≡ s .id → r ≡ s
       -- Predecessors. In the answer of every drain in the list each submission names the last token issued to it before, or none
-      pub predecessors : (before rest : List Call) → calls ≡ before ++ Drain ∷ rest → Named (tokensAt before) (handedOut (drainAt before))
+      pub predecessors : (before rest : List Call) → calls ≡ before ++ Drain ∷ rest → Chained (tokensAt before) (handedOut (drainAt before))
       -- so do the tokens that a drain refused 11 has issued
       pub behind11 : (before rest : List Call) → calls ≡ before ++ Drain ∷ rest → Chained (tokensAt before) (issuedAt before Drain)
 

@@ -1,10 +1,9 @@
 -- What the answer of a drain hands out, and that it names the predecessors that the rules say.
 use Prim.Native.Nat.{ℕ}
-use mathlib.Core.List.{List, [], _∷_, map}
-use mathlib.Core.Option.{Option, none, some}
+use mathlib.Core.List.{List, []}
 use mathlib.Core.Path.{_≡_, refl, sym, ap, _∙_}
 use native.Mathlib.Omega.{arith}
-use lib.ListN.{take, length-map}
+use lib.ListN.{take}
 use Rattle.base_lists.specs.Laws.{take-cells}
 use Rattle.book.specs.Model.{Book}
 use Rattle.archive_form.specs.Encode.{encodeModel}
@@ -13,14 +12,13 @@ use Rattle.rules.specs.Call.{Call, Value}
 use Rattle.rules.specs.Calls.{rules}
 use Rattle.rules.specs.Opened.{opened}
 use Rattle.rules.specs.Rule.{Outcome, ended, undone, stopped, issuedBy}
-use Rattle.rules.specs.Rule as rule
 use Rattle.rules.specs.Steps.{runBook}
-use Rattle.part_submitted.specs.Drained.{tokenOf, tokenBack, drainedBack, zeroDrained}
-use Rattle.part_submitted.specs.declared.DrainedSubmission.{DrainedSubmission}
+use Rattle.book_answers.specs.Zero.{zeroDrained}
+use Rattle.book_answers.specs.declared.DrainedSubmission.{DrainedSubmission}
 use Rattle.part_drain_answers.specs.DrainReply.{drainedBy}
 use Rattle.part_replies.specs.Reply.{answerOf}
 use Rattle.part_replies.specs.declared.CallAnswer.the-variants.{Done}
-use Rattle.rules_ledger.specs.Tidy.{Issue, lastTo, grown, Chained}
+use Rattle.rules_ledger.specs.Tidy.{Issue, grown, Chained}
 use Rattle.submission.specs.declared.SubmissionBook.{SubmissionBook}
 use Rattle.submission.specs.declared.DrainAnswer.{DrainAnswer}
 use Rattle.submission.specs.Answers.{drainAnswer}
@@ -30,19 +28,6 @@ use Rattle.submission.specs.Calls.{after, openedBook, outcome-after}
 -- the submissions in the answer
 abbrev pub handedOut : DrainAnswer → List DrainedSubmission
 handedOut a = take (a .«submission_count») (a .submissions)
-
-abbrev pub issue : DrainedSubmission → Issue
-issue d = record { token = d .«attempt_token» .0; id = d .id .0 }
-
--- each of them, in their order, names as predecessor the last token issued to its submission before, or none
-abbrev pub Named : List Issue → List DrainedSubmission → Type 0
-Named before [] = Unit {0}
-Named before (d ∷ ds) = (tokenOf (d .«predecessor_attempt_token») ≡ lastTo (d .id .0) before) × Named (issue d ∷ before) ds
-
--- the tokens issued, these behind the others, the last first
-abbrev pub grownBy : List DrainedSubmission → List Issue → List Issue
-grownBy [] before = before
-grownBy (d ∷ ds) before = grownBy ds (issue d ∷ before)
 
 -- what a call issues on the program's book is what the rules' book says
 issued-is : (c : Call) (b : Book) → issuedBy (runBook (rules encodeModel c) b) ≡ issuedBook encodeModel c b
@@ -55,37 +40,24 @@ issued-by token id before c =
     ap issuedBy (outcome-after token id before c)
     ∙ issued-is c (bookAfter encodeModel before (opened token id))
 
-token-of : (t : Option ℕ) → tokenOf (tokenBack t) ≡ t
-token-of none = refl
-token-of (some t) = refl
-
-named-back : (h : List Issue) (xs : List rule.DrainedSubmission) → Chained h xs → Named h (map drainedBack xs)
-unfolding drainedBack
-named-back h [] k = tt
-named-back h (x ∷ xs) k = (token-of (x .predecessor) ∙ k .0, named-back (record { token = x .token; id = x .id } ∷ h) xs (k .1))
-
 -- the answer hands out what the call issued, or nothing where it was refused
 handed : (h : List Issue) (o : Outcome Book Value) → Chained h (issuedBy o) → Chained h (drainedBy o)
 handed h (ended m xs v) k = k
 handed h (undone n) k = tt
 handed h (stopped m xs n) k = tt
 
-handed-out : (s : SubmissionBook) (c : Call) → handedOut (drainAnswer s c) ≡ map drainedBack (drainedBy (outcome s c))
-handed-out s c = rw (sym (length-map (drainedBy (outcome s c)) drainedBack)) (take-cells 16 zeroDrained (map drainedBack (drainedBy (outcome s c))))
+handed-out : (s : SubmissionBook) (c : Call) → handedOut (drainAnswer s c) ≡ drainedBy (outcome s c)
+handed-out s c = take-cells 16 zeroDrained (drainedBy (outcome s c))
 
-pub named : (h : List Issue) (s : SubmissionBook) (c : Call) → Chained h (issuedBy (outcome s c)) → Named h (handedOut (drainAnswer s c))
-named h s c k = rw (handed-out s c) (named-back h (drainedBy (outcome s c)) (handed h (outcome s c) k))
+-- each names as predecessor the last token issued to its submission before, or none
+pub named : (h : List Issue) (s : SubmissionBook) (c : Call) → Chained h (issuedBy (outcome s c)) → Chained h (handedOut (drainAnswer s c))
+named h s c k = rw (handed-out s c) (handed h (outcome s c) k)
 
 -- an accepted drain hands out all that it issued
-grown-back : (xs : List rule.DrainedSubmission) (h : List Issue) → grown xs h ≡ grownBy (map drainedBack xs) h
-unfolding drainedBack
-grown-back [] h = refl
-grown-back (x ∷ xs) h = grown-back xs (record { token = x .token; id = x .id } ∷ h)
-
 accepted : (o : Outcome Book Value) → answerOf o ≡ Done → issuedBy o ≡ drainedBy o
 accepted (ended m xs v) q = refl
 accepted (undone n) q = absurd (let z : _≡_ {A = ℕ} 0 1 = cc in omega arith)
 accepted (stopped m xs n) q = absurd (let z : _≡_ {A = ℕ} 0 1 = cc in omega arith)
 
-pub grown-by : (h : List Issue) (s : SubmissionBook) (c : Call) → drainAnswer s c .answer ≡ Done → grown (issuedBy (outcome s c)) h ≡ grownBy (handedOut (drainAnswer s c)) h
-grown-by h s c q = rw (handed-out s c, accepted (outcome s c) q) (grown-back (drainedBy (outcome s c)) h)
+pub grown-by : (h : List Issue) (s : SubmissionBook) (c : Call) → drainAnswer s c .answer ≡ Done → grown (issuedBy (outcome s c)) h ≡ grown (handedOut (drainAnswer s c)) h
+grown-by h s c q = rw (handed-out s c, accepted (outcome s c) q)

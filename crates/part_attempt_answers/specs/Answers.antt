@@ -7,18 +7,18 @@ use Rattle.base_lists.specs.Bytes.{eqs}
 use Rattle.book.specs.Model.{Book, back}
 use Rattle.book.specs.declared.BookData.{BookData}
 use Rattle.book.specs.declared.SubmittedTx.{SubmittedTx}
-use Rattle.rules.specs.Call.{AttemptStatus, Value, statusIs}
+use Rattle.book_answers.specs.declared.SubmissionAttemptStatus.{SubmissionAttemptStatus}
+use Rattle.rules.specs.Call.{Value, statusIs}
 use Rattle.rules.specs.Rule.{Rule, Outcome, ended}
 use Rattle.rules.specs.Steps.{runBook}
 use Rattle.part_replies.specs.Reply.{statusReply}
-use Rattle.part_replies.specs.Values.{statusOf}
 use Rattle.part_replies.specs.declared.StatusReply.{StatusReply}
 use Rattle.part_replies.specs.declared.CallAnswer.the-variants.{Done}
 
 -- a status, with the book that the code hands back
-pub status-ended : (b : BookData) {out : BookData} {n : Book} (v : AttemptStatus) {o : Outcome Book Value} → out ≡ back n → ended n [] (statusIs v) ≡ o
-    → record { answer = Done; status = statusOf v; book = out } ≡ statusReply b o
-status-ended b v e q = ap {B = StatusReply} (λ (x : BookData). record { answer = Done; status = statusOf v; book = x }) e ∙ ap (statusReply b) q
+pub status-ended : (b : BookData) {out : BookData} {n : Book} (v : SubmissionAttemptStatus) {o : Outcome Book Value} → out ≡ back n → ended n [] (statusIs v) ≡ o
+    → record { answer = Done; status = v; book = out } ≡ statusReply b o
+status-ended b v e q = ap {B = StatusReply} (λ (x : BookData). record { answer = Done; status = v; book = x }) e ∙ ap (statusReply b) q
 
 -- two byte runs that the code compared
 pub compared : {x y x′ y′ : List ℕ} {same t : Bool} → same ≡ eqs x y → x ≡ x′ → y ≡ y′ → same ≡ t → eqs x′ y′ ≡ t

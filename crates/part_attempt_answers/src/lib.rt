@@ -1,13 +1,14 @@
 // What the calls of one attempt token share: the place of a live attempt, and the answers that are a status.
 use book::BookData;
+use book_answers::SubmissionAttemptStatus;
 use part_lookup::AttemptPlace;
 use part_lookup::Place;
 use part_replies::CallAnswer;
 use part_replies::StatusReply;
-use part_replies::SubmissionAttemptStatus;
 ghost use mathlib.Core.Path.{_≡_};
 ghost use Rattle.book.specs.Model.{view};
-ghost use Rattle.rules.specs.Call.{statusIs, Stale};
+ghost use Rattle.book_answers.specs.declared.SubmissionAttemptStatus.the-variants.{Stale};
+ghost use Rattle.rules.specs.Call.{statusIs};
 ghost use Rattle.rules.specs.Rule.{undone};
 ghost use Rattle.part_replies.specs.Reply.{statusReply};
 ghost use Rattle.part_replies.specs.declared.CallAnswer.the-variants.{Done};

@@ -1,14 +1,15 @@
 -- What the answer of a drain says: paper 01's number and values for each outcome of its rules, and the book that is left.
-use mathlib.Core.List.{List, [], map}
+use mathlib.Core.List.{List, []}
 use lib.ListN.{length}
 use Rattle.base_lists.specs.Lists.{cells}
 use Rattle.book.specs.Model.{Book}
 use Rattle.book.specs.declared.BookData.{BookData}
-use Rattle.rules.specs.Call.{Value, Failure, noValue, failures, finalized, feeIntentIs, statusIs, idsAre, flag, heightIs, attemptIs, written}
-use Rattle.rules.specs.Rule.{DrainedSubmission, Outcome, ended, undone, stopped}
+use Rattle.book_answers.specs.declared.DrainedSubmission.{DrainedSubmission}
+use Rattle.book_answers.specs.declared.SubmissionDrainFailure.{SubmissionDrainFailure}
+use Rattle.rules.specs.Call.{Value, noValue, failures, finalized, feeIntentIs, statusIs, idsAre, flag, heightIs, attemptIs, written}
+use Rattle.rules.specs.Rule.{Outcome, ended, undone, stopped}
 use Rattle.part_replies.specs.Reply.{answerOf, bookLeft, valueOf}
-use Rattle.part_submitted.specs.Drained.{drainedBack, zeroDrained}
-use Rattle.part_drain_answers.specs.Failures.{failureBack, zeroFailure}
+use Rattle.book_answers.specs.Zero.{zeroDrained, zeroFailure}
 use Rattle.part_drain_answers.specs.declared.DrainReply.{DrainReply}
 
 -- what is handed out; nothing beside a refusal
@@ -17,7 +18,7 @@ drainedBy (ended m xs v) = xs
 drainedBy (undone n) = []
 drainedBy (stopped m xs n) = []
 
-abbrev pub failuresBy : Value → List Failure
+abbrev pub failuresBy : Value → List SubmissionDrainFailure
 failuresBy noValue = []
 failuresBy (failures fs) = fs
 failuresBy (finalized f) = []
@@ -33,8 +34,8 @@ abbrev pub drainReply : BookData → Outcome Book Value → DrainReply
 drainReply b o = record {
   answer = answerOf o;
   «submission_count» = length (drainedBy o);
-  submissions = cells 16 zeroDrained (map drainedBack (drainedBy o));
+  submissions = cells 16 zeroDrained (drainedBy o);
   «failure_count» = length (valueOf [] failuresBy o);
-  failures = cells 16 zeroFailure (map failureBack (valueOf [] failuresBy o));
+  failures = cells 16 zeroFailure (valueOf [] failuresBy o);
   book = bookLeft b o;
 }

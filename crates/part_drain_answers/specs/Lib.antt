@@ -1,2 +1,1 @@
-pub mod Failures
 pub mod DrainReply

@@ -1,40 +1,15 @@
 // What a drain answers: the submissions handed out, the candidates that failed, and the book.
 use book::BookData;
 use book::OptionalId;
-use book::SubmissionId;
+use book_answers::DrainFailureCause;
+use book_answers::DrainedSubmission;
+use book_answers::SubmissionDrainFailure;
+use book_answers::SubmissionDrainFailureStage;
 use part_replies::CallAnswer;
-use part_submitted::DrainedSubmission;
 ghost use mathlib.Core.Path.{_≡_};
 ghost use Rattle.rules.specs.Call.{removes, retainedId, stageOf as stageBy};
 ghost use Rattle.rules.specs.Rule.{undone};
-ghost use Rattle.part_drain_answers.specs.Failures.{causeOf, stageMeans, idMeans, failureOf, zeroFailure};
 ghost use Rattle.part_drain_answers.specs.DrainReply.{drainReply};
-
-// Which of the plan's misses a failure is.
-pub enum DrainFailureCause {
-    NoRetainedState,
-    FeeIntentDiffers,
-    InvalidRetainedState,
-    IntentDiffers,
-    IdCollides,
-    OutputsUnreadable,
-    IdsExhausted,
-}
-
-pub enum SubmissionDrainFailureStage {
-    Fingerprint,
-    RetainedState,
-    ExpectedOutputs,
-    SubmissionId,
-}
-
-// The index counts the queue as it was, from 0.
-pub struct SubmissionDrainFailure {
-    pub candidate_index: usize,
-    pub cause: DrainFailureCause,
-    pub candidate_id: SubmissionId,
-    pub intent_fingerprint: [u8; 32],
-}
 
 pub struct DrainReply {
     pub answer: CallAnswer,
@@ -46,7 +21,7 @@ pub struct DrainReply {
 }
 
 pub fn stage_of(cause: DrainFailureCause) -> SubmissionDrainFailureStage
-    ensures { λ r. ⌜ stageMeans r ≡ stageBy (causeOf cause) ⌝ }
+    ensures { λ r. ⌜ r ≡ stageBy cause ⌝ }
 {
     match cause {
         DrainFailureCause::NoRetainedState => SubmissionDrainFailureStage::RetainedState,
@@ -61,7 +36,7 @@ pub fn stage_of(cause: DrainFailureCause) -> SubmissionDrainFailureStage
 
 // The failures that remove their submission.
 fn is_removal(cause: DrainFailureCause) -> bool
-    ensures { λ r. ⌜ r ≡ removes (causeOf cause) ⌝ }
+    ensures { λ r. ⌜ r ≡ removes cause ⌝ }
 {
     match cause {
         DrainFailureCause::NoRetainedState => false,
@@ -76,7 +51,7 @@ fn is_removal(cause: DrainFailureCause) -> bool
 
 // `retained_submission_id`.
 pub fn retained_id(f: SubmissionDrainFailure) -> OptionalId
-    ensures { λ r. ⌜ idMeans r ≡ retainedId (failureOf f) ⌝ }
+    ensures { λ r. ⌜ r ≡ retainedId f ⌝ }
 {
     let cause = f.cause;
     let id = f.candidate_id;
@@ -84,19 +59,6 @@ pub fn retained_id(f: SubmissionDrainFailure) -> OptionalId
         return OptionalId::Of(id);
     }
     OptionalId::NoId
-}
-
-impl SubmissionDrainFailure {
-    pub fn zero() -> SubmissionDrainFailure
-        ensures { λ r. ⌜ r ≡ zeroFailure ⌝ }
-    {
-        SubmissionDrainFailure {
-            candidate_index: 0,
-            cause: DrainFailureCause::NoRetainedState,
-            candidate_id: SubmissionId(0),
-            intent_fingerprint: [0; 32],
-        }
-    }
 }
 
 // A refusal: its number, nothing beside it, and the book that it leaves.

@@ -13,18 +13,16 @@ use Rattle.book.specs.declared.PendingDelivery.{PendingDelivery}
 use Rattle.book.specs.declared.SubmittedTx.{SubmittedTx}
 use Rattle.book.specs.Zero.{zeroSubmitted, noSlots}
 use Rattle.book.specs.Sound.{readableBundle, idOf}
-use Rattle.rules.specs.Call.{Cause}
+use Rattle.book_answers.specs.declared.DrainFailureCause.{DrainFailureCause}
 use Rattle.rules.specs.Parts.{currentFingerprint}
 use Rattle.rules.specs.Rule.{tighten}
 use Rattle.rules.specs.Steps.{withEntry, withSlots}
 use Rattle.rules.specs.Steps.Entry.{revised, newEntry}
 use Rattle.rules.specs.Steps.Slots.{issueAttempt, slotsIssued, taken, handed}
 use Rattle.rules.specs.Calls.Plan.{missOf, wanted, last64}
-use Rattle.part_submitted.specs.Drained.{drainedBack, zeroDrained}
-use Rattle.part_drain_answers.specs.Failures.{causeBack, zeroFailure}
-use Rattle.part_drain_answers.specs.declared.DrainFailureCause.{DrainFailureCause}
-use Rattle.part_drain_answers.specs.declared.DrainFailureCause.the-variants.{IdCollides, OutputsUnreadable, IdsExhausted}
-use Rattle.part_drain_answers.specs.declared.SubmissionDrainFailure.{SubmissionDrainFailure}
+use Rattle.book_answers.specs.Zero.{zeroDrained, zeroFailure}
+use Rattle.book_answers.specs.declared.DrainFailureCause.the-variants.{IdCollides, OutputsUnreadable, IdsExhausted}
+use Rattle.book_answers.specs.declared.SubmissionDrainFailure.{SubmissionDrainFailure}
 use Rattle.part_plan.specs.declared.PlanAction.the-variants.{Failed, Removed, Stored, Issued}
 use Rattle.part_plan.specs.declared.PlanAnswer.{PlanAnswer}
 use Rattle.part_plan.specs.declared.PlanAnswer.the-variants.{Full, Exhausted, Planned}
@@ -53,7 +51,7 @@ issuePlan p t g = record {
   answer = Planned Issued;
   place = tokenTaken p;
   tx = withSlots (slotsIssued (issueAttempt (p .«next_token» .0) g (currentFingerprint (t .entry)))) t;
-  submission = drainedBack (handed (p .«next_token» .0) g (t .entry) (taken (t .slots)));
+  submission = (handed (p .«next_token» .0) g (t .entry) (taken (t .slots)));
   failure = zeroFailure;
 }
 
@@ -72,10 +70,10 @@ metPlan p emitted c t = cond (wanted (c .goal) (t .entry)) (deliverPlan p emitte
 unfoldable pub removalPlan : List ℕ → SubmissionDrainFailure → SubmissionPlanDelta
 removalPlan retired f = failing (cond (ltb 64 (length (pushNew retired (f .«candidate_id» .0)))) Full (Planned Removed)) f
 
-abbrev pub knownPlanBy : SubmittedPlace → List ℕ → List ℕ → ℕ → PendingDelivery → List ℕ → SubmittedTx → Option Cause → SubmissionPlanDelta
+abbrev pub knownPlanBy : SubmittedPlace → List ℕ → List ℕ → ℕ → PendingDelivery → List ℕ → SubmittedTx → Option DrainFailureCause → SubmissionPlanDelta
 knownPlanBy p emitted retired n c f t none = metPlan p emitted c t
 knownPlanBy p emitted retired n c f t (some m) =
-    removalPlan retired (failureAt n (causeBack m) (t .entry .id) f)
+    removalPlan retired (failureAt n m (t .entry .id) f)
 
 unfoldable pub knownPlan : SubmittedPlace → List ℕ → List ℕ → ℕ → PendingDelivery → List ℕ → SubmittedTx → SubmissionPlanDelta
 knownPlan p emitted retired n c f t = knownPlanBy p emitted retired n c f t (missOf (c .intent) f (t .entry))

@@ -14,7 +14,7 @@ use Rattle.rules.specs.Steps.{onBook, runBook}
 use Rattle.rules.specs.Call.{Value}
 use Rattle.part_replies.specs.declared.CallAnswer.{CallAnswer}
 use Rattle.part_replies.specs.declared.CallAnswer.the-variants.{Done, Refused}
-use Rattle.part_replies.specs.declared.SubmissionAttemptStatus.the-variants.{Stale}
+use Rattle.book_answers.specs.declared.SubmissionAttemptStatus.the-variants.{Stale}
 use Rattle.part_replies.specs.declared.DoneReply.{DoneReply}
 use Rattle.part_replies.specs.declared.StatusReply.{StatusReply}
 use Rattle.part_replies.specs.declared.IdsReply.{IdsReply}
@@ -24,7 +24,8 @@ use Rattle.part_replies.specs.declared.AttemptReply.{AttemptReply}
 use Rattle.part_replies.specs.declared.FeeIntentReply.{FeeIntentReply}
 use Rattle.part_replies.specs.declared.FinalizeReply.{FinalizeReply}
 use Rattle.part_replies.specs.declared.WrittenReply.{WrittenReply}
-use Rattle.part_replies.specs.Values.{statusBy, idsBy, flagBy, heightBy, attemptBy, hasFeeIntent, feeIntentBy, hasFinal, finalBy, zeroFinal, bytesBy}
+use Rattle.part_replies.specs.Values.{statusBy, idsBy, flagBy, heightBy, attemptBy, hasFeeIntent, feeIntentBy, hasFinal, finalBy, bytesBy}
+use Rattle.book_answers.specs.Zero.{zeroFinal}
 
 -- ---- shared by all
 -- the rules behind the door: 1, book not sound

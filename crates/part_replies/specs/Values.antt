@@ -5,57 +5,17 @@ use mathlib.Core.List.{List, []}
 use mathlib.Core.Option.{Option, none, some}
 use lib.ListN.{length}
 use Rattle.book.specs.Model.{ids64}
-use Rattle.book.specs.Zero.{zeros, zeroBundle, zeroFeeIntent, noAttempt}
+use Rattle.book.specs.Zero.{zeroFeeIntent, noAttempt}
 use Rattle.book.specs.declared.Ids64.{Ids64}
 use Rattle.book.specs.declared.OptionalAttempt.{OptionalAttempt}
 use Rattle.book.specs.declared.OptionalHeight.{OptionalHeight}
 use Rattle.book.specs.declared.OptionalHeight.the-variants.{NoHeight}
 use Rattle.book.specs.declared.SubmissionFeeIntent.{SubmissionFeeIntent}
-use Rattle.rules.specs.Call as call
 use Rattle.rules.specs.Call.{Value, noValue, failures, finalized, feeIntentIs, statusIs, idsAre, flag, heightIs, attemptIs, written}
-use Rattle.part_replies.specs.declared.SubmissionAttemptStatus.{SubmissionAttemptStatus}
-use Rattle.part_replies.specs.declared.SubmissionAttemptStatus.the-variants as status
-use Rattle.part_replies.specs.declared.SubmissionFeeSource.{SubmissionFeeSource}
-use Rattle.part_replies.specs.declared.SubmissionFeeSource.the-variants as source
-use Rattle.part_replies.specs.declared.FeeSourceDisposition.{FeeSourceDisposition}
-use Rattle.part_replies.specs.declared.FeeSourceDisposition.the-variants as disposition
-use Rattle.part_replies.specs.declared.FinalizedSubmission.{FinalizedSubmission}
-
-abbrev pub sourceOf : SubmissionFeeSource → call.FeeSource
-sourceOf source.NotRequested = call.NoSource
-sourceOf source.Joined = call.Joined
-sourceOf source.JoinFailed = call.JoinFailed
-sourceOf source.Failed = call.SourceFailed
-
-abbrev pub statusOf : call.AttemptStatus → SubmissionAttemptStatus
-statusOf call.Applied = status.Applied
-statusOf call.Stale = status.Stale
-
-abbrev pub dispositionOf : call.Disposition → FeeSourceDisposition
-dispositionOf call.FeeAttached = disposition.Attached
-dispositionOf call.FeeUnused = disposition.Unused
-dispositionOf call.FeeNotRequested = disposition.NotRequested
-
-abbrev pub finalOf : call.FinalizedSubmission → FinalizedSubmission
-finalOf f = record {
-  bundle = f .bundle;
-  «applied_fee» = f .appliedFee;
-  warning = f .warning;
-  disposition = dispositionOf (f .disposition);
-  «variant_fingerprint» = f .fingerprint;
-  «should_broadcast» = f .shouldBroadcast;
-}
-
-unfoldable pub zeroFinal : FinalizedSubmission
-unfolding zeroBundle
-zeroFinal = record {
-  bundle = zeroBundle;
-  «applied_fee» = 0;
-  warning = false;
-  disposition = disposition.Attached;
-  «variant_fingerprint» = zeros 32;
-  «should_broadcast» = false;
-}
+use Rattle.book_answers.specs.declared.SubmissionAttemptStatus.{SubmissionAttemptStatus}
+use Rattle.book_answers.specs.declared.SubmissionAttemptStatus.the-variants as status
+use Rattle.book_answers.specs.declared.FinalizedSubmission.{FinalizedSubmission}
+use Rattle.book_answers.specs.Zero.{zeroFinal}
 
 -- acknowledge, stop, abandon, relinquish
 abbrev pub statusBy : Value → SubmissionAttemptStatus
@@ -63,7 +23,7 @@ statusBy noValue = status.Stale
 statusBy (failures fs) = status.Stale
 statusBy (finalized f) = status.Stale
 statusBy (feeIntentIs f) = status.Stale
-statusBy (statusIs s) = statusOf s
+statusBy (statusIs s) = s
 statusBy (idsAre is) = status.Stale
 statusBy (flag t) = status.Stale
 statusBy (heightIs h) = status.Stale
@@ -170,7 +130,7 @@ abbrev pub finalBy : Value → FinalizedSubmission
 finalBy noValue = zeroFinal
 finalBy (failures fs) = zeroFinal
 finalBy (finalized none) = zeroFinal
-finalBy (finalized (some f)) = finalOf f
+finalBy (finalized (some f)) = f
 finalBy (feeIntentIs f) = zeroFinal
 finalBy (statusIs s) = zeroFinal
 finalBy (idsAre is) = zeroFinal

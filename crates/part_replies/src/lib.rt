@@ -7,40 +7,13 @@ use book::BookData;
 use book::Ids64;
 use book::OptionalAttempt;
 use book::OptionalHeight;
-use book::SpendBundle;
 use book::SubmissionFeeIntent;
+use book_answers::FinalizedSubmission;
+use book_answers::SubmissionAttemptStatus;
 
 pub enum CallAnswer {
     Done,
     Refused(u8),
-}
-
-pub enum SubmissionAttemptStatus {
-    Applied,
-    Stale,
-}
-
-// `SubmissionFeeSource`: `Available` with its joined bundle, or with a join that failed. The joined bundle stands beside it.
-pub enum SubmissionFeeSource {
-    NotRequested,
-    Joined,
-    JoinFailed,
-    Failed,
-}
-
-pub enum FeeSourceDisposition {
-    Attached,
-    Unused,
-    NotRequested,
-}
-
-pub struct FinalizedSubmission {
-    pub bundle: SpendBundle,
-    pub applied_fee: u64,
-    pub warning: bool,
-    pub disposition: FeeSourceDisposition,
-    pub variant_fingerprint: [u8; 32],
-    pub should_broadcast: bool,
 }
 
 // A call without a value.

@@ -6,18 +6,10 @@ use book::OptionalAttempt;
 use book::OptionalHash;
 use book::SubmissionDeliveryGoal;
 use book::Token;
+use book_answers::SubmissionAttemptRelationship;
 ghost use mathlib.Core.Path.{_≡_};
 ghost use Rattle.rules.specs.Steps.Slots.{present, issueAttempt, taken as takenOf, slotsIssued, slotsAside, slotsFinal, resolved, relationshipTo};
-ghost use Rattle.part_slots.specs.Meaning.{relationshipOf};
 ghost use Rattle.rules.specs.Calls.Common.{hasToken};
-
-// How an issued attempt stands to its predecessor.
-pub enum SubmissionAttemptRelationship {
-    Initial,
-    Exact,
-    NewerFeeBearing,
-    Other,
-}
 
 // A slot with an attempt in it.
 pub fn filled(a: DeliveryAttempt) -> OptionalAttempt
@@ -128,7 +120,7 @@ pub fn relationship(
     goal: SubmissionDeliveryGoal,
     fingerprint: [u8; 32],
 ) -> SubmissionAttemptRelationship
-    ensures { λ r. ⌜ relationshipOf r ≡ relationshipTo p goal fingerprint ⌝ }
+    ensures { λ r. ⌜ r ≡ relationshipTo p goal fingerprint ⌝ }
 {
     if p.present {
         if goal.is_ensure_broadcast() {

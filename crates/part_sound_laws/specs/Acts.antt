@@ -3,7 +3,8 @@ use mathlib.Core.Bool.{Bool, true, false, _&&_}
 use mathlib.Core.List.{List, []}
 use mathlib.Core.Path.{_≡_, refl, ap, _∙_}
 use Rattle.book.specs.Model.{Book}
-use Rattle.rules.specs.Rule.{DrainedSubmission, Step, Rule, act, turn, Outcome, ended, undone, stopped, logged, guarded, grows, full, run}
+use Rattle.book_answers.specs.declared.DrainedSubmission.{DrainedSubmission}
+use Rattle.rules.specs.Rule.{Step, Rule, act, turn, Outcome, ended, undone, stopped, logged, guarded, grows, full, run}
 use Rattle.rules.specs.Steps.{onBook, runBook}
 
 pub logged-none : {A : Type 0} (k : Outcome Book A) → logged [] k ≡ k

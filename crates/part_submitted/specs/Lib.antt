@@ -1,3 +1,2 @@
-pub mod Drained
 pub mod Known
 pub mod Laws

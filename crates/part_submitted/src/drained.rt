@@ -1,24 +1,20 @@
 // What a drain hands out, and what it retains for a new intent.
-use crate::DrainedSubmission;
-use crate::OptionalToken;
-use crate::entry::current_bundle;
-use crate::entry::open_fee_intent;
 use book::FeeIntentKind;
 use book::FeeResolution;
 use book::OptionalAttempt;
 use book::OptionalHash;
-use book::OptionalHeight;
 use book::PendingSubmissionIntent;
-use book::SpendBundle;
 use book::SubmissionBroadcastVariant;
 use book::SubmissionChainTerminality;
 use book::SubmissionDeliveryGoal;
-use book::SubmissionFeeIntent;
 use book::SubmissionId;
 use book::SubmissionStatus;
 use book::SubmittedEntry;
 use book::Token;
-use part_slots::SubmissionAttemptRelationship;
+use book_answers::DrainedSubmission;
+use book_answers::OptionalToken;
+use crate::entry::current_bundle;
+use crate::entry::open_fee_intent;
 use part_slots::relationship;
 ghost use mathlib.Core.Bool.{cond};
 ghost use mathlib.Core.Path.{_≡_};
@@ -27,27 +23,10 @@ ghost use Rattle.book.specs.declared.FeeResolution.the-variants.{Unresolved, No
 ghost use Rattle.rules.specs.Parts.{currentFingerprint, intentOf};
 ghost use Rattle.rules.specs.Steps.Entry.{newEntry};
 ghost use Rattle.rules.specs.Steps.Slots.{tokenIn, handed as handedOut};
-ghost use Rattle.part_submitted.specs.Drained.{tokenOf, drainedOf, zeroDrained};
-
-impl DrainedSubmission {
-    pub fn zero() -> DrainedSubmission
-        ensures { λ r. ⌜ r ≡ zeroDrained ⌝ }
-    {
-        DrainedSubmission {
-            id: SubmissionId(0),
-            attempt_token: Token(0),
-            predecessor_attempt_token: OptionalToken::NoToken,
-            relationship: SubmissionAttemptRelationship::Initial,
-            bundle: SpendBundle::zero(),
-            expiry: OptionalHeight::NoHeight,
-            fee_intent: SubmissionFeeIntent::zero(),
-        }
-    }
-}
 
 // The token in a slot.
 pub fn token_in(p: OptionalAttempt) -> OptionalToken
-    ensures { λ r. ⌜ tokenOf r ≡ tokenIn p ⌝ }
+    ensures { λ r. ⌜ r ≡ tokenIn p ⌝ }
 {
     if p.present {
         let t = p.attempt.token;
@@ -65,7 +44,7 @@ pub fn handed(
     fingerprint: [u8; 32],
 ) -> DrainedSubmission
     requires { ⌜ fingerprint ≡ currentFingerprint e ⌝ }
-    ensures { λ r. ⌜ drainedOf r ≡ handedOut (token .0) goal e p ⌝ }
+    ensures { λ r. ⌜ r ≡ handedOut (token .0) goal e p ⌝ }
 {
     let id = e.id;
     let status = e.status;

@@ -3,26 +3,3 @@ pub mod drained;
 pub mod entry;
 pub mod fingerprint;
 pub mod revise;
-
-use book::OptionalHeight;
-use book::SpendBundle;
-use book::SubmissionFeeIntent;
-use book::SubmissionId;
-use book::Token;
-use part_slots::SubmissionAttemptRelationship;
-
-pub enum OptionalToken {
-    NoToken,
-    Of(Token),
-}
-
-// What a drain hands out for a submission that gets a token.
-pub struct DrainedSubmission {
-    pub id: SubmissionId,
-    pub attempt_token: Token,
-    pub predecessor_attempt_token: OptionalToken,
-    pub relationship: SubmissionAttemptRelationship,
-    pub bundle: SpendBundle,
-    pub expiry: OptionalHeight,
-    pub fee_intent: SubmissionFeeIntent,
-}

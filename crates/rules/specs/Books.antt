@@ -4,7 +4,8 @@ use mathlib.Core.List.{List, [], _∷_}
 use Rattle.book.specs.Model.{Book}
 use Rattle.rules.specs.Call.{Call, Value}
 use Rattle.rules.specs.Calls.{rules}
-use Rattle.rules.specs.Rule.{DrainedSubmission, full, run, Answer, answered, left, issuedBy}
+use Rattle.book_answers.specs.declared.DrainedSubmission.{DrainedSubmission}
+use Rattle.rules.specs.Rule.{full, run, Answer, answered, left, issuedBy}
 use Rattle.rules.specs.Steps.{onBook, runBook}
 
 module _ (encode : Book → List ℕ) where

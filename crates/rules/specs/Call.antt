@@ -3,7 +3,7 @@
 use Prim.Native.Nat.{ℕ}
 use mathlib.Core.Bool.{Bool, true, false, cond}
 use mathlib.Core.List.{List}
-use mathlib.Core.Option.{Option, none, some}
+use mathlib.Core.Option.{Option}
 use Rattle.book.specs.declared.Height.{Height}
 use Rattle.book.specs.declared.SpendBundle.{SpendBundle}
 use Rattle.book.specs.declared.SubmissionFeeIntent.{SubmissionFeeIntent}
@@ -12,10 +12,16 @@ use Rattle.book.specs.declared.PendingDelivery.{PendingDelivery}
 use Rattle.book.specs.declared.OptionalHeight.{OptionalHeight}
 use Rattle.book.specs.declared.SubmissionDeliveryGoal.{SubmissionDeliveryGoal}
 use Rattle.book.specs.declared.DeliveryTrigger.{DeliveryTrigger}
-
--- `SubmissionFeeSource`: `Available` is a joined bundle or a join that failed
-pub data FeeSource : Type 0 where
-  NoSource Joined JoinFailed SourceFailed : FeeSource
+use Rattle.book.specs.declared.OptionalId.{OptionalId}
+use Rattle.book.specs.declared.OptionalId.the-variants.{NoId, Of}
+use Rattle.book_answers.specs.declared.DrainFailureCause.{DrainFailureCause}
+use Rattle.book_answers.specs.declared.DrainFailureCause.the-variants.{NoRetainedState, FeeIntentDiffers, InvalidRetainedState, IntentDiffers, IdCollides, OutputsUnreadable, IdsExhausted}
+use Rattle.book_answers.specs.declared.FinalizedSubmission.{FinalizedSubmission}
+use Rattle.book_answers.specs.declared.SubmissionAttemptStatus.{SubmissionAttemptStatus}
+use Rattle.book_answers.specs.declared.SubmissionDrainFailure.{SubmissionDrainFailure}
+use Rattle.book_answers.specs.declared.SubmissionDrainFailureStage.{SubmissionDrainFailureStage}
+use Rattle.book_answers.specs.declared.SubmissionDrainFailureStage.the-variants as stage
+use Rattle.book_answers.specs.declared.SubmissionFeeSource.{SubmissionFeeSource}
 
 pub data Call : Type 0 where
   Queue : PendingDelivery → Call
@@ -24,7 +30,7 @@ pub data Call : Type 0 where
   QueueRetainedDelivery : ℕ → DeliveryTrigger → SubmissionDeliveryGoal → Call
   Drain : Call
   -- the bundle is the joined one, and zero with any other source
-  FinalizeAttempt : ℕ → FeeSource → SpendBundle → Call
+  FinalizeAttempt : ℕ → SubmissionFeeSource → SpendBundle → Call
   FeeIntentForAttempt AcknowledgeAttempt StopAttempt AbandonAttempt RelinquishCompletedAttempt : ℕ → Call
   -- by the ids to remove
   RetainSubmitted : List ℕ → Call
@@ -47,25 +53,18 @@ pub data Call : Type 0 where
   -- buffer
   WriteArchive : ℕ → Call
 
--- which of the plan's misses a drain failure is
-pub data Cause : Type 0 where
-  NoRetainedState FeeIntentDiffers InvalidRetainedState IntentDiffers IdCollides OutputsUnreadable IdsExhausted : Cause
-
--- `SubmissionDrainFailureStage`; the archive form always encodes, so `Fingerprint` does not occur
-pub data Stage : Type 0 where
-  Fingerprint RetainedState ExpectedOutputs SubmissionIdSource : Stage
-
-abbrev pub stageOf : Cause → Stage
-stageOf NoRetainedState = RetainedState
-stageOf FeeIntentDiffers = RetainedState
-stageOf InvalidRetainedState = RetainedState
-stageOf IntentDiffers = RetainedState
-stageOf IdCollides = SubmissionIdSource
-stageOf OutputsUnreadable = ExpectedOutputs
-stageOf IdsExhausted = SubmissionIdSource
+-- `SubmissionDrainFailureStage` of a cause
+abbrev pub stageOf : DrainFailureCause → SubmissionDrainFailureStage
+stageOf NoRetainedState = stage.RetainedState
+stageOf FeeIntentDiffers = stage.RetainedState
+stageOf InvalidRetainedState = stage.RetainedState
+stageOf IntentDiffers = stage.RetainedState
+stageOf IdCollides = stage.SubmissionId
+stageOf OutputsUnreadable = stage.ExpectedOutputs
+stageOf IdsExhausted = stage.SubmissionId
 
 -- the failures that remove their submission
-abbrev pub removes : Cause → Bool
+abbrev pub removes : DrainFailureCause → Bool
 removes NoRetainedState = false
 removes FeeIntentDiffers = true
 removes InvalidRetainedState = true
@@ -74,40 +73,16 @@ removes IdCollides = false
 removes OutputsUnreadable = false
 removes IdsExhausted = false
 
--- `SubmissionDrainFailure`: the index counts the queue as it was, from 0; the candidate id is always there
-pub record Failure : Type 0 where
-  pub index : ℕ
-  pub cause : Cause
-  pub candidateId : ℕ
-  pub intentFingerprint : List ℕ
-
 -- `retained_submission_id`
-abbrev pub retainedId : Failure → Option ℕ
-retainedId f = cond (removes (f .cause)) (some (f .candidateId)) none
-
--- `FeeSourceDisposition`
-pub data Disposition : Type 0 where
-  FeeAttached FeeUnused FeeNotRequested : Disposition
-
--- `FinalizedSubmission`
-pub record FinalizedSubmission : Type 0 where
-  pub bundle : SpendBundle
-  pub appliedFee : ℕ
-  pub warning : Bool
-  pub disposition : Disposition
-  pub fingerprint : List ℕ
-  pub shouldBroadcast : Bool
-
--- `SubmissionAttemptStatus`
-pub data AttemptStatus : Type 0 where
-  Applied Stale : AttemptStatus
+abbrev pub retainedId : SubmissionDrainFailure → OptionalId
+retainedId f = cond (removes (f .cause)) (Of (f .«candidate_id»)) NoId
 
 pub data Value : Type 0 where
   noValue : Value
-  failures : List Failure → Value
+  failures : List SubmissionDrainFailure → Value
   finalized : Option FinalizedSubmission → Value
   feeIntentIs : Option SubmissionFeeIntent → Value
-  statusIs : AttemptStatus → Value
+  statusIs : SubmissionAttemptStatus → Value
   idsAre : List ℕ → Value
   flag : Bool → Value
   heightIs : OptionalHeight → Value

@@ -14,11 +14,14 @@ use Rattle.book.specs.Model.{Book}
 use Rattle.book.specs.Sound.{idOf, soundLists}
 use Rattle.book.specs.Zero.{zeroBundle, zeroFeeIntent}
 use Rattle.rules.specs.Books.{bookAfter, answersBook}
-use Rattle.rules.specs.Call.{Call, NoRetainedState, FeeIntentDiffers, Applied, Stale, Value, noValue, failures, statusIs, idsAre, written}
+use Rattle.book_answers.specs.declared.DrainFailureCause.the-variants.{NoRetainedState, FeeIntentDiffers}
+use Rattle.book_answers.specs.declared.SubmissionAttemptRelationship.the-variants.{Initial}
+use Rattle.book_answers.specs.declared.SubmissionAttemptStatus.the-variants.{Applied, Stale}
+use Rattle.rules.specs.Call.{Call, Value, noValue, failures, statusIs, idsAre, written}
 use Rattle.rules.specs.Calls.{rules}
 use Rattle.rules.specs.Examples.Pieces.{noArchive, height, byId, heightNumber, queuedId, delivery, damaged, drained, failing, noFee, entryOf, spending, seventhId, noCoins, liveSlot, seventh, holding, fifteen, queueing, accepted}
 use Rattle.rules.specs.Opened.{opened}
-use Rattle.rules.specs.Rule.{Initial, full, run, Answer, answer, refused, answered, left}
+use Rattle.rules.specs.Rule.{full, run, Answer, answer, refused, answered, left}
 use Rattle.rules.specs.Steps.{onBook, runBook}
 
 -- a list of calls on a book: the answers, and the book left in brief

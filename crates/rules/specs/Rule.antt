@@ -3,7 +3,6 @@
 use Prim.Native.Nat.{ℕ}
 use mathlib.Core.Bool.{Bool, true, false, _||_, _&&_}
 use mathlib.Core.List.{List, [], _∷_, _++_, append-assoc}
-use mathlib.Core.Option.{Option}
 use mathlib.Core.Path.{_≡_, refl}
 use lib.Dec.{ltb}
 use lib.ListN.{length}
@@ -11,25 +10,11 @@ use Rattle.book.specs.Model.{Book}
 use Rattle.book.specs.declared.Height.{Height}
 use Rattle.book.specs.declared.OptionalHeight.{OptionalHeight}
 use Rattle.book.specs.declared.SpendBundle.{SpendBundle}
-use Rattle.book.specs.declared.SubmissionFeeIntent.{SubmissionFeeIntent}
 use Rattle.book.specs.declared.SubmissionDeliveryGoal.{SubmissionDeliveryGoal}
 use Rattle.book.specs.declared.SubmissionChainTerminality.{SubmissionChainTerminality}
 use Rattle.book.specs.declared.PendingSubmissionIntent.{PendingSubmissionIntent}
 use Rattle.book.specs.declared.PendingDelivery.{PendingDelivery}
-
--- `SubmissionAttemptRelationship`
-pub data Relationship : Type 0 where
-  Initial Exact NewerFeeBearing Other : Relationship
-
--- `DrainedSubmission`: what a drain hands out; ids and tokens as numbers
-pub record DrainedSubmission : Type 0 where
-  pub id : ℕ
-  pub token : ℕ
-  pub predecessor : Option ℕ
-  pub relationship : Relationship
-  pub bundle : SpendBundle
-  pub expiry : OptionalHeight
-  pub feeIntent : SubmissionFeeIntent
+use Rattle.book_answers.specs.declared.DrainedSubmission.{DrainedSubmission}
 
 -- a change of the other facts of one submission
 pub data Revision : Type 0 where

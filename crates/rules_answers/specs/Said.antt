@@ -26,11 +26,17 @@ use Rattle.book.specs.Sound.{readableBundle, idOf}
 use Rattle.book.specs.Typed.{Every, U8, TypedBundle, TypedFeeIntent, TypedAttempt, TypedEntry, TypedSubmitted}
 use Rattle.book.specs.Zero.{zeroFeeIntent}
 use Rattle.archive_laws.specs.Cells.{every-append, every-replicate}
-use Rattle.rules.specs.Call.{FeeSource, FinalizedSubmission, Failure, Cause, IdCollides, OutputsUnreadable, IdsExhausted, NoRetainedState, Value, failures, finalized, feeIntentIs, idsAre, attemptIs}
+use Rattle.book_answers.specs.declared.DrainFailureCause.{DrainFailureCause}
+use Rattle.book_answers.specs.declared.DrainFailureCause.the-variants.{NoRetainedState, IdCollides, OutputsUnreadable, IdsExhausted}
+use Rattle.book_answers.specs.declared.DrainedSubmission.{DrainedSubmission}
+use Rattle.book_answers.specs.declared.FinalizedSubmission.{FinalizedSubmission}
+use Rattle.book_answers.specs.declared.SubmissionDrainFailure.{SubmissionDrainFailure}
+use Rattle.book_answers.specs.declared.SubmissionFeeSource.{SubmissionFeeSource}
+use Rattle.rules.specs.Call.{Value, failures, finalized, feeIntentIs, idsAre, attemptIs}
 use Rattle.rules.specs.Doors.{idsOk}
 use Rattle.rules.specs.Keyed.{pick}
 use Rattle.rules.specs.Parts.{currentBundle, currentFingerprint, feeUnresolved, openFeeIntent, intentOf, validate, activeEntry}
-use Rattle.rules.specs.Rule.{DrainedSubmission, Step, note, revise, retain, emit, remove, setAside, finalise, replay, Rule, done, undo, stop, look, act, turn, _>>=_, _>>_, Outcome, ended, undone, stopped, logged, guarded, grows, full, run}
+use Rattle.rules.specs.Rule.{Step, note, revise, retain, emit, remove, setAside, finalise, replay, Rule, done, undo, stop, look, act, turn, _>>=_, _>>_, Outcome, ended, undone, stopped, logged, guarded, grows, full, run}
 use Rattle.rules.specs.Steps.{emitTo, emitBook, onBook, runBook}
 use Rattle.rules.specs.Steps.Slots.{handed}
 use Rattle.rules.specs.Calls.ActiveIds.{activeIds}
@@ -41,7 +47,7 @@ use Rattle.rules.specs.Calls.Common.{Found, live, aside, gone, neverIssued, has
 use Rattle.rules.specs.Calls.Drain.{isOneOf, oneCandidate, candidates, drain}
 use Rattle.rules.specs.Calls.DrainRetirements.{drainRetirements}
 use Rattle.rules.specs.Calls.FeeIntentForAttempt.{feeIntentForAttempt}
-use Rattle.rules.specs.Calls.FinalizeAttempt.{isJoined, isNoSource, finalizeAs, finalizeWith, finalizeLive, soundSource, finalizeAttempt}
+use Rattle.rules.specs.Calls.FinalizeAttempt.{isJoined, isNotRequested, finalizeAs, finalizeWith, finalizeLive, soundSource, finalizeAttempt}
 use Rattle.rules.specs.Calls.Finalized.{unusedFee, currentFinal, attachedFinal}
 use Rattle.rules.specs.Calls.Plan.{Memory, blank, withEmitted, withRemoved, withFailure, last64, missOf, wanted}
 use Rattle.rules.specs.Calls.RetainSubmitted.{toRemove, retainSubmitted}
@@ -128,11 +134,11 @@ says-weaken P Q f k b (act p r) h = λ c. says-weaken P Q f (more p k) c r (h c)
 says-weaken P Q f k b (turn r) h = says-weaken P Q f k b r h
 
 -- ---- a drain: at most 16 submissions and at most 16 failures
-abbrev pub Prints : List Failure → Type 0
-Prints fs = Every (λ f. length (f .intentFingerprint) ≡ 32) fs
+abbrev pub Prints : List SubmissionDrainFailure → Type 0
+Prints fs = Every (λ f. length (f .«intent_fingerprint») ≡ 32) fs
 
 pub data DrainSays (k : ℕ) : Value → Type 0 where
-  drain-says : (fs : List Failure) → k ≤ 16 → length fs ≤ 16 → Prints fs → DrainSays k (failures fs)
+  drain-says : (fs : List SubmissionDrainFailure) → k ≤ 16 → length fs ≤ 16 → Prints fs → DrainSays k (failures fs)
 
 record Few (n k : ℕ) (a : Memory) : Type 0 where
   issued : k ≤ n
@@ -148,13 +154,13 @@ few-emitted i h = record { issued = omega (arith, h .issued); failed = omega (ar
 few-removed : {n k : ℕ} {a : Memory} (i : ℕ) → Few n k a → Few n k (withRemoved i a)
 few-removed i h = record { issued = h .issued; failed = h .failed; prints = h .prints }
 
-few-failed : {n k : ℕ} {a : Memory} (x : ℕ) (m : Cause) (i : ℕ) (f : List ℕ) → length f ≡ 32 → Few n k a → Few (suc n) k (withFailure x m i f a)
+few-failed : {n k : ℕ} {a : Memory} (x : ℕ) (m : DrainFailureCause) (i : ℕ) (f : List ℕ) → length f ≡ 32 → Few n k a → Few (suc n) k (withFailure x m i f a)
 few-failed {n} {k} {a} x m i f e h =
-    let g : Failure = record { index = x; cause = m; candidateId = i; intentFingerprint = f } in
+    let g : SubmissionDrainFailure = record { «candidate_index» = x; cause = m; «candidate_id» = record { 0 = i }; «intent_fingerprint» = f } in
     record {
       issued = omega (arith, h .issued);
       failed = omega (arith, h .failed, length-append (a .failed) (g ∷ []));
-      prints = every-append (λ (y : Failure). length (y .intentFingerprint) ≡ 32) (a .failed) (g ∷ []) (h .prints) (e, tt);
+      prints = every-append (λ (y : SubmissionDrainFailure). length (y .«intent_fingerprint») ≡ 32) (a .failed) (g ∷ []) (h .prints) (e, tt);
     }
 
 module _ (n : ℕ) where
@@ -164,7 +170,7 @@ module _ (n : ℕ) where
       says-cond (Few (suc n)) k b (elemb i (a .emitted)) _ _ (few-more h) (says-cond (Few (suc n)) k b (eqb (b .nextToken .0) last64) _ _ tt (λ c. few-emitted i h))
 
   module _ (c : PendingDelivery) (f : List ℕ) (e : length f ≡ 32) (k : ℕ) (a : Memory) (h : Few n k a) where
-    few-known : (t : SubmittedTx) (m : Option Cause) (b : Book) → Says (Few (suc n)) k b (knownBy n c f t a m)
+    few-known : (t : SubmittedTx) (m : Option DrainFailureCause) (b : Book) → Says (Few (suc n)) k b (knownBy n c f t a m)
     unfolding met withdraw
     few-known t none b = λ d. says-cond (Few (suc n)) k d (wanted (c .goal) (t .entry)) _ _ (few-deliver (idOf t) (c .goal) k a d h) (few-more h)
     few-known t (some m) b = λ d d′. few-failed n m (idOf t) f e (few-removed (idOf t) h)
@@ -205,7 +211,7 @@ drain-few b h = λ c. few-candidates 0 0 (b .pending) blank c (record { issued =
 -- ---- what is handed out is within the types
 pub record TypedDrained (d : DrainedSubmission) : Type 0 where
   pub bundle : TypedBundle (d .bundle)
-  pub fee-intent : TypedFeeIntent (d .feeIntent)
+  pub fee-intent : TypedFeeIntent (d .«fee_intent»)
 
 module _ (e : SubmittedEntry) (w : TypedEntry e) where
   current-bundle-typed : TypedBundle (currentBundle e)
@@ -259,7 +265,7 @@ issued-typed P (turn r) b w h = issued-typed P r b w h
 -- ---- the other answers, on a book within the types
 pub record TypedFinal (f : FinalizedSubmission) : Type 0 where
   pub bundle : TypedBundle (f .bundle)
-  pub fingerprint : length (f .fingerprint) ≡ 32
+  pub fingerprint : length (f .«variant_fingerprint») ≡ 32
 
 pub data FinalSays (k : ℕ) : Value → Type 0 where
   no-final : FinalSays k (finalized none)
@@ -312,7 +318,7 @@ module _ (P : ℕ → Value → Type 0) where
   says-withdraws v h (i ∷ is) b = λ c d. says-withdraws v h is d
 
 module _ (b : Book) (w : Within b) where
-  final-live-says : (source : FeeSource) (j : SpendBundle) → TypedBundle j → (s : SubmittedTx) → TypedSubmitted s → Says FinalSays 0 b (finalizeLive source j s)
+  final-live-says : (source : SubmissionFeeSource) (j : SpendBundle) → TypedBundle j → (s : SubmittedTx) → TypedSubmitted s → Says FinalSays 0 b (finalizeLive source j s)
   unfolding finalizeLive finalizeWith finalizeAs unusedFee currentFinal attachedFinal
   final-live-says source j h s x =
       says-cond FinalSays 0 b (s .slots .«active_attempt» .attempt .«finalized_variant_fingerprint» .present) _ _ tt
@@ -322,12 +328,12 @@ module _ (b : Book) (w : Within b) where
       (says-cond FinalSays 0 b (isJoined source) _ _
       (λ c d. one-final _ (record { bundle = h; fingerprint = variant-typed j .long }))
       (λ c. one-final _ (record { bundle = x .entry .base; fingerprint = current-typed (s .entry) .long })))
-      (says-cond FinalSays 0 b (isNoSource source) _ _
+      (says-cond FinalSays 0 b (isNotRequested source) _ _
       (λ c. one-final _ (record { bundle = current-bundle-typed (s .entry) (x .entry); fingerprint = current-typed (s .entry) .long }))
       tt))
       tt))
 
-  pub final-says : (t : ℕ) (source : FeeSource) (j : SpendBundle) → TypedBundle j → Says FinalSays 0 b (finalizeAttempt t source j)
+  pub final-says : (t : ℕ) (source : SubmissionFeeSource) (j : SpendBundle) → TypedBundle j → Says FinalSays 0 b (finalizeAttempt t source j)
   unfolding finalizeAttempt
   final-says t source j h =
       says-cond FinalSays 0 b (soundSource source j) _ _ (says-live FinalSays t (finalized none) (finalizeLive source j) b w no-final (final-live-says source j h)) tt

@@ -22,13 +22,16 @@ use Rattle.book.specs.declared.DeliveryTrigger.{DeliveryTrigger}
 use Rattle.book.specs.declared.DeliveryTrigger.the-variants.{Rollback, ProviderReadiness}
 use Rattle.book.specs.Model.{Book}
 use Rattle.book.specs.Sound.{readableBundle, soundDelivery, idOf}
-use Rattle.rules.specs.Call.{FeeSource, Call, Cause, Value, written}
+use Rattle.book_answers.specs.declared.DrainFailureCause.{DrainFailureCause}
+use Rattle.book_answers.specs.declared.DrainedSubmission.{DrainedSubmission}
+use Rattle.book_answers.specs.declared.SubmissionFeeSource.{SubmissionFeeSource}
+use Rattle.rules.specs.Call.{Call, Value, written}
 use Rattle.rules.specs.Calls.{rules}
 use Rattle.rules.specs.CoinLists.{encodeCoins}
 use Rattle.rules.specs.Doors.{idsOk}
 use Rattle.rules.specs.Keyed.{pick}
 use Rattle.rules.specs.Parts.{currentFingerprint, feeUnresolved, activeEntry, intentOf, validate}
-use Rattle.rules.specs.Rule.{DrainedSubmission, Rule, done, undo, stop, look, act, turn, _>>=_, _>>_, Outcome, ended, undone, stopped, logged, guarded, grows, full, run, step, replay, revise, reopen}
+use Rattle.rules.specs.Rule.{Rule, done, undo, stop, look, act, turn, _>>=_, _>>_, Outcome, ended, undone, stopped, logged, guarded, grows, full, run, step, replay, revise, reopen}
 use Rattle.rules.specs.Steps.{onBook, runBook}
 use Rattle.rules.specs.Steps.Slots.{resolved}
 use Rattle.rules.specs.Calls.AbandonAttempt.{abandonLive}
@@ -39,7 +42,7 @@ use Rattle.rules.specs.Calls.Candidate.{deliver, met, knownBy, known, unknown, 
 use Rattle.rules.specs.Calls.CollectRollbackReplayIds.{markEach, offerAgain, collectRollbackReplayIds}
 use Rattle.rules.specs.Calls.Common.{Found, live, aside, gone, neverIssued, find, byLive, withLive, withdraw, withdrawEach, writing}
 use Rattle.rules.specs.Calls.Drain.{isOneOf, oneCandidate, candidates, drain}
-use Rattle.rules.specs.Calls.FinalizeAttempt.{isJoined, isNoSource, finalizeAs, finalizeWith, finalizeLive, soundSource, finalizeAttempt}
+use Rattle.rules.specs.Calls.FinalizeAttempt.{isJoined, isNotRequested, finalizeAs, finalizeWith, finalizeLive, soundSource, finalizeAttempt}
 use Rattle.rules.specs.Calls.Offer.{isQueued, deliverable, offerTo, offer, goalFor}
 use Rattle.rules.specs.Calls.Plan.{Memory, blank, last64, missOf, wanted}
 use Rattle.rules.specs.Calls.Queue.{queue}
@@ -155,7 +158,7 @@ turns-deliver : (i : ℕ) (g : SubmissionDeliveryGoal) (a : Memory) → Turns tr
 unfolding deliver
 turns-deliver i g a = turns-cond true (elemb i (a .emitted)) _ _ tt (λ b. turns-cond true (eqb (b .nextToken .0) last64) _ _ (refl, refl) tt)
 
-turns-known : (n : ℕ) (c : PendingDelivery) (f : List ℕ) (t : SubmittedTx) (a : Memory) (m : Option Cause) → Turns true (knownBy n c f t a m)
+turns-known : (n : ℕ) (c : PendingDelivery) (f : List ℕ) (t : SubmittedTx) (a : Memory) (m : Option DrainFailureCause) → Turns true (knownBy n c f t a m)
 unfolding met withdraw
 turns-known n c f t a none = turns-cond true (wanted (c .goal) (t .entry)) _ _ (turns-deliver (idOf t) (c .goal) a) tt
 turns-known n c f t a (some m) = tt
@@ -193,7 +196,7 @@ unfolding drain
 turns-drain b = turns-candidates 0 (b .pending) blank
 
 -- ---- attempts
-turns-finalize : (d : Bool) (t : ℕ) (source : FeeSource) (j : SpendBundle) → Turns d (finalizeAttempt t source j)
+turns-finalize : (d : Bool) (t : ℕ) (source : SubmissionFeeSource) (j : SpendBundle) → Turns d (finalizeAttempt t source j)
 unfolding finalizeAttempt finalizeLive finalizeWith finalizeAs
 turns-finalize d t source j =
     turns-cond d (soundSource source j) _ _
@@ -201,7 +204,7 @@ turns-finalize d t source j =
     turns-cond d (s .slots .«active_attempt» .attempt .«finalized_variant_fingerprint» .present) _ _ refl
     (turns-cond d (not (validate (s .entry))) _ _ refl
     (turns-cond d (eqs (currentFingerprint (s .entry)) (s .slots .«active_attempt» .attempt .«drained_variant_fingerprint»)) _ _
-    (turns-cond d (feeUnresolved (s .entry)) _ _ (turns-cond d (isJoined source) _ _ tt tt) (turns-cond d (isNoSource source) _ _ tt refl))
+    (turns-cond d (feeUnresolved (s .entry)) _ _ (turns-cond d (isJoined source) _ _ tt tt) (turns-cond d (isNotRequested source) _ _ tt refl))
     refl))))
     refl
 

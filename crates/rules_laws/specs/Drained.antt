@@ -17,10 +17,11 @@ use Rattle.book.specs.declared.OptionalId.the-variants.{NoId, Of}
 use Rattle.book.specs.declared.SubmissionDeliveryGoal.{SubmissionDeliveryGoal}
 use Rattle.book.specs.Model.{Book}
 use Rattle.book.specs.Sound.{readableBundle, idOf}
-use Rattle.rules.specs.Call.{Cause}
+use Rattle.book_answers.specs.declared.DrainFailureCause.{DrainFailureCause}
+use Rattle.book_answers.specs.declared.DrainedSubmission.{DrainedSubmission}
 use Rattle.rules.specs.Keyed.{pick, change, without, mem-picked, picked-key}
 use Rattle.rules.specs.Parts.{currentFingerprint, intentOf}
-use Rattle.rules.specs.Rule.{done, DrainedSubmission, Revision, Note, Step, note, revise, retain, emit, remove, setAside, finalise, replay, Rule, undo, stop, look, act, turn, _>>=_, Outcome, ended, undone, stopped, logged, guarded, grows, full, run}
+use Rattle.rules.specs.Rule.{done, Revision, Note, Step, note, revise, retain, emit, remove, setAside, finalise, replay, Rule, undo, stop, look, act, turn, _>>=_, Outcome, ended, undone, stopped, logged, guarded, grows, full, run}
 use Rattle.rules.specs.Steps.{withSubmitted, withEntry, withSlots, noteBook, reviseBook, retainable, retained, retainBook, issueBook, emitTo, emitBook, removeBook, onBook, runBook}
 use Rattle.rules.specs.Steps.Entry.{revised}
 use Rattle.rules.specs.Steps.Slots.{issueAttempt, slotsIssued, handed}
@@ -45,7 +46,7 @@ Holds b i (some t) = HoldsLive b i t
 -- the token last issued to i and not followed by a removal of i: by what a step hands out, and by all steps of a run
 abbrev pub issuedTo : ℕ → List DrainedSubmission → Option ℕ → Option ℕ
 issuedTo i [] o = o
-issuedTo i (x ∷ xs) o = issuedTo i xs (cond (eqb (x .id) i) (some (x .token)) o)
+issuedTo i (x ∷ xs) o = issuedTo i xs (cond (eqb (x .id .0) i) (some (x .«attempt_token» .0)) o)
 
 abbrev pub afterStep : ℕ → Step → List DrainedSubmission → Option ℕ → Option ℕ
 afterStep i (note n) xs o = o
@@ -237,7 +238,7 @@ all-deliver : (i : ℕ) (g : SubmissionDeliveryGoal) (a : Memory) → AllSteps d
 unfolding deliver
 all-deliver i g a = all-cond drains (elemb i (a .emitted)) _ _ tt (λ b. all-cond drains (eqb (b .nextToken .0) last64) _ _ tt (refl, tt))
 
-all-known : (n : ℕ) (c : PendingDelivery) (f : List ℕ) (t : SubmittedTx) (a : Memory) (m : Option Cause) → AllSteps drains (knownBy n c f t a m)
+all-known : (n : ℕ) (c : PendingDelivery) (f : List ℕ) (t : SubmittedTx) (a : Memory) (m : Option DrainFailureCause) → AllSteps drains (knownBy n c f t a m)
 unfolding met withdraw
 all-known n c f t a none = (refl, all-cond drains (wanted (c .goal) (t .entry)) _ _ (all-deliver (idOf t) (c .goal) a) tt)
 all-known n c f t a (some m) = (refl, (refl, tt))

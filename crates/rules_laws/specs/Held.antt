@@ -4,7 +4,8 @@ use mathlib.Core.Bool.{Bool, true, false, cond, _&&_}
 use mathlib.Core.List.{List}
 use mathlib.Core.Path.{_≡_, refl}
 use Rattle.book.specs.Model.{Book}
-use Rattle.rules.specs.Rule.{done, DrainedSubmission, Step, Rule, undo, stop, look, act, turn, _>>=_, Outcome, ended, undone, stopped, logged, guarded, grows, full, run}
+use Rattle.book_answers.specs.declared.DrainedSubmission.{DrainedSubmission}
+use Rattle.rules.specs.Rule.{done, Step, Rule, undo, stop, look, act, turn, _>>=_, Outcome, ended, undone, stopped, logged, guarded, grows, full, run}
 use Rattle.rules.specs.Steps.{onBook, runBook}
 
 -- S is asked of each step in the book that it finds, T of a stop, P where the rules end. Behind a step the book is any that has Q: rules

@@ -15,10 +15,12 @@ use Rattle.book.specs.declared.OptionalId.the-variants.{NoId, Of}
 use Rattle.book.specs.declared.SubmissionDeliveryGoal.{SubmissionDeliveryGoal}
 use Rattle.book.specs.Model.{Book}
 use Rattle.book.specs.Sound.{readableBundle, idOf}
-use Rattle.rules.specs.Call.{Cause, Value}
+use Rattle.book_answers.specs.declared.DrainFailureCause.{DrainFailureCause}
+use Rattle.book_answers.specs.declared.DrainedSubmission.{DrainedSubmission}
+use Rattle.rules.specs.Call.{Value}
 use Rattle.rules.specs.Keyed.{pick, picked-key}
 use Rattle.rules.specs.Parts.{intentOf}
-use Rattle.rules.specs.Rule.{done, DrainedSubmission, Step, note, revise, retain, emit, remove, setAside, finalise, replay, Rule, undo, stop, look, act, turn, _>>=_, Outcome, ended, undone, stopped, logged, guarded, lengthens, full, run, issuedBy}
+use Rattle.rules.specs.Rule.{done, Step, note, revise, retain, emit, remove, setAside, finalise, replay, Rule, undo, stop, look, act, turn, _>>=_, Outcome, ended, undone, stopped, logged, guarded, lengthens, full, run, issuedBy}
 use Rattle.rules.specs.Steps.{noteBook, reviseBook, retainBook, emitTo, emitBook, removeBook, markBook, replayBook, onBook, runBook}
 use Rattle.rules.specs.Steps.Slots.{taken, slotsAside, slotsFinal, handed}
 use Rattle.rules.specs.Calls.Candidate.{deliver, met, knownBy, known, unknown, named, unnamed, plannedBy, candidate}
@@ -29,7 +31,7 @@ use Rattle.rules.specs.Calls.Plan.{Memory, blank, last64, missOf, wanted}
 -- no id of xs is in E, or twice in xs
 abbrev pub Fresh : List ℕ → List DrainedSubmission → Type 0
 Fresh E [] = Unit {0}
-Fresh E (x ∷ xs) = (elemb (x .id) E ≡ false) × Fresh (E ++ x .id ∷ []) xs
+Fresh E (x ∷ xs) = (elemb (x .id .0) E ≡ false) × Fresh (E ++ x .id .0 ∷ []) xs
 
 -- ---- rules that emit no id of E, and none twice; P is asked where they end, of the ids so far
 abbrev emits : Step → List ℕ
@@ -86,12 +88,12 @@ not-in-more x E F h = or-false (elemb x E) (elemb x F) (sym (elem-append x E F) 
 -- fewer ids are forbidden
 fresh-fewer : (E F : List ℕ) → ((y : ℕ) → elemb y F ≡ false → elemb y E ≡ false) → (xs : List DrainedSubmission) → Fresh F xs → Fresh E xs
 fresh-fewer E F less [] h = tt
-fresh-fewer E F less (x ∷ xs) h = (less (x .id) (h .0), fresh-fewer (E ++ x .id ∷ []) (F ++ x .id ∷ []) more xs (h .1))
+fresh-fewer E F less (x ∷ xs) h = (less (x .id .0) (h .0), fresh-fewer (E ++ x .id .0 ∷ []) (F ++ x .id .0 ∷ []) more xs (h .1))
   where
-    more : (y : ℕ) → elemb y (F ++ x .id ∷ []) ≡ false → elemb y (E ++ x .id ∷ []) ≡ false
+    more : (y : ℕ) → elemb y (F ++ x .id .0 ∷ []) ≡ false → elemb y (E ++ x .id .0 ∷ []) ≡ false
     more y k =
-        let t = or-false (elemb y F) (elemb y (x .id ∷ [])) (sym (elem-append y F (x .id ∷ [])) ∙ k) in
-        elem-append y E (x .id ∷ []) ∙ ap (λ (b : Bool). b || elemb y (x .id ∷ [])) (less y (t .0)) ∙ t .1
+        let t = or-false (elemb y F) (elemb y (x .id .0 ∷ [])) (sym (elem-append y F (x .id .0 ∷ [])) ∙ k) in
+        elem-append y E (x .id .0 ∷ []) ∙ ap (λ (b : Bool). b || elemb y (x .id .0 ∷ [])) (less y (t .0)) ∙ t .1
 
 fresh-silent : {A : Type 0} (E F : List ℕ) (t : Bool) (k : Outcome Book A) → FreshIn (E ++ F) k → FreshIn E (guarded t (logged [] k))
 fresh-silent E F true k h = tt
@@ -99,7 +101,7 @@ fresh-silent E F false (ended b xs a) h = fresh-fewer E (E ++ F) (λ y. not-in-m
 fresh-silent E F false (undone n) h = tt
 fresh-silent E F false (stopped b xs n) h = fresh-fewer E (E ++ F) (λ y. not-in-more y E F) xs h
 
-fresh-one : {A : Type 0} (E : List ℕ) (t : Bool) (x : DrainedSubmission) (k : Outcome Book A) → elemb (x .id) E ≡ false → FreshIn (E ++ x .id ∷ []) k → FreshIn E (guarded t (logged (x ∷ []) k))
+fresh-one : {A : Type 0} (E : List ℕ) (t : Bool) (x : DrainedSubmission) (k : Outcome Book A) → elemb (x .id .0) E ≡ false → FreshIn (E ++ x .id .0 ∷ []) k → FreshIn E (guarded t (logged (x ∷ []) k))
 fresh-one E true x k n h = tt
 fresh-one E false x (ended b xs a) n h = (n, h)
 fresh-one E false x (undone m) n h = tt
@@ -143,7 +145,7 @@ once-deliver E i g a e = once-cond Remembered E (elemb i (a .emitted)) _ _ (λ q
 nil : (E : List ℕ) (a : Memory) → E ≡ a .emitted → E ++ [] ≡ a .emitted
 nil E a e = append-nil E ∙ e
 
-once-known : (E : List ℕ) (n : ℕ) (c : PendingDelivery) (f : List ℕ) (t : SubmittedTx) (a : Memory) (m : Option Cause) → E ≡ a .emitted → OnceTo Remembered E (knownBy n c f t a m)
+once-known : (E : List ℕ) (n : ℕ) (c : PendingDelivery) (f : List ℕ) (t : SubmittedTx) (a : Memory) (m : Option DrainFailureCause) → E ≡ a .emitted → OnceTo Remembered E (knownBy n c f t a m)
 unfolding met withdraw
 once-known E n c f t a none e = (tt, once-cond Remembered (E ++ []) (wanted (c .goal) (t .entry)) _ _ (λ q. once-deliver (E ++ []) (idOf t) (c .goal) a (nil E a e)) (λ q. nil E a e))
 once-known E n c f t a (some m) e = (tt, (tt, nil (E ++ []) a (nil E a e)))

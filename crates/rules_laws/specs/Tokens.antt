@@ -9,14 +9,15 @@ use Rattle.book.specs.declared.SubmissionDeliveryGoal.{SubmissionDeliveryGoal}
 use Rattle.book.specs.Model.{Book}
 use Rattle.book.specs.Sound.{idOf}
 use Rattle.rules.specs.Keyed.{pick}
-use Rattle.rules.specs.Rule.{done, DrainedSubmission, Step, note, revise, retain, emit, remove, setAside, finalise, replay, Rule, undo, stop, look, act, turn, Outcome, ended, undone, stopped, logged, guarded, grows, full, run}
+use Rattle.book_answers.specs.declared.DrainedSubmission.{DrainedSubmission}
+use Rattle.rules.specs.Rule.{done, Step, note, revise, retain, emit, remove, setAside, finalise, replay, Rule, undo, stop, look, act, turn, Outcome, ended, undone, stopped, logged, guarded, grows, full, run}
 use Rattle.rules.specs.Steps.{noteBook, reviseBook, retainable, retained, retainBook, issueBook, emitTo, emitBook, removeBook, markBook, replayBook, onBook, runBook}
 use Rattle.rules.specs.Steps.Slots.{handed}
 
 -- the tokens of xs run from n up to below m
 abbrev pub Upward : ℕ → List DrainedSubmission → ℕ → Type 0
 Upward n [] m = n ≡ m
-Upward n (x ∷ xs) m = (x .token ≡ n) × Upward (suc n) xs m
+Upward n (x ∷ xs) m = (x .«attempt_token» .0 ≡ n) × Upward (suc n) xs m
 
 upward-append : (n k m : ℕ) (xs ys : List DrainedSubmission) → Upward n xs k → Upward k ys m → Upward n (xs ++ ys) m
 upward-append n k m [] ys p q = subst (λ (j : ℕ). Upward j ys m) (sym p) q

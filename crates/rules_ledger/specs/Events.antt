@@ -6,7 +6,8 @@ use mathlib.Core.List.{List, [], _∷_, _++_, map}
 use lib.ListN.{replicate}
 use Rattle.book.specs.Model.{Book}
 use Rattle.rules.specs.Keyed.{pick}
-use Rattle.rules.specs.Rule.{DrainedSubmission, Step, note, revise, retain, emit, remove, setAside, finalise, replay, Rule, Effect, Outcome, run}
+use Rattle.book_answers.specs.declared.DrainedSubmission.{DrainedSubmission}
+use Rattle.rules.specs.Rule.{Step, note, revise, retain, emit, remove, setAside, finalise, replay, Rule, Effect, Outcome, run}
 use Rattle.rules_ledger.specs.Ledger.{live, aside, Fate, displaced, struck, Row, Ledger, rowId}
 use Rattle.rules_ledger.specs.Steps.{onLedger}
 use Rattle.rules_ledger.specs.View.{bookOf}
@@ -27,7 +28,7 @@ abbrev pub eventsBy : Step → List DrainedSubmission → List Event
 eventsBy (note n) out = []
 eventsBy (revise i r) out = []
 eventsBy (retain p) out = []
-eventsBy (emit i g) out = map (λ x. event emitted (x .id)) out
+eventsBy (emit i g) out = map (λ x. event emitted (x .id .0)) out
 eventsBy (remove i) out = event removed i ∷ []
 eventsBy (setAside i) out = event halted i ∷ []
 eventsBy (finalise i v) out = []

@@ -5,7 +5,8 @@ use mathlib.Core.Bool.{Bool, true, false, _&&_}
 use mathlib.Core.List.{List, [], _∷_, _++_}
 use mathlib.Core.Path.{_≡_, refl, sym, _∙_}
 use Rattle.book.specs.Model.{Book}
-use Rattle.rules.specs.Rule.{done, DrainedSubmission, Step, Effect, Rule, undo, stop, look, act, turn, Outcome, ended, undone, stopped, logged, guarded, grows, full, run, carry, answered, left, issuedBy}
+use Rattle.book_answers.specs.declared.DrainedSubmission.{DrainedSubmission}
+use Rattle.rules.specs.Rule.{done, Step, Effect, Rule, undo, stop, look, act, turn, Outcome, ended, undone, stopped, logged, guarded, grows, full, run, carry, answered, left, issuedBy}
 use Rattle.rules.specs.Steps.{onBook, runBook}
 use Rattle.rules_ledger.specs.Law.{mapEffect}
 use Rattle.rules_ledger.specs.Ledger.{Ledger}

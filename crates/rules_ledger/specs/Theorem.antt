@@ -15,7 +15,8 @@ use Rattle.rules.specs.Call.{Call, Value}
 use Rattle.rules.specs.Calls.{rules}
 use Rattle.rules.specs.Keyed.{pick}
 use Rattle.rules.specs.Opened.{opened}
-use Rattle.rules.specs.Rule.{DrainedSubmission, Outcome, ended, undone, stopped, Answer, answer, answered, left, issuedBy}
+use Rattle.book_answers.specs.declared.DrainedSubmission.{DrainedSubmission}
+use Rattle.rules.specs.Rule.{Outcome, ended, undone, stopped, Answer, answer, answered, left, issuedBy}
 use Rattle.rules.specs.Steps.{runBook}
 use Rattle.rules_ledger.specs.Account.Counts.{count, counts}
 use Rattle.rules_ledger.specs.Account.Exact.{Exact, exact, one-open, one-slot, single, book-fits}

@@ -8,7 +8,9 @@ use mathlib.Core.Path.{_≡_, subst, ap}
 use lib.Dec.{eqb}
 use Rattle.book.specs.declared.SubmittedEntry.{SubmittedEntry}
 use Rattle.rules.specs.Keyed.{same-or-other, pick}
-use Rattle.rules.specs.Rule.{DrainedSubmission}
+use Rattle.book_answers.specs.declared.DrainedSubmission.{DrainedSubmission}
+use Rattle.book_answers.specs.declared.OptionalToken.{OptionalToken}
+use Rattle.book_answers.specs.declared.OptionalToken.the-variants.{NoToken, Of}
 use Rattle.rules_ledger.specs.Ledger.{live, aside, Fate, displaced, struck, Row, Ledger, entryId, rowId, rowToken}
 
 abbrev pub isOpen : Fate → Bool
@@ -83,8 +85,12 @@ unfoldable pub lastTo : ℕ → List Issue → Option ℕ
 lastTo i [] = none
 lastTo i (x ∷ h) = cond (eqb (x .id) i) (some (x .token)) (lastTo i h)
 
+abbrev pub tokenOf : OptionalToken → Option ℕ
+tokenOf NoToken = none
+tokenOf (Of t) = some (t .0)
+
 abbrev pub issued : DrainedSubmission → Issue
-issued x = record { token = x .token; id = x .id }
+issued x = record { token = x .«attempt_token» .0; id = x .id .0 }
 
 abbrev pub grown : List DrainedSubmission → List Issue → List Issue
 grown [] h = h
@@ -93,7 +99,7 @@ grown (x ∷ xs) h = grown xs (issued x ∷ h)
 -- each predecessor in xs is the last token issued to the submission before
 abbrev pub Chained : List Issue → List DrainedSubmission → Type 0
 Chained h [] = Unit {0}
-Chained h (x ∷ xs) = (x .predecessor ≡ lastTo (x .id) h) × Chained (issued x ∷ h) xs
+Chained h (x ∷ xs) = (tokenOf (x .«predecessor_attempt_token») ≡ lastTo (x .id .0) h) × Chained (issued x ∷ h) xs
 
 -- a ledger that differs from a tidy one in the submission i alone
 pub record Beside (i : ℕ) (l l′ : Ledger) : Type 0 where

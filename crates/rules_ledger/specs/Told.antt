@@ -3,7 +3,8 @@ use Prim.Native.Nat.{ℕ}
 use mathlib.Core.Bool.{Bool, true, false, _&&_}
 use mathlib.Core.List.{List}
 use mathlib.Core.Path.{_≡_, refl}
-use Rattle.rules.specs.Rule.{DrainedSubmission, Step, Rule, done, undo, stop, look, act, turn, Outcome, ended, undone, stopped, logged, guarded, grows, full, run, carry, left}
+use Rattle.book_answers.specs.declared.DrainedSubmission.{DrainedSubmission}
+use Rattle.rules.specs.Rule.{Step, Rule, done, undo, stop, look, act, turn, Outcome, ended, undone, stopped, logged, guarded, grows, full, run, carry, left}
 use Rattle.rules_ledger.specs.Account.Fates.{Settled, settles}
 use Rattle.rules_ledger.specs.Events.{Told, onTold, toldBook, runTold}
 use Rattle.rules_ledger.specs.Run.{runLedger, agree, left-carry}

@@ -15,8 +15,10 @@ use Rattle.book.specs.declared.FeeResolution.the-variants.{Unresolved, NotReque
 use Rattle.book.specs.declared.SubmissionChainTerminality.the-variants.{Active, InputSpent}
 use Rattle.book.specs.declared.SubmissionDeliveryGoal.the-variants.{EnsureBroadcast, FeeUpgrade}
 use Rattle.book.specs.declared.DeliveryTrigger.the-variants.{Protocol, FreshChain, Rollback}
-use Rattle.rules.specs.Call.{Call, Applied, Stale, Value, noValue, failures, feeIntentIs, statusIs, idsAre, heightIs, written}
-use Rattle.rules.specs.Rule.{Initial, Answer, answer, refused}
+use Rattle.book_answers.specs.declared.SubmissionAttemptRelationship.the-variants.{Initial}
+use Rattle.book_answers.specs.declared.SubmissionAttemptStatus.the-variants.{Applied, Stale}
+use Rattle.rules.specs.Call.{Call, Value, noValue, failures, feeIntentIs, statusIs, idsAre, heightIs, written}
+use Rattle.rules.specs.Rule.{Answer, answer, refused}
 use Rattle.rules.specs.Opened.{opened}
 use Rattle.rules_recorded_lists.specs.Play.{play}
 use Rattle.rules_recorded_lists.specs.Pieces.{num, height, at, byId, alreadyPaid, attach, delivery, hash, attempt, held, submission, bookOf, drained}

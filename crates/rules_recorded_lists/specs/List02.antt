@@ -13,8 +13,13 @@ use Rattle.book.specs.declared.OptionalHeight.the-variants.{NoHeight}
 use Rattle.book.specs.declared.OptionalId.the-variants.{NoId}
 use Rattle.book.specs.declared.SubmissionDeliveryGoal.the-variants.{EnsureBroadcast, FeeUpgrade}
 use Rattle.book.specs.declared.DeliveryTrigger.the-variants.{Protocol, FreshChain, ProviderReadiness}
-use Rattle.rules.specs.Call.{Call, JoinFailed, NoRetainedState, FeeUnused, Stale, Value, noValue, failures, finalized, statusIs, flag, heightIs, written}
-use Rattle.rules.specs.Rule.{Initial, Answer, answer, refused}
+use Rattle.book_answers.specs.declared.DrainFailureCause.the-variants.{NoRetainedState}
+use Rattle.book_answers.specs.declared.FeeSourceDisposition.the-variants as disposition
+use Rattle.book_answers.specs.declared.SubmissionAttemptRelationship.the-variants.{Initial}
+use Rattle.book_answers.specs.declared.SubmissionAttemptStatus.the-variants.{Stale}
+use Rattle.book_answers.specs.declared.SubmissionFeeSource.the-variants as source
+use Rattle.rules.specs.Call.{Call, Value, noValue, failures, finalized, statusIs, flag, heightIs, written}
+use Rattle.rules.specs.Rule.{Answer, answer, refused}
 use Rattle.rules.specs.Opened.{opened}
 use Rattle.rules_recorded_lists.specs.Play.{play}
 use Rattle.rules_recorded_lists.specs.Pieces.{num, height, at, byId, attach, delivery, drained, failed, finalizedAs}
@@ -38,7 +43,7 @@ calls =
     ∷ Call.Queue (delivery NoId bundle2 (at 50) (attach (replicate 32 255) 18446744073709551615) Protocol EnsureBroadcast)
     ∷ Call.QueueRetainedDelivery 1 FreshChain EnsureBroadcast
     ∷ Call.Drain
-    ∷ Call.FinalizeAttempt 18446744073709551614 JoinFailed zeroBundle
+    ∷ Call.FinalizeAttempt 18446744073709551614 source.JoinFailed zeroBundle
     ∷ []
 
 abbrev pub answers : List (Answer Value)
@@ -56,7 +61,7 @@ answers =
     ∷ answer [] noValue
     ∷ answer [] noValue
     ∷ refused 11
-    ∷ answer [] (finalized (some (finalizedAs zeroBundle 0 true FeeUnused digest8 false)))
+    ∷ answer [] (finalized (some (finalizedAs zeroBundle 0 true disposition.Unused digest8 false)))
     ∷ []
 
 abbrev pub archive : List ℕ

@@ -14,7 +14,8 @@ use Rattle.book.specs.declared.FeeResolution.the-variants.{Unresolved, NotReque
 use Rattle.book.specs.declared.SubmissionChainTerminality.the-variants.{Active, Landed}
 use Rattle.book.specs.declared.SubmissionDeliveryGoal.the-variants.{EnsureBroadcast, FeeUpgrade}
 use Rattle.book.specs.declared.DeliveryTrigger.the-variants.{Protocol, FreshChain, Rollback, ProviderReadiness}
-use Rattle.rules.specs.Call.{Call, Stale, Value, noValue, statusIs, flag, written}
+use Rattle.book_answers.specs.declared.SubmissionAttemptStatus.the-variants.{Stale}
+use Rattle.rules.specs.Call.{Call, Value, noValue, statusIs, flag, written}
 use Rattle.rules.specs.Rule.{Answer, answer, refused}
 use Rattle.rules.specs.Opened.{opened}
 use Rattle.rules_recorded_lists.specs.Play.{play}

@@ -14,7 +14,10 @@ use Rattle.book.specs.declared.FeeResolution.the-variants.{Unresolved}
 use Rattle.book.specs.declared.SubmissionChainTerminality.the-variants.{Active, InputSpent}
 use Rattle.book.specs.declared.SubmissionDeliveryGoal.the-variants.{EnsureBroadcast, FeeUpgrade}
 use Rattle.book.specs.declared.DeliveryTrigger.the-variants.{Protocol, Rollback, ProviderReadiness}
-use Rattle.rules.specs.Call.{Call, NoSource, JoinFailed, OutputsUnreadable, IdsExhausted, Stale, Value, noValue, failures, statusIs, idsAre, flag, heightIs}
+use Rattle.book_answers.specs.declared.DrainFailureCause.the-variants.{OutputsUnreadable, IdsExhausted}
+use Rattle.book_answers.specs.declared.SubmissionAttemptStatus.the-variants.{Stale}
+use Rattle.book_answers.specs.declared.SubmissionFeeSource.the-variants as source
+use Rattle.rules.specs.Call.{Call, Value, noValue, failures, statusIs, idsAre, flag, heightIs}
 use Rattle.rules.specs.Rule.{Answer, answer, refused}
 use Rattle.rules.specs.Opened.{opened}
 use Rattle.rules_recorded_lists.specs.Play.{play}
@@ -32,9 +35,9 @@ abbrev pub calls : List Call
 calls =
     Call.ReconcileChainTerminality (0 ∷ 0 ∷ []) digest1 false (6 ∷ [])
     ∷ Call.Queue (delivery (byId 1) bundle3 (at 100) (attach (replicate 32 3) 8) Protocol EnsureBroadcast)
-    ∷ Call.FinalizeAttempt 18446744073709551615 JoinFailed zeroBundle
+    ∷ Call.FinalizeAttempt 18446744073709551615 source.JoinFailed zeroBundle
     ∷ Call.QueueRetainedDelivery 1 ProviderReadiness FeeUpgrade
-    ∷ Call.FinalizeAttempt 18446744073709551615 NoSource zeroBundle
+    ∷ Call.FinalizeAttempt 18446744073709551615 source.NotRequested zeroBundle
     ∷ Call.RetainSubmitted (0 ∷ 1 ∷ 18446744073709551615 ∷ [])
     ∷ Call.QueueFeeReadiness
     ∷ Call.ReplayRollbackHeight

@@ -14,8 +14,11 @@ use Rattle.book.specs.declared.FeeResolution.the-variants.{NotRequested}
 use Rattle.book.specs.declared.SubmissionChainTerminality.the-variants.{Active}
 use Rattle.book.specs.declared.SubmissionDeliveryGoal.the-variants.{EnsureBroadcast, FeeUpgrade}
 use Rattle.book.specs.declared.DeliveryTrigger.the-variants.{Protocol, Rollback, ProviderReadiness}
-use Rattle.rules.specs.Call.{Call, NoSource, Applied, Stale, Value, noValue, failures, feeIntentIs, statusIs, idsAre, attemptIs}
-use Rattle.rules.specs.Rule.{Initial, Exact, Answer, answer, refused}
+use Rattle.book_answers.specs.declared.SubmissionAttemptRelationship.the-variants.{Initial, Exact}
+use Rattle.book_answers.specs.declared.SubmissionAttemptStatus.the-variants.{Applied, Stale}
+use Rattle.book_answers.specs.declared.SubmissionFeeSource.the-variants as source
+use Rattle.rules.specs.Call.{Call, Value, noValue, failures, feeIntentIs, statusIs, idsAre, attemptIs}
+use Rattle.rules.specs.Rule.{Answer, answer, refused}
 use Rattle.rules.specs.Opened.{opened}
 use Rattle.rules_recorded_lists.specs.Play.{play}
 use Rattle.rules_recorded_lists.specs.Pieces.{num, at, byId, alreadyPaid, noFee, attach, delivery, hash, attempt, held, feeBearing, submission, bookOf, drained}
@@ -31,7 +34,7 @@ start = bookOf 44 2 (
 abbrev pub calls : List Call
 calls =
     Call.ActiveIds
-    ∷ Call.FinalizeAttempt 41 NoSource zeroBundle
+    ∷ Call.FinalizeAttempt 41 source.NotRequested zeroBundle
     ∷ Call.FeeIntentForAttempt 41
     ∷ Call.ActiveIds
     ∷ Call.AbandonAttempt 41

@@ -15,8 +15,12 @@ use Rattle.book.specs.declared.FeeResolution.the-variants.{Unresolved, Attached
 use Rattle.book.specs.declared.SubmissionChainTerminality.the-variants.{Active, Landed}
 use Rattle.book.specs.declared.SubmissionDeliveryGoal.the-variants.{EnsureBroadcast, FeeUpgrade}
 use Rattle.book.specs.declared.DeliveryTrigger.the-variants.{Protocol, Rollback}
-use Rattle.rules.specs.Call.{Call, Joined, FeeAttached, Applied, Value, noValue, failures, finalized, statusIs}
-use Rattle.rules.specs.Rule.{NewerFeeBearing, Answer, answer, refused}
+use Rattle.book_answers.specs.declared.FeeSourceDisposition.the-variants as disposition
+use Rattle.book_answers.specs.declared.SubmissionAttemptRelationship.the-variants.{NewerFeeBearing}
+use Rattle.book_answers.specs.declared.SubmissionAttemptStatus.the-variants.{Applied}
+use Rattle.book_answers.specs.declared.SubmissionFeeSource.the-variants as source
+use Rattle.rules.specs.Call.{Call, Value, noValue, failures, finalized, statusIs}
+use Rattle.rules.specs.Rule.{Answer, answer, refused}
 use Rattle.rules.specs.Opened.{opened}
 use Rattle.rules_recorded_lists.specs.Play.{play}
 use Rattle.rules_recorded_lists.specs.Pieces.{num, at, attach, delivery, hash, attempt, held, submission, bookOf, drained, finalizedAs}
@@ -38,7 +42,7 @@ calls =
     ∷ Call.RelinquishCompletedAttempt 39
     ∷ Call.QueueRetainedDelivery 4 Rollback EnsureBroadcast
     ∷ Call.QueueRetainedDelivery 3 Protocol FeeUpgrade
-    ∷ Call.FinalizeAttempt 40 Joined zeroBundle
+    ∷ Call.FinalizeAttempt 40 source.Joined zeroBundle
     ∷ Call.EmitRetirement 3
     ∷ Call.RelinquishCompletedAttempt 37
     ∷ []
@@ -52,7 +56,7 @@ answers =
     ∷ answer [] (statusIs Applied)
     ∷ answer [] noValue
     ∷ answer [] noValue
-    ∷ answer [] (finalized (some (finalizedAs zeroBundle 18446744073709551615 false FeeAttached digest8 true)))
+    ∷ answer [] (finalized (some (finalizedAs zeroBundle 18446744073709551615 false disposition.Attached digest8 true)))
     ∷ answer [] noValue
     ∷ answer [] (statusIs Applied)
     ∷ []

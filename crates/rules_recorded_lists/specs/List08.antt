@@ -14,7 +14,9 @@ use Rattle.book.specs.declared.FeeResolution.the-variants.{Unresolved}
 use Rattle.book.specs.declared.SubmissionChainTerminality.the-variants.{InputSpent}
 use Rattle.book.specs.declared.SubmissionDeliveryGoal.the-variants.{EnsureBroadcast}
 use Rattle.book.specs.declared.DeliveryTrigger.the-variants.{Protocol, FreshChain, Rollback}
-use Rattle.rules.specs.Call.{Call, Joined, Applied, Value, noValue, statusIs, idsAre}
+use Rattle.book_answers.specs.declared.SubmissionAttemptStatus.the-variants.{Applied}
+use Rattle.book_answers.specs.declared.SubmissionFeeSource.the-variants as source
+use Rattle.rules.specs.Call.{Call, Value, noValue, statusIs, idsAre}
 use Rattle.rules.specs.Rule.{Answer, answer, refused}
 use Rattle.rules.specs.Opened.{opened}
 use Rattle.rules_recorded_lists.specs.Play.{play}
@@ -34,7 +36,7 @@ calls =
     ∷ Call.CausallyRolledBackIds (0 ∷ 1 ∷ 1 ∷ 9 ∷ []) []
     ∷ Call.RelinquishCompletedAttempt 42
     ∷ Call.ReconcileChainTerminality (0 ∷ 1 ∷ 0 ∷ 0 ∷ []) [] true (replicate 64 0)
-    ∷ Call.FinalizeAttempt 43 Joined bundle9
+    ∷ Call.FinalizeAttempt 43 source.Joined bundle9
     ∷ Call.ReconcileChainTerminality [] [] true (0 ∷ [])
     ∷ Call.CausallyRolledBackIds ((0 ∷ 1 ∷ 40 ∷ []) ++ replicate 40 1 ++ (0 ∷ [])) []
     ∷ Call.QueueRebroadcastEpoch (replicate 4 0) Rollback

@@ -14,8 +14,12 @@ use Rattle.book.specs.declared.FeeResolution.the-variants.{Attached}
 use Rattle.book.specs.declared.SubmissionChainTerminality.the-variants.{InputSpent}
 use Rattle.book.specs.declared.SubmissionDeliveryGoal.the-variants.{EnsureBroadcast, FeeUpgrade}
 use Rattle.book.specs.declared.DeliveryTrigger.the-variants.{Protocol, FreshChain}
-use Rattle.rules.specs.Call.{Call, Joined, IntentDiffers, Stale, Value, noValue, failures, finalized, statusIs, idsAre, heightIs}
-use Rattle.rules.specs.Rule.{Other, Answer, answer}
+use Rattle.book_answers.specs.declared.DrainFailureCause.the-variants.{IntentDiffers}
+use Rattle.book_answers.specs.declared.SubmissionAttemptRelationship.the-variants.{Other}
+use Rattle.book_answers.specs.declared.SubmissionAttemptStatus.the-variants.{Stale}
+use Rattle.book_answers.specs.declared.SubmissionFeeSource.the-variants as source
+use Rattle.rules.specs.Call.{Call, Value, noValue, failures, finalized, statusIs, idsAre, heightIs}
+use Rattle.rules.specs.Rule.{Answer, answer}
 use Rattle.rules.specs.Opened.{opened}
 use Rattle.rules_recorded_lists.specs.Play.{play}
 use Rattle.rules_recorded_lists.specs.Pieces.{num, height, at, alreadyPaid, attach, delivery, hash, attempt, held, feeBearing, submission, bookOf, drained, failed}
@@ -33,7 +37,7 @@ calls =
     ∷ Call.ReplayRollbackHeight
     ∷ Call.QueueRetainedDelivery 3 FreshChain FeeUpgrade
     ∷ Call.CollectRollbackReplayIds (3 ∷ [])
-    ∷ Call.FinalizeAttempt 18446744073709551608 Joined zeroBundle
+    ∷ Call.FinalizeAttempt 18446744073709551608 source.Joined zeroBundle
     ∷ Call.Drain
     ∷ Call.RetainSubmitted (7 ∷ [])
     ∷ Call.RelinquishCompletedAttempt 0

@@ -13,7 +13,9 @@ use Rattle.book.specs.declared.FeeResolution.the-variants.{Unresolved}
 use Rattle.book.specs.declared.SubmissionChainTerminality.the-variants.{Landed}
 use Rattle.book.specs.declared.SubmissionDeliveryGoal.the-variants.{EnsureBroadcast, FeeUpgrade}
 use Rattle.book.specs.declared.DeliveryTrigger.the-variants.{Protocol, Rollback}
-use Rattle.rules.specs.Call.{Call, Joined, Stale, Value, noValue, statusIs, idsAre, flag, written}
+use Rattle.book_answers.specs.declared.SubmissionAttemptStatus.the-variants.{Stale}
+use Rattle.book_answers.specs.declared.SubmissionFeeSource.the-variants as source
+use Rattle.rules.specs.Call.{Call, Value, noValue, statusIs, idsAre, flag, written}
 use Rattle.rules.specs.Rule.{Answer, answer, refused}
 use Rattle.rules.specs.Opened.{opened}
 use Rattle.rules_recorded_lists.specs.Play.{play}
@@ -37,7 +39,7 @@ calls =
     ∷ Call.CollectRollbackReplayIds (1 ∷ [])
     ∷ Call.RestoreRuntime
     ∷ Call.RetainSubmitted (replicate 65 0)
-    ∷ Call.FinalizeAttempt 18446744073709551614 Joined bundle10
+    ∷ Call.FinalizeAttempt 18446744073709551614 source.Joined bundle10
     ∷ Call.RestoreRuntime
     ∷ Call.EmitRetirement 18446744073709551615
     ∷ Call.AbandonAttempt 18446744073709551613

@@ -14,7 +14,8 @@ use Rattle.book.specs.declared.FeeResolution.the-variants.{NotRequested}
 use Rattle.book.specs.declared.SubmissionChainTerminality.the-variants.{InputSpent}
 use Rattle.book.specs.declared.SubmissionDeliveryGoal.the-variants.{EnsureBroadcast, FeeUpgrade}
 use Rattle.book.specs.declared.DeliveryTrigger.the-variants.{FreshChain, Rollback, ProviderReadiness}
-use Rattle.rules.specs.Call.{Call, Joined, Value, noValue, idsAre, flag, written}
+use Rattle.book_answers.specs.declared.SubmissionFeeSource.the-variants as source
+use Rattle.rules.specs.Call.{Call, Value, noValue, idsAre, flag, written}
 use Rattle.rules.specs.Rule.{Answer, answer, refused}
 use Rattle.rules.specs.Opened.{opened}
 use Rattle.rules_recorded_lists.specs.Play.{play}
@@ -32,7 +33,7 @@ calls =
     Call.CausallyRolledBackIds (0 ∷ []) (replicate 32 9)
     ∷ Call.Queue (delivery NoId zeroBundle (at 50) alreadyPaid Rollback FeeUpgrade)
     ∷ Call.AbandonAttempt 44
-    ∷ Call.FinalizeAttempt 45 Joined bundle11
+    ∷ Call.FinalizeAttempt 45 source.Joined bundle11
     ∷ Call.CollectRollbackReplayIds (replicate 65 0)
     ∷ Call.AbsentOutputsForIds (replicate 64 21) (0 ∷ 0 ∷ []) 0
     ∷ Call.CausallyRolledBackIds (0 ∷ 0 ∷ []) (replicate 32 9 ++ (0 ∷ []))

@@ -15,7 +15,9 @@ use Rattle.book.specs.declared.FeeResolution.the-variants.{NotRequested}
 use Rattle.book.specs.declared.SubmissionChainTerminality.the-variants.{Active}
 use Rattle.book.specs.declared.SubmissionDeliveryGoal.the-variants.{EnsureBroadcast, FeeUpgrade}
 use Rattle.book.specs.declared.DeliveryTrigger.the-variants.{Rollback, ProviderReadiness}
-use Rattle.rules.specs.Call.{Call, NoSource, Joined, Stale, Value, noValue, finalized, feeIntentIs, statusIs, idsAre, flag, attemptIs, written}
+use Rattle.book_answers.specs.declared.SubmissionAttemptStatus.the-variants.{Stale}
+use Rattle.book_answers.specs.declared.SubmissionFeeSource.the-variants as source
+use Rattle.rules.specs.Call.{Call, Value, noValue, finalized, feeIntentIs, statusIs, idsAre, flag, attemptIs, written}
 use Rattle.rules.specs.Rule.{Answer, answer, refused}
 use Rattle.rules.specs.Opened.{opened}
 use Rattle.rules_recorded_lists.specs.Play.{play}
@@ -32,7 +34,7 @@ abbrev pub calls : List Call
 calls =
     Call.BeginReplay (height 99)
     ∷ Call.AbsentOutputsForIds (replicate 65 0) (0 ∷ 0 ∷ []) 11
-    ∷ Call.FinalizeAttempt 37 NoSource zeroBundle
+    ∷ Call.FinalizeAttempt 37 source.NotRequested zeroBundle
     ∷ Call.FeeIntentForAttempt 38
     ∷ Call.StopAttempt 41
     ∷ Call.Attempt 36
@@ -40,7 +42,7 @@ calls =
     ∷ Call.Queue (delivery (byId 27) bundle2 (at 0) noFee ProviderReadiness FeeUpgrade)
     ∷ Call.AbandonAttempt 41
     ∷ Call.ReconciliationInputCoins ((0 ∷ 1 ∷ 40 ∷ []) ++ replicate 40 1 ++ (0 ∷ [])) 2
-    ∷ Call.FinalizeAttempt 41 Joined bundle14
+    ∷ Call.FinalizeAttempt 41 source.Joined bundle14
     ∷ Call.ReconciliationInputCoins ((0 ∷ 1 ∷ 40 ∷ []) ++ replicate 39 1) 0
     ∷ Call.CollectRollbackReplayIds (replicate 65 0)
     ∷ Call.ReconcileChainTerminality (0 ∷ 0 ∷ []) [] false (0 ∷ 18446744073709551615 ∷ 0 ∷ [])

@@ -13,7 +13,8 @@ use Rattle.book.specs.declared.FeeResolution.the-variants.{Unresolved, Attached
 use Rattle.book.specs.declared.SubmissionChainTerminality.the-variants.{Active, Landed}
 use Rattle.book.specs.declared.SubmissionDeliveryGoal.the-variants.{EnsureBroadcast, FeeUpgrade}
 use Rattle.book.specs.declared.DeliveryTrigger.the-variants.{Protocol, Rollback}
-use Rattle.rules.specs.Call.{Call, Stale, Value, noValue, statusIs, idsAre, flag, heightIs, written}
+use Rattle.book_answers.specs.declared.SubmissionAttemptStatus.the-variants.{Stale}
+use Rattle.rules.specs.Call.{Call, Value, noValue, statusIs, idsAre, flag, heightIs, written}
 use Rattle.rules.specs.Rule.{Answer, answer, refused}
 use Rattle.rules.specs.Opened.{opened}
 use Rattle.rules_recorded_lists.specs.Play.{play}

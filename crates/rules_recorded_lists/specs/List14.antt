@@ -16,7 +16,8 @@ use Rattle.book.specs.declared.FeeResolution.the-variants.{Unresolved}
 use Rattle.book.specs.declared.SubmissionChainTerminality.the-variants.{Active}
 use Rattle.book.specs.declared.SubmissionDeliveryGoal.the-variants.{EnsureBroadcast, FeeUpgrade}
 use Rattle.book.specs.declared.DeliveryTrigger.the-variants.{FreshChain, Rollback}
-use Rattle.rules.specs.Call.{Call, Applied, Stale, Value, noValue, statusIs, idsAre, flag, attemptIs}
+use Rattle.book_answers.specs.declared.SubmissionAttemptStatus.the-variants.{Applied, Stale}
+use Rattle.rules.specs.Call.{Call, Value, noValue, statusIs, idsAre, flag, attemptIs}
 use Rattle.rules.specs.Rule.{Answer, answer, refused}
 use Rattle.rules.specs.Opened.{opened}
 use Rattle.rules_recorded_lists.specs.Play.{play}

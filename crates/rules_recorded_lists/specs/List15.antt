@@ -14,7 +14,8 @@ use Rattle.book.specs.declared.FeeResolution.the-variants.{NotRequested, Attach
 use Rattle.book.specs.declared.SubmissionChainTerminality.the-variants.{Active, Landed}
 use Rattle.book.specs.declared.SubmissionDeliveryGoal.the-variants.{EnsureBroadcast, FeeUpgrade}
 use Rattle.book.specs.declared.DeliveryTrigger.the-variants.{Protocol, FreshChain, Rollback, ProviderReadiness}
-use Rattle.rules.specs.Call.{Call, JoinFailed, SourceFailed, Value, noValue, idsAre, written}
+use Rattle.book_answers.specs.declared.SubmissionFeeSource.the-variants as source
+use Rattle.rules.specs.Call.{Call, Value, noValue, idsAre, written}
 use Rattle.rules.specs.Rule.{Answer, answer, refused}
 use Rattle.rules.specs.Opened.{opened}
 use Rattle.rules_recorded_lists.specs.Play.{play}
@@ -38,9 +39,9 @@ calls =
     ∷ Call.RetainSubmitted (1 ∷ 1 ∷ 10 ∷ 0 ∷ [])
     ∷ Call.DrainRetirements
     ∷ Call.Queue (delivery NoId zeroBundle (at 18446744073709551615) (attach (replicate 32 255) 18446744073709551615) ProviderReadiness FeeUpgrade)
-    ∷ Call.FinalizeAttempt 18446744073709551615 JoinFailed zeroBundle
+    ∷ Call.FinalizeAttempt 18446744073709551615 source.JoinFailed zeroBundle
     ∷ Call.EmitRetirement 18446744073709551615
-    ∷ Call.FinalizeAttempt 41 SourceFailed bundle15
+    ∷ Call.FinalizeAttempt 41 source.Failed bundle15
     ∷ Call.ReconciliationInputCoins (0 ∷ 1 ∷ 0 ∷ []) 2
     ∷ Call.AbsentOutputsForIds (25 ∷ 2 ∷ []) (0 ∷ 1 ∷ 64 ∷ []) 0
     ∷ Call.AbsentOutputsForIds (18 ∷ 27 ∷ 2 ∷ 2 ∷ []) (0 ∷ 0 ∷ []) 1

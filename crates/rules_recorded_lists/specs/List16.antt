@@ -15,8 +15,12 @@ use Rattle.book.specs.declared.FeeResolution.the-variants.{Unresolved, Attached
 use Rattle.book.specs.declared.SubmissionChainTerminality.the-variants.{Active, Landed}
 use Rattle.book.specs.declared.SubmissionDeliveryGoal.the-variants.{EnsureBroadcast}
 use Rattle.book.specs.declared.DeliveryTrigger.the-variants.{Protocol, FreshChain, Rollback, ProviderReadiness}
-use Rattle.rules.specs.Call.{Call, NoSource, FeeNotRequested, Applied, Stale, Value, noValue, failures, finalized, feeIntentIs, statusIs, idsAre, heightIs, attemptIs}
-use Rattle.rules.specs.Rule.{Initial, Answer, answer, refused}
+use Rattle.book_answers.specs.declared.FeeSourceDisposition.the-variants as disposition
+use Rattle.book_answers.specs.declared.SubmissionAttemptRelationship.the-variants.{Initial}
+use Rattle.book_answers.specs.declared.SubmissionAttemptStatus.the-variants.{Applied, Stale}
+use Rattle.book_answers.specs.declared.SubmissionFeeSource.the-variants as source
+use Rattle.rules.specs.Call.{Call, Value, noValue, failures, finalized, feeIntentIs, statusIs, idsAre, heightIs, attemptIs}
+use Rattle.rules.specs.Rule.{Answer, answer, refused}
 use Rattle.rules.specs.Opened.{opened}
 use Rattle.rules_recorded_lists.specs.Play.{play}
 use Rattle.rules_recorded_lists.specs.Pieces.{num, at, byId, alreadyPaid, noFee, attach, delivery, hash, attempt, held, feeBearing, submission, bookOf, drained, finalizedAs}
@@ -37,7 +41,7 @@ calls =
     ∷ Call.ReplayRollbackHeight
     ∷ Call.Attempt 44
     ∷ Call.FeeIntentForAttempt 40
-    ∷ Call.FinalizeAttempt 44 NoSource zeroBundle
+    ∷ Call.FinalizeAttempt 44 source.NotRequested zeroBundle
     ∷ Call.FeeIntentForAttempt 45
     ∷ Call.ActiveIds
     ∷ Call.QueueRetainedDelivery 28 ProviderReadiness EnsureBroadcast
@@ -61,7 +65,7 @@ answers =
     ∷ answer [] (heightIs (at 101))
     ∷ answer [] (attemptIs (some (attempt 44 EnsureBroadcast digest25 zeroHash)))
     ∷ answer [] (feeIntentIs none)
-    ∷ answer [] (finalized (some (finalizedAs bundle1 18446744073709551615 false FeeNotRequested digest25 true)))
+    ∷ answer [] (finalized (some (finalizedAs bundle1 18446744073709551615 false disposition.NotRequested digest25 true)))
     ∷ answer [] (feeIntentIs (some (attach (replicate 32 255) 18446744073709551615)))
     ∷ answer [] (idsAre (1 ∷ 18446744073709551614 ∷ []))
     ∷ answer [] noValue

@@ -14,7 +14,8 @@ use Rattle.book.specs.declared.FeeResolution.the-variants.{Unresolved, NotReque
 use Rattle.book.specs.declared.SubmissionChainTerminality.the-variants.{Active, Landed}
 use Rattle.book.specs.declared.SubmissionDeliveryGoal.the-variants.{EnsureBroadcast}
 use Rattle.book.specs.declared.DeliveryTrigger.the-variants.{FreshChain, Rollback}
-use Rattle.rules.specs.Call.{Call, Applied, Value, noValue, statusIs, idsAre, attemptIs, written}
+use Rattle.book_answers.specs.declared.SubmissionAttemptStatus.the-variants.{Applied}
+use Rattle.rules.specs.Call.{Call, Value, noValue, statusIs, idsAre, attemptIs, written}
 use Rattle.rules.specs.Rule.{Answer, answer, refused}
 use Rattle.rules.specs.Opened.{opened}
 use Rattle.rules_recorded_lists.specs.Play.{play}

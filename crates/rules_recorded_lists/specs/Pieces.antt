@@ -28,8 +28,13 @@ use Rattle.book.specs.declared.OptionalAttempt.{OptionalAttempt}
 use Rattle.book.specs.declared.SubmissionBroadcastVariant.{SubmissionBroadcastVariant}
 use Rattle.book.specs.declared.SubmittedTx.{SubmittedTx}
 use Rattle.book.specs.declared.PendingDelivery.{PendingDelivery}
-use Rattle.rules.specs.Call.{Cause, Failure, Disposition, FinalizedSubmission}
-use Rattle.rules.specs.Rule.{Relationship, DrainedSubmission}
+use Rattle.book_answers.specs.declared.DrainFailureCause.{DrainFailureCause}
+use Rattle.book_answers.specs.declared.DrainedSubmission.{DrainedSubmission}
+use Rattle.book_answers.specs.declared.FeeSourceDisposition.{FeeSourceDisposition}
+use Rattle.book_answers.specs.declared.FinalizedSubmission.{FinalizedSubmission}
+use Rattle.book_answers.specs.declared.SubmissionAttemptRelationship.{SubmissionAttemptRelationship}
+use Rattle.book_answers.specs.declared.SubmissionDrainFailure.{SubmissionDrainFailure}
+use Rattle.rules.specs.Examples.Pieces.{tokenBy}
 
 -- ---- bytes and numbers
 -- eight bytes, big-endian, of a number below 256
@@ -119,13 +124,13 @@ bookOf t i ss ds rs h is = record { nextToken = record { 0 = t }; nextId = recor
 
 -- ---- answers
 -- id, token, predecessor, relationship, bundle, expiry, fee intent
-abbrev pub drained : ℕ → ℕ → Option ℕ → Relationship → SpendBundle → OptionalHeight → SubmissionFeeIntent → DrainedSubmission
-drained i t p r b x f = record { id = i; token = t; predecessor = p; relationship = r; bundle = b; expiry = x; feeIntent = f }
+abbrev pub drained : ℕ → ℕ → Option ℕ → SubmissionAttemptRelationship → SpendBundle → OptionalHeight → SubmissionFeeIntent → DrainedSubmission
+drained i t p r b x f = record { id = record { 0 = i }; «attempt_token» = record { 0 = t }; «predecessor_attempt_token» = tokenBy p; relationship = r; bundle = b; expiry = x; «fee_intent» = f }
 
 -- index, cause, candidate id, intent fingerprint
-abbrev pub failed : ℕ → Cause → ℕ → List ℕ → Failure
-failed n c i h = record { index = n; cause = c; candidateId = i; intentFingerprint = h }
+abbrev pub failed : ℕ → DrainFailureCause → ℕ → List ℕ → SubmissionDrainFailure
+failed n c i h = record { «candidate_index» = n; cause = c; «candidate_id» = record { 0 = i }; «intent_fingerprint» = h }
 
 -- bundle, applied fee, warning, disposition, fingerprint, to broadcast
-abbrev pub finalizedAs : SpendBundle → ℕ → Bool → Disposition → List ℕ → Bool → FinalizedSubmission
-finalizedAs b n w d h s = record { bundle = b; appliedFee = n; warning = w; disposition = d; fingerprint = h; shouldBroadcast = s }
+abbrev pub finalizedAs : SpendBundle → ℕ → Bool → FeeSourceDisposition → List ℕ → Bool → FinalizedSubmission
+finalizedAs b n w d h s = record { bundle = b; «applied_fee» = n; warning = w; disposition = d; «variant_fingerprint» = h; «should_broadcast» = s }

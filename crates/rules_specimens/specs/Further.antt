@@ -10,9 +10,14 @@ use Rattle.book.specs.declared.OptionalId.the-variants.{NoId}
 use Rattle.book.specs.declared.SubmissionChainTerminality.the-variants.{Active, InputSpent, Landed}
 use Rattle.book.specs.Sound.{soundLists}
 use Rattle.book.specs.Zero.{zeroBundle, zeroFeeIntent}
-use Rattle.rules.specs.Call.{NoSource, Joined, SourceFailed, Call, IdCollides, OutputsUnreadable, ExpectedOutputs, SubmissionIdSource, Applied, Stale, noValue, failures, finalized, feeIntentIs, statusIs, idsAre, written}
+use Rattle.book_answers.specs.declared.DrainFailureCause.the-variants.{IdCollides, OutputsUnreadable}
+use Rattle.book_answers.specs.declared.SubmissionAttemptRelationship.the-variants.{Initial, Other}
+use Rattle.book_answers.specs.declared.SubmissionAttemptStatus.the-variants.{Applied, Stale}
+use Rattle.book_answers.specs.declared.SubmissionDrainFailureStage.the-variants as stage
+use Rattle.book_answers.specs.declared.SubmissionFeeSource.the-variants as source
+use Rattle.rules.specs.Call.{Call, noValue, failures, finalized, feeIntentIs, statusIs, idsAre, written}
 use Rattle.rules.specs.Opened.{opened}
-use Rattle.rules.specs.Rule.{Initial, Other, answer, refused}
+use Rattle.rules.specs.Rule.{answer, refused}
 use Rattle.rules.specs.Examples.Pieces.{height, byId, delivery, drained, failing, spending, seventhId, noCoins, liveSlot, seventh, feeOf3, feeOpen, drainedSlot, joinedEmpty, holding}
 use Rattle.rules_specimens.specs.Pieces.{entryFor, attachedToBase, payment, secondOutput, unreadable, failingAs, retaining, unattempted}
 use Rattle.rules_specimens.specs.Play.{play}
@@ -30,8 +35,8 @@ attempts =
     -- a joined bundle is attached once, acknowledged, and its attempt set aside
     ∷ listed (record {
       start = holding feeOpen (drainedSlot 5) [];
-      calls = Call.FeeIntentForAttempt 5 ∷ Call.AcknowledgeAttempt 5 ∷ Call.FinalizeAttempt 5 Joined zeroBundle ∷ Call.FinalizeAttempt 5 Joined zeroBundle
-          ∷ Call.FeeIntentForAttempt 5 ∷ Call.AcknowledgeAttempt 5 ∷ Call.RelinquishCompletedAttempt 5 ∷ Call.FinalizeAttempt 5 NoSource zeroBundle ∷ [];
+      calls = Call.FeeIntentForAttempt 5 ∷ Call.AcknowledgeAttempt 5 ∷ Call.FinalizeAttempt 5 source.Joined zeroBundle ∷ Call.FinalizeAttempt 5 source.Joined zeroBundle
+          ∷ Call.FeeIntentForAttempt 5 ∷ Call.AcknowledgeAttempt 5 ∷ Call.RelinquishCompletedAttempt 5 ∷ Call.FinalizeAttempt 5 source.NotRequested zeroBundle ∷ [];
       answers = answer [] (feeIntentIs (some feeOf3)) ∷ refused 6 ∷ answer [] (finalized (some joinedEmpty)) ∷ refused 5
           ∷ answer [] (feeIntentIs (some zeroFeeIntent)) ∷ answer [] (statusIs Applied) ∷ answer [] (statusIs Applied) ∷ answer [] (finalized none) ∷ [];
       leaves = (6 ∷ []) ∷ (2 ∷ []) ∷ (1 ∷ []) ∷ (0 ∷ []) ∷ [] ∷ [] ∷ [] ∷ [];
@@ -39,17 +44,17 @@ attempts =
     -- finalising refused: 7, attached without a fee bundle; 8, drained with another bundle; 9, a fee source that is not asked for
     ∷ listed (record {
       start = holding (attachedToBase (entryFor 1 zeroBundle Active)) (drainedSlot 5) [];
-      calls = Call.FinalizeAttempt 5 NoSource zeroBundle ∷ [];
+      calls = Call.FinalizeAttempt 5 source.NotRequested zeroBundle ∷ [];
       answers = refused 7 ∷ [];
       leaves = (6 ∷ []) ∷ (2 ∷ []) ∷ (1 ∷ []) ∷ (0 ∷ []) ∷ [] ∷ [] ∷ [] ∷ [];
     } ∷ record {
       start = holding (entryFor 1 zeroBundle Active) (liveSlot 5) [];
-      calls = Call.FinalizeAttempt 5 SourceFailed zeroBundle ∷ [];
+      calls = Call.FinalizeAttempt 5 source.Failed zeroBundle ∷ [];
       answers = refused 8 ∷ [];
       leaves = (6 ∷ []) ∷ (2 ∷ []) ∷ (1 ∷ []) ∷ (0 ∷ []) ∷ [] ∷ [] ∷ [] ∷ [];
     } ∷ record {
       start = holding (entryFor 1 zeroBundle Active) (drainedSlot 5) [];
-      calls = Call.FinalizeAttempt 5 SourceFailed zeroBundle ∷ [];
+      calls = Call.FinalizeAttempt 5 source.Failed zeroBundle ∷ [];
       answers = refused 9 ∷ [];
       leaves = (6 ∷ []) ∷ (2 ∷ []) ∷ (1 ∷ []) ∷ (0 ∷ []) ∷ [] ∷ [] ∷ [] ∷ [];
     } ∷ [])
@@ -109,13 +114,13 @@ drains =
       calls = Call.Queue (delivery NoId 7) ∷ Call.Queue unreadable ∷ Call.Drain ∷ [];
       answers = answer [] noValue ∷ answer [] noValue ∷ answer [] (failures (failing 0 IdCollides 1 7 ∷ failingAs 1 IdCollides 1 unreadable ∷ [])) ∷ [];
       leaves = (6 ∷ []) ∷ (1 ∷ []) ∷ (1 ∷ []) ∷ (0 ∷ []) ∷ [] ∷ [] ∷ [] ∷ [];
-    }) (SubmissionIdSource ∷ SubmissionIdSource ∷ [])
+    }) (stage.SubmissionId ∷ stage.SubmissionId ∷ [])
     ∷ staged (record {
       start = opened 5 1;
       calls = Call.Queue unreadable ∷ Call.Queue (delivery NoId 7) ∷ Call.Drain ∷ [];
       answers = answer [] noValue ∷ answer [] noValue ∷ answer (drained 1 5 none Initial 7 ∷ []) (failures (failingAs 0 OutputsUnreadable 1 unreadable ∷ [])) ∷ [];
       leaves = (6 ∷ []) ∷ (2 ∷ []) ∷ (1 ∷ []) ∷ (7 ∷ []) ∷ [] ∷ [] ∷ [] ∷ [];
-    }) (ExpectedOutputs ∷ [])
+    }) (stage.ExpectedOutputs ∷ [])
     ∷ []
 
 pub attempts-hold : map given attempts ≡ map wanted attempts

@@ -15,7 +15,8 @@ use Rattle.book.specs.declared.SubmissionChainTerminality.{SubmissionChainTermi
 use Rattle.book.specs.declared.FeeResolution.the-variants.{NotRequested, Attached}
 use Rattle.book.specs.Model.{Book}
 use Rattle.book.specs.Zero.{zeros, zeroOutput, zeroSpend, zeroFeeIntent, zeroHash, noSlots, baseVariant}
-use Rattle.rules.specs.Call.{Cause, Failure}
+use Rattle.book_answers.specs.declared.DrainFailureCause.{DrainFailureCause}
+use Rattle.book_answers.specs.declared.SubmissionDrainFailure.{SubmissionDrainFailure}
 use Rattle.rules.specs.Parts.{intentOf}
 use Rattle.rules.specs.Steps.Entry.{withStatus, withResolution}
 use Rattle.rules.specs.Examples.Pieces.{seventhId}
@@ -74,8 +75,8 @@ unreadable = record {
   goal = EnsureBroadcast;
 }
 
-unfoldable pub failingAs : ℕ → Cause → ℕ → PendingDelivery → Failure
-failingAs n c i d = record { index = n; cause = c; candidateId = i; intentFingerprint = intentOf (d .intent) }
+unfoldable pub failingAs : ℕ → DrainFailureCause → ℕ → PendingDelivery → SubmissionDrainFailure
+failingAs n c i d = record { «candidate_index» = n; cause = c; «candidate_id» = record { 0 = i }; «intent_fingerprint» = intentOf (d .intent) }
 
 -- a book that retains submissions without attempts
 unfoldable pub retaining : ℕ → ℕ → List SubmittedTx → Book

@@ -5,7 +5,8 @@ use Rattle.base_lists.specs.Lists.{flatMap}
 use Rattle.book.specs.Model.{Book}
 use Rattle.archive_form.specs.Encode.{encodeModel}
 use Rattle.rules.specs.Books.{bookAfter, answersBook}
-use Rattle.rules.specs.Call.{Call, Stage, stageOf, Value, noValue, failures, finalized, feeIntentIs, statusIs, idsAre, flag, heightIs, attemptIs, written}
+use Rattle.book_answers.specs.declared.SubmissionDrainFailureStage.{SubmissionDrainFailureStage}
+use Rattle.rules.specs.Call.{Call, stageOf, Value, noValue, failures, finalized, feeIntentIs, statusIs, idsAre, flag, heightIs, attemptIs, written}
 use Rattle.rules.specs.Calls.{rules}
 use Rattle.rules.specs.Examples.{Specimen, Played, brief, saying}
 use Rattle.rules.specs.Rule.{full, run, Answer, answer, refused, answered, left}
@@ -26,7 +27,7 @@ abbrev pub played : Specimen → Played
 played s = play (s .calls) (s .start)
 
 -- `SubmissionDrainFailureStage` of each failure in an answer
-abbrev pub failedAt : Value → List Stage
+abbrev pub failedAt : Value → List SubmissionDrainFailureStage
 failedAt noValue = []
 failedAt (failures fs) = map (λ f. stageOf (f .cause)) fs
 failedAt (finalized f) = []
@@ -38,9 +39,9 @@ failedAt (heightIs h) = []
 failedAt (attemptIs a) = []
 failedAt (written s) = []
 
-abbrev pub stagesOf : Answer Value → List Stage
+abbrev pub stagesOf : Answer Value → List SubmissionDrainFailureStage
 stagesOf (answer xs v) = failedAt v
 stagesOf (refused n) = []
 
-abbrev pub stagesIn : Played → List Stage
+abbrev pub stagesIn : Played → List SubmissionDrainFailureStage
 stagesIn p = flatMap stagesOf (p .says)

@@ -13,23 +13,28 @@ use Rattle.book.specs.declared.OptionalId.the-variants.{NoId}
 use Rattle.book.specs.declared.SubmissionChainTerminality.the-variants.{Landed}
 use Rattle.book.specs.Sound.{soundLists}
 use Rattle.book.specs.Zero.{zeroBundle, zeroFeeIntent}
-use Rattle.rules.specs.Call.{Call, IdsExhausted, Stage, SubmissionIdSource, Applied, Stale, noValue, failures, statusIs, idsAre, flag, heightIs, attemptIs, written}
+use Rattle.book_answers.specs.declared.DrainFailureCause.the-variants.{IdsExhausted}
+use Rattle.book_answers.specs.declared.SubmissionAttemptRelationship.the-variants.{Initial, Exact}
+use Rattle.book_answers.specs.declared.SubmissionAttemptStatus.the-variants.{Applied, Stale}
+use Rattle.book_answers.specs.declared.SubmissionDrainFailureStage.{SubmissionDrainFailureStage}
+use Rattle.book_answers.specs.declared.SubmissionDrainFailureStage.the-variants as stage
+use Rattle.rules.specs.Call.{Call, noValue, failures, statusIs, idsAre, flag, heightIs, attemptIs, written}
 use Rattle.rules.specs.Examples.{Specimen, Played, claimed}
 use Rattle.rules.specs.Examples.Pieces.{height, byId, delivery, drained, failing, entryOf, spending, seventhId, noCoins, liveSlot, holding, fifteen}
 use Rattle.rules.specs.Opened.{opened}
-use Rattle.rules.specs.Rule.{Exact, Initial, answer, refused}
+use Rattle.rules.specs.Rule.{answer, refused}
 use Rattle.rules_specimens.specs.Play.{play, played, stagesIn}
 
 -- amounts with their atoms; lists of calls; a list of calls with the stages at which candidates failed
 pub data Row : Type 0 where
   atoms : List (ℕ × List ℕ) → Row
   listed : List Specimen → Row
-  staged : Specimen → List Stage → Row
+  staged : Specimen → List SubmissionDrainFailureStage → Row
 
 pub data Shown : Type 0 where
   bytes : List (List ℕ) → Shown
   plays : List Played → Shown
-  fails : Played → List Stage → Shown
+  fails : Played → List SubmissionDrainFailureStage → Shown
 
 -- what the definitions give, and what the paper claims
 abbrev pub given : Row → Shown
@@ -113,7 +118,7 @@ table =
       calls = Call.Queue (delivery NoId 7) ∷ Call.Drain ∷ [];
       answers = answer [] noValue ∷ answer [] (failures (failing 0 IdsExhausted 18446744073709551615 7 ∷ [])) ∷ [];
       leaves = (5 ∷ []) ∷ (18446744073709551615 ∷ []) ∷ [] ∷ [] ∷ [] ∷ [] ∷ [] ∷ [];
-    }) (SubmissionIdSource ∷ [])
+    }) (stage.SubmissionId ∷ [])
     -- P relinquish a live token: Stale
     ∷ listed (record {
       start = opened 5 1;

@@ -27,7 +27,11 @@ use Rattle.book.specs.declared.SubmissionChainTerminality.the-variants.{Landed}
 use Rattle.book.specs.Model.{Book}
 use Rattle.book.specs.Sound.{readableBundle, soundDelivery, idOf}
 use Rattle.book.specs.Typed.{Every, U64, Bytes, TypedHeight, TypedBundle, TypedSubmitted, TypedDelivery}
-use Rattle.rules.specs.Call.{FeeSource, FinalizedSubmission, Call, Cause, IdsExhausted, Value, written}
+use Rattle.book_answers.specs.declared.DrainFailureCause.{DrainFailureCause}
+use Rattle.book_answers.specs.declared.DrainFailureCause.the-variants.{IdsExhausted}
+use Rattle.book_answers.specs.declared.FinalizedSubmission.{FinalizedSubmission}
+use Rattle.book_answers.specs.declared.SubmissionFeeSource.{SubmissionFeeSource}
+use Rattle.rules.specs.Call.{Call, Value, written}
 use Rattle.rules.specs.Calls.{rules}
 use Rattle.rules.specs.CoinLists.{encodeCoins}
 use Rattle.rules.specs.Doors.{idsOk}
@@ -44,7 +48,7 @@ use Rattle.rules.specs.Calls.CollectRollbackReplayIds.{markEach, offerAgain, co
 use Rattle.rules.specs.Calls.Common.{Found, live, aside, gone, neverIssued, hasToken, liveAt, isAside, foundBy, find, byLive, withLive, withdraw, withdrawEach, writing}
 use Rattle.rules.specs.Calls.Drain.{isOneOf, oneCandidate, candidates, drain}
 use Rattle.rules.specs.Calls.FeeIntentForAttempt.{feeIntentForAttempt}
-use Rattle.rules.specs.Calls.FinalizeAttempt.{isJoined, isNoSource, finalizeAs, finalizeWith, finalizeLive, soundSource, finalizeAttempt}
+use Rattle.rules.specs.Calls.FinalizeAttempt.{isJoined, isNotRequested, finalizeAs, finalizeWith, finalizeLive, soundSource, finalizeAttempt}
 use Rattle.rules.specs.Calls.Finalized.{unusedFee, currentFinal, attachedFinal}
 use Rattle.rules.specs.Calls.Offer.{isQueued, deliverable, redelivery, offerTo, offer, goalFor}
 use Rattle.rules.specs.Calls.Plan.{Memory, blank, withEmitted, withRemoved, withFailure, last64, missOf, wanted}
@@ -187,11 +191,11 @@ module _ (P : Memory → Type 0) (h : (a : Memory) → P a) where
     unfolding met
     typed-met t a b = (k .expiry, λ d x. typed-cond P d (wanted (c .goal) (t .entry)) _ _ (typed-deliver (idOf t) (c .goal) a d x) (h a))
 
-    typed-knownBy : (f : List ℕ) (t : SubmittedTx) → TypedSubmitted t → (a : Memory) (m : Option Cause) (b : Book) → Within b → TypedTo P b (knownBy n c f t a m)
+    typed-knownBy : (f : List ℕ) (t : SubmittedTx) → TypedSubmitted t → (a : Memory) (m : Option DrainFailureCause) (b : Book) → Within b → TypedTo P b (knownBy n c f t a m)
     typed-knownBy f t x a none b w = typed-met t a b
     typed-knownBy f t x a (some m) b w = typed-bind P (withdraw (idOf t)) (λ _. done (failed m)) b w (typed-withdraw (Then P (λ _. done (failed m))) (λ d y. h (failed m)) (idOf t) (x .entry .id) b)
       where
-        failed : Cause → Memory
+        failed : DrainFailureCause → Memory
         failed m = withFailure n m (idOf t) f (withRemoved (idOf t) a)
 
     typed-known : (f : List ℕ) (t : SubmittedTx) → TypedSubmitted t → (a : Memory) (b : Book) → Within b → TypedTo P b (known n c f t a)
@@ -237,28 +241,28 @@ unfolding drain
 typed-drain b w = (tt, λ c x. typed-candidates 0 (b .pending) (w .pending) blank c x)
 
 -- ---- attempts
-typed-finalizeAs : (i : ℕ) (r : FinalizedSubmission) → Bytes 32 (r .fingerprint) → Kept (finalizeAs i r)
+typed-finalizeAs : (i : ℕ) (r : FinalizedSubmission) → Bytes 32 (r .«variant_fingerprint») → Kept (finalizeAs i r)
 unfolding finalizeAs
 typed-finalizeAs i r h b w = (h, λ c x. tt)
 
-typed-finalizeWith : (source : FeeSource) (j : SpendBundle) → TypedBundle j → (t : SubmittedTx) → Kept (finalizeWith source j t)
+typed-finalizeWith : (source : SubmissionFeeSource) (j : SpendBundle) → TypedBundle j → (t : SubmittedTx) → Kept (finalizeWith source j t)
 unfolding finalizeWith unusedFee currentFinal attachedFinal
 typed-finalizeWith source j h t b w =
     typed-cond Ends b (feeUnresolved (t .entry)) _ _
     (typed-cond Ends b (isJoined source) _ _ (h, λ c x. typed-finalizeAs (idOf t) (attachedFinal j (t .entry)) (variant-typed j) c x) (typed-finalizeAs (idOf t) (unusedFee goal (t .entry)) (current-typed (t .entry)) b w))
-    (typed-cond Ends b (isNoSource source) _ _ (typed-finalizeAs (idOf t) (currentFinal goal (t .entry)) (current-typed (t .entry)) b w) tt)
+    (typed-cond Ends b (isNotRequested source) _ _ (typed-finalizeAs (idOf t) (currentFinal goal (t .entry)) (current-typed (t .entry)) b w) tt)
   where
     goal : SubmissionDeliveryGoal
     goal = t .slots .«active_attempt» .attempt .goal
 
-typed-finalizeLive : (source : FeeSource) (j : SpendBundle) → TypedBundle j → (t : SubmittedTx) → Kept (finalizeLive source j t)
+typed-finalizeLive : (source : SubmissionFeeSource) (j : SpendBundle) → TypedBundle j → (t : SubmittedTx) → Kept (finalizeLive source j t)
 unfolding finalizeLive
 typed-finalizeLive source j h t b w =
     typed-cond Ends b (t .slots .«active_attempt» .attempt .«finalized_variant_fingerprint» .present) _ _ tt
     (typed-cond Ends b (not (validate (t .entry))) _ _ tt
     (typed-cond Ends b (eqs (currentFingerprint (t .entry)) (t .slots .«active_attempt» .attempt .«drained_variant_fingerprint»)) _ _ (typed-finalizeWith source j h t b w) tt))
 
-typed-finalize : (t : ℕ) (source : FeeSource) (j : SpendBundle) → TypedBundle j → Kept (finalizeAttempt t source j)
+typed-finalize : (t : ℕ) (source : SubmissionFeeSource) (j : SpendBundle) → TypedBundle j → Kept (finalizeAttempt t source j)
 unfolding finalizeAttempt
 typed-finalize t source j h b w = typed-cond Ends b (soundSource source j) _ _ (typed-live t _ _ (λ s x. typed-finalizeLive source j h s) b w) tt
 

@@ -6,20 +6,9 @@ ghost use lib.ListN.{length};
 ghost use Rattle.book.specs.Model.{back};
 ghost use Rattle.rules.specs.Call.{AbandonAttempt, AbsentOutputsForIds, AcknowledgeAttempt, ActiveIds, Attempt, BeginReplay, CausallyRolledBackIds, ClearLocalArtifacts, CollectRollbackReplayIds, Drain, DrainRetirements, EmitRetirement, FeeIntentForAttempt, FinalizeAttempt, FinishReplayIfAdvanced, Queue, QueueFeeReadiness, QueueRebroadcastEpoch, QueueRetainedDelivery, ReconcileChainTerminality, ReconciliationInputCoins, RelinquishCompletedAttempt, ReplayRollbackHeight, RestoreRuntime, RetainSubmitted, StopAttempt, WriteArchive};
 ghost use Rattle.rules.specs.Opened.{opened};
-ghost use Rattle.part_replies.specs.Values.{sourceOf};
 ghost use Rattle.submission.specs.Book.{bookOf, bufferAfter};
 ghost use Rattle.submission.specs.Door.{doorNumber};
 ghost use Rattle.submission.specs.Answers.{doneAnswer, statusAnswer, idsAnswer, flagAnswer, heightAnswer, attemptAnswer, feeIntentAnswer, finalizeAnswer, writtenAnswer, drainAnswer, doneFrom, statusFrom, idsFrom, flagFrom, heightFrom, attemptFrom, feeIntentFrom, finalizeFrom, writtenFrom, drainFrom};
-use crate::refused::attempt_refused;
-use crate::refused::done_refused;
-use crate::refused::drain_refused;
-use crate::refused::fee_intent_refused;
-use crate::refused::finalize_refused;
-use crate::refused::flag_refused;
-use crate::refused::height_refused;
-use crate::refused::ids_refused;
-use crate::refused::status_refused;
-use crate::refused::written_refused;
 use book::BookData;
 use book::DeliveryTrigger;
 use book::Height;
@@ -32,23 +21,33 @@ use book::SubmissionDeliveryGoal;
 use book::SubmissionFeeIntent;
 use book::SubmissionId;
 use book::Token;
+use book_answers::DrainedSubmission;
+use book_answers::FinalizedSubmission;
+use book_answers::SubmissionAttemptStatus;
+use book_answers::SubmissionDrainFailure;
+use book_answers::SubmissionFeeSource;
 use book_sound::is_sound;
+use crate::refused::attempt_refused;
+use crate::refused::done_refused;
+use crate::refused::drain_refused;
+use crate::refused::fee_intent_refused;
+use crate::refused::finalize_refused;
+use crate::refused::flag_refused;
+use crate::refused::height_refused;
+use crate::refused::ids_refused;
+use crate::refused::status_refused;
+use crate::refused::written_refused;
 use part_drain_answers::DrainReply;
-use part_drain_answers::SubmissionDrainFailure;
 use part_replies::AttemptReply;
 use part_replies::CallAnswer;
 use part_replies::DoneReply;
 use part_replies::FeeIntentReply;
 use part_replies::FinalizeReply;
-use part_replies::FinalizedSubmission;
 use part_replies::FlagReply;
 use part_replies::HeightReply;
 use part_replies::IdsReply;
 use part_replies::StatusReply;
-use part_replies::SubmissionAttemptStatus;
-use part_replies::SubmissionFeeSource;
 use part_replies::WrittenReply;
-use part_submitted::DrainedSubmission;
 
 pub struct SubmissionBook {
     pub parts: BookData,
@@ -348,7 +347,7 @@ impl SubmissionBook {
         source: SubmissionFeeSource,
         joined: SpendBundle,
     ) -> FinalizeAnswer
-        ensures { λ r. ⌜ r ≡ finalizeAnswer self (FinalizeAttempt (token .0) (sourceOf source) joined) ⌝ }
+        ensures { λ r. ⌜ r ≡ finalizeAnswer self (FinalizeAttempt (token .0) source joined) ⌝ }
     {
         let refusal = door(self.parts);
         if refusal != 0 {

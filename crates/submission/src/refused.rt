@@ -2,6 +2,14 @@
 ghost use mathlib.Core.Path.{_≡_};
 ghost use Rattle.rules.specs.Rule.{undone};
 ghost use Rattle.submission.specs.Answers.{doneGiven, statusGiven, idsGiven, flagGiven, heightGiven, attemptGiven, feeIntentGiven, finalizeGiven, writtenGiven, drainGiven};
+use book::Ids64;
+use book::OptionalAttempt;
+use book::OptionalHeight;
+use book::SubmissionFeeIntent;
+use book_answers::DrainedSubmission;
+use book_answers::FinalizedSubmission;
+use book_answers::SubmissionAttemptStatus;
+use book_answers::SubmissionDrainFailure;
 use crate::AttemptAnswer;
 use crate::DoneAnswer;
 use crate::DrainAnswer;
@@ -13,15 +21,7 @@ use crate::IdsAnswer;
 use crate::StatusAnswer;
 use crate::SubmissionBook;
 use crate::WrittenAnswer;
-use book::Ids64;
-use book::OptionalAttempt;
-use book::OptionalHeight;
-use book::SubmissionFeeIntent;
-use call_finalize_attempt::zero_finalized;
-use part_drain_answers::SubmissionDrainFailure;
 use part_replies::CallAnswer;
-use part_replies::SubmissionAttemptStatus;
-use part_submitted::DrainedSubmission;
 
 pub fn done_refused(book: SubmissionBook, n: u8) -> DoneAnswer
     ensures { λ r. ⌜ r ≡ doneGiven book (undone n) ⌝ }
@@ -103,7 +103,7 @@ pub fn finalize_refused(book: SubmissionBook, n: u8) -> FinalizeAnswer
     FinalizeAnswer {
         answer: CallAnswer::Refused(n),
         present: false,
-        finalized: zero_finalized(),
+        finalized: FinalizedSubmission::zero(),
         book,
     }
 }

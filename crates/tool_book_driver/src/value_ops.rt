@@ -1,9 +1,4 @@
 // Calls that answer one value of their own: a finalised submission, a fee intent, a flag, a height, an attempt.
-use crate::frame::Step;
-use crate::frame::broken;
-use crate::frame::finish;
-use crate::frame::finish_with;
-use crate::frame::say;
 use archive_bundle_write::write::append_height;
 use archive_entry_write::append_slot;
 use book::Height;
@@ -11,12 +6,17 @@ use book::OptionalAttempt;
 use book::OptionalHeight;
 use book::SubmissionFeeIntent;
 use book::Token;
+use book_answers::FinalizedSubmission;
 use codec_answers::part::append_flag;
 use codec_answers::value::append_optional_fee_intent;
 use codec_answers::value::append_optional_finalized;
 use codec_answers::value::refusal_number;
 use codec_append::append_byte;
-use part_replies::FinalizedSubmission;
+use crate::frame::Step;
+use crate::frame::broken;
+use crate::frame::finish;
+use crate::frame::finish_with;
+use crate::frame::say;
 use submission::AttemptAnswer;
 use submission::FeeIntentAnswer;
 use submission::FinalizeAnswer;

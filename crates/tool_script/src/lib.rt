@@ -14,7 +14,7 @@ use book::PendingDelivery;
 use book::SpendBundle;
 use book::SubmissionDeliveryGoal;
 use book::SubmissionFeeIntent;
-use part_replies::SubmissionFeeSource;
+use book_answers::SubmissionFeeSource;
 
 // Any byte, any number.
 pub struct ByteArgument {

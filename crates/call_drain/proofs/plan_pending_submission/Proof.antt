@@ -2,7 +2,7 @@
 use Rattle.book.specs.Model.{view, list16}
 use Rattle.part_lookup.specs.Place.{hasId}
 use Rattle.part_lookup.specs.PlaceLaws.{at-first}
-use Rattle.part_drain_answers.specs.declared.SubmissionDrainFailure.{SubmissionDrainFailure}
+use Rattle.book_answers.specs.declared.SubmissionDrainFailure.{SubmissionDrainFailure}
 use Rattle.part_plan.specs.declared.PlanAction.the-variants.{Passed}
 use Rattle.part_plan.specs.declared.PlanAnswer.the-variants.{Planned}
 use Rattle.part_plan.specs.Plan.{failing}

@@ -5,7 +5,7 @@ use Rattle.book.specs.declared.SubmittedEntry.{SubmittedEntry}
 use Rattle.rules.specs.Rule.{attach}
 use Rattle.rules.specs.Steps.{withEntry}
 use Rattle.rules.specs.Steps.Entry.{revised}
-use Rattle.part_replies.specs.declared.FinalizedSubmission.{FinalizedSubmission}
+use Rattle.book_answers.specs.declared.FinalizedSubmission.{FinalizedSubmission}
 use Rattle.call_finalize_attempt.specs.Decision.{finalAs}
 use Rattle.call_finalize_attempt.proofs.attached.Statement.{statement}
 use Rattle.call_finalize_attempt.proofs.attached.Tie as tie

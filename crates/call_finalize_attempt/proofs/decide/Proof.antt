@@ -2,8 +2,7 @@
 use borrow.Author.Needs.{needs}
 use borrow.Author.Tests.{not-true, not-false}
 use mathlib.Core.Path.{refl, sym, ap, _∙_}
-use Rattle.part_replies.specs.Values.{sourceOf}
-use Rattle.part_replies.specs.declared.FinalizedSubmission.{FinalizedSubmission}
+use Rattle.book_answers.specs.declared.FinalizedSubmission.{FinalizedSubmission}
 use Rattle.call_finalize_attempt.specs.Decision.{finalAs, decides}
 use Rattle.call_finalize_attempt.specs.Tests.{joined-sound}
 use Rattle.call_finalize_attempt.proofs.decide.Statement.{statement}
@@ -12,25 +11,25 @@ use Rattle.call_finalize_attempt.proofs.decide.Tie as tie
 returns : tie.Need-returns
 returns c = let z = c .before .before .before .before .before .before .before .args in
     c .unasked .ensures
-    ∙ decides (sourceOf (z .source)) (z .joined) (z .s) (sym (not-true _ (c .before .before .before .if1 .taken)) ∙ c .before .before .before .before .fee-unresolved .ensures) refl (sym (not-true _ (c .before .if2 .taken)) ∙ c .before .before .is-not-requested .ensures)
+    ∙ decides (z .source) (z .joined) (z .s) (sym (not-true _ (c .before .before .before .if1 .taken)) ∙ c .before .before .before .before .fee-unresolved .ensures) refl (sym (not-true _ (c .before .if2 .taken)) ∙ c .before .before .is-not-requested .ensures)
 
 returns-2 : tie.Need-returns-2
 returns-2 c = let z = c .before .before .before .before .before .before .before .before .args in
     c .decided .ensures ∙ ap (λ (x : FinalizedSubmission). finalAs x (z .s)) (c .before .current-final .ensures)
-    ∙ decides (sourceOf (z .source)) (z .joined) (z .s) (sym (not-true _ (c .before .before .before .before .if1 .taken)) ∙ c .before .before .before .before .before .fee-unresolved .ensures) refl (sym (not-false _ (c .before .before .if2 .left)) ∙ c .before .before .before .is-not-requested .ensures)
+    ∙ decides (z .source) (z .joined) (z .s) (sym (not-true _ (c .before .before .before .before .if1 .taken)) ∙ c .before .before .before .before .before .fee-unresolved .ensures) refl (sym (not-false _ (c .before .before .if2 .left)) ∙ c .before .before .before .is-not-requested .ensures)
 
 returns-3 : tie.Need-returns-3
 returns-3 c = let z = c .before .before .before .before .before .before .before .before .args in
     c .decided2 .ensures ∙ ap (λ (x : FinalizedSubmission). finalAs x (z .s)) (c .before .unused-fee .ensures)
-    ∙ decides (sourceOf (z .source)) (z .joined) (z .s) (sym (not-false _ (c .before .before .before .before .if1 .left)) ∙ c .before .before .before .before .before .fee-unresolved .ensures) (sym (not-true _ (c .before .before .if3 .taken)) ∙ c .before .before .before .is-joined .ensures) refl
+    ∙ decides (z .source) (z .joined) (z .s) (sym (not-false _ (c .before .before .before .before .if1 .left)) ∙ c .before .before .before .before .before .fee-unresolved .ensures) (sym (not-true _ (c .before .before .if3 .taken)) ∙ c .before .before .before .is-joined .ensures) refl
 
 attached-requires : tie.Need-attached-requires
-attached-requires c κs = let z = c .before .before .before .before .before .before in joined-sound (sourceOf (z .args .source)) (z .args .joined) (c .before .is-joined .ensures) (not-false _ (c .if3 .left)) ∙ z .pre .1
+attached-requires c κs = let z = c .before .before .before .before .before .before in joined-sound (z .args .source) (z .args .joined) (c .before .is-joined .ensures) (not-false _ (c .if3 .left)) ∙ z .pre .1
 
 returns-4 : tie.Need-returns-4
 returns-4 c = let z = c .before .before .before .before .before .before .before .args in
     c .attached .ensures
-    ∙ decides (sourceOf (z .source)) (z .joined) (z .s) (sym (not-false _ (c .before .before .before .if1 .left)) ∙ c .before .before .before .before .fee-unresolved .ensures) (sym (not-false _ (c .before .if3 .left)) ∙ c .before .before .is-joined .ensures) refl
+    ∙ decides (z .source) (z .joined) (z .s) (sym (not-false _ (c .before .before .before .if1 .left)) ∙ c .before .before .before .before .fee-unresolved .ensures) (sym (not-false _ (c .before .if3 .left)) ∙ c .before .before .is-joined .ensures) refl
 
 pub decide-spec : {M : Type 1} → statement M
 decide-spec =

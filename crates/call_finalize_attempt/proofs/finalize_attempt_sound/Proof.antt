@@ -7,7 +7,6 @@ use Rattle.book.specs.Model.{view}
 use Rattle.rules.specs.Call.{finalized}
 use Rattle.rules.specs.Calls.FinalizeAttempt.{finalizeLive}
 use Rattle.part_replies.specs.Reply.{finalizeReply}
-use Rattle.part_replies.specs.Values.{sourceOf}
 use Rattle.part_lookup.specs.Normal.{sound-normal}
 use Rattle.part_attempt_answers.specs.Live.{live-within, with-live, with-inactive}
 use Rattle.call_finalize_attempt.specs.Tests.{source-unsound, source-sound}
@@ -15,7 +14,7 @@ use Rattle.call_finalize_attempt.proofs.finalize_attempt_sound.Statemen
 use Rattle.call_finalize_attempt.proofs.finalize_attempt_sound.Tie as tie
 
 returns : tie.Need-returns
-returns c = c .finalize-refused .ensures ∙ ap (finalizeReply (c .before .before .before .args .b)) (source-unsound (sourceOf (c .before .before .before .args .source)) (c .before .before .before .args .joined) (c .before .before .before .args .t .0) (view (c .before .before .before .args .b)) (sym (c .before .before .is-sound-source .ensures) ∙ not-true _ (c .before .if1 .taken)))
+returns c = c .finalize-refused .ensures ∙ ap (finalizeReply (c .before .before .before .args .b)) (source-unsound (c .before .before .before .args .source) (c .before .before .before .args .joined) (c .before .before .before .args .t .0) (view (c .before .before .before .args .b)) (sym (c .before .before .is-sound-source .ensures) ∙ not-true _ (c .before .if1 .taken)))
 
 find-attempt-requires : tie.Need-find-attempt-requires
 find-attempt-requires c κs = sound-normal (c .before .before .args .b) (c .before .before .pre)
@@ -24,13 +23,13 @@ finalize-inactive-requires : tie.Need-finalize-inactive-requires
 finalize-inactive-requires c κs = sound-normal (c .before .before .before .before .before .before .args .b) (c .before .before .before .before .before .before .pre)
 
 returns-2 : tie.Need-returns-2
-returns-2 c = c .finalize-inactive .ensures ∙ ap (finalizeReply (c .before .before .before .before .before .before .before .args .b)) (with-inactive (c .before .before .before .before .before .before .before .args .t .0) (view (c .before .before .before .before .before .before .before .args .b)) (c .before .before .before .before .find-attempt .ensures) (c .before .before .before .live-place .ensures) (finalized none) (finalizeLive (sourceOf (c .before .before .before .before .before .before .before .args .source)) (c .before .before .before .before .before .before .before .args .joined)) (c .before .enum-told .given .1) ∙ source-sound (sourceOf (c .before .before .before .before .before .before .before .args .source)) (c .before .before .before .before .before .before .before .args .joined) (c .before .before .before .before .before .before .before .args .t .0) (view (c .before .before .before .before .before .before .before .args .b)) (sym (c .before .before .before .before .before .before .is-sound-source .ensures) ∙ not-false _ (c .before .before .before .before .before .if1 .left)))
+returns-2 c = c .finalize-inactive .ensures ∙ ap (finalizeReply (c .before .before .before .before .before .before .before .args .b)) (with-inactive (c .before .before .before .before .before .before .before .args .t .0) (view (c .before .before .before .before .before .before .before .args .b)) (c .before .before .before .before .find-attempt .ensures) (c .before .before .before .live-place .ensures) (finalized none) (finalizeLive (c .before .before .before .before .before .before .before .args .source) (c .before .before .before .before .before .before .before .args .joined)) (c .before .enum-told .given .1) ∙ source-sound (c .before .before .before .before .before .before .before .args .source) (c .before .before .before .before .before .before .before .args .joined) (c .before .before .before .before .before .before .before .args .t .0) (view (c .before .before .before .before .before .before .before .args .b)) (sym (c .before .before .before .before .before .before .is-sound-source .ensures) ∙ not-false _ (c .before .before .before .before .before .if1 .left)))
 
 finalize-live-requires : tie.Need-finalize-live-requires
 finalize-live-requires c κs = (c .before .before .before .before .before .before .before .pre, live-within (c .before .before .before .before .before .before .before .args .t .0) (view (c .before .before .before .before .before .before .before .args .b)) (c .before .before .before .before .find-attempt .ensures) (c .before .before .before .live-place .ensures) (c .before .live .given .1), sym (c .before .before .before .before .before .before .is-sound-source .ensures) ∙ not-false _ (c .before .before .before .before .before .if1 .left))
 
 returns-3 : tie.Need-returns-3
-returns-3 c = c .finalize-live .ensures ∙ ap (finalizeReply (c .before .before .before .before .before .before .before .before .args .b)) (with-live (c .before .before .before .before .before .before .before .before .args .t .0) (view (c .before .before .before .before .before .before .before .before .args .b)) (c .before .before .before .before .before .find-attempt .ensures) (c .before .before .before .before .live-place .ensures) (finalized none) (finalizeLive (sourceOf (c .before .before .before .before .before .before .before .before .args .source)) (c .before .before .before .before .before .before .before .before .args .joined)) (c .before .before .live .given .1) ∙ source-sound (sourceOf (c .before .before .before .before .before .before .before .before .args .source)) (c .before .before .before .before .before .before .before .before .args .joined) (c .before .before .before .before .before .before .before .before .args .t .0) (view (c .before .before .before .before .before .before .before .before .args .b)) (sym (c .before .before .before .before .before .before .before .is-sound-source .ensures) ∙ not-false _ (c .before .before .before .before .before .before .if1 .left)))
+returns-3 c = c .finalize-live .ensures ∙ ap (finalizeReply (c .before .before .before .before .before .before .before .before .args .b)) (with-live (c .before .before .before .before .before .before .before .before .args .t .0) (view (c .before .before .before .before .before .before .before .before .args .b)) (c .before .before .before .before .before .find-attempt .ensures) (c .before .before .before .before .live-place .ensures) (finalized none) (finalizeLive (c .before .before .before .before .before .before .before .before .args .source) (c .before .before .before .before .before .before .before .before .args .joined)) (c .before .before .live .given .1) ∙ source-sound (c .before .before .before .before .before .before .before .before .args .source) (c .before .before .before .before .before .before .before .before .args .joined) (c .before .before .before .before .before .before .before .before .args .t .0) (view (c .before .before .before .before .before .before .before .before .args .b)) (sym (c .before .before .before .before .before .before .before .is-sound-source .ensures) ∙ not-false _ (c .before .before .before .before .before .before .if1 .left)))
 
 pub finalize-attempt-sound-spec : {M : Type 1} → statement M
 finalize-attempt-sound-spec =

@@ -14,7 +14,7 @@ returns : tie.Need-returns
 returns c = c .finalize-refused .ensures ∙ ap (finalizeReply (c .before .before .before .args .b)) (inactive-never (view (c .before .before .before .args .b)) (finalized none) (c .before .before .before .args .place) (c .before .before .is-never-issued .ensures) (c .before .if1 .taken))
 
 returns-2 : tie.Need-returns-2
-returns-2 c = none-ended (c .before .before .before .args .b) (c .before .before .before .pre) (c .zero-finalized .ensures) (inactive-issued (view (c .before .before .before .args .b)) (finalized none) (c .before .before .before .args .place) (c .before .before .is-never-issued .ensures) (c .before .if1 .left))
+returns-2 c = none-ended (c .before .before .before .args .b) (c .before .before .before .pre) (c .zero .ensures) (inactive-issued (view (c .before .before .before .args .b)) (finalized none) (c .before .before .before .args .place) (c .before .before .is-never-issued .ensures) (c .before .if1 .left))
 
 pub finalize-inactive-spec : {M : Type 1} → statement M
 finalize-inactive-spec =

@@ -1,16 +1,15 @@
 -- The two cases of `soundSource`: beside a joined source the bundle must be sound, beside any other zero.
 use borrow.Author.Needs.{needs}
 use mathlib.Core.Path.{_∙_}
-use Rattle.part_replies.specs.Values.{sourceOf}
 use Rattle.call_finalize_attempt.specs.Tests.{joined-sound, unjoined-zero}
 use Rattle.call_finalize_attempt.proofs.is_sound_source.Statement.{statement}
 use Rattle.call_finalize_attempt.proofs.is_sound_source.Tie as tie
 
 returns : tie.Need-returns
-returns c = c .is-sound-bundle .ensures ∙ joined-sound (sourceOf (c .before .before .before .args .source)) (c .before .before .before .args .joined) (c .before .before .is-joined .ensures) (c .before .if1 .taken)
+returns c = c .is-sound-bundle .ensures ∙ joined-sound (c .before .before .before .args .source) (c .before .before .before .args .joined) (c .before .before .is-joined .ensures) (c .before .if1 .taken)
 
 returns-2 : tie.Need-returns-2
-returns-2 c = c .is-zero .ensures ∙ unjoined-zero (sourceOf (c .before .before .before .args .source)) (c .before .before .before .args .joined) (c .before .before .is-joined .ensures) (c .before .if1 .left)
+returns-2 c = c .is-zero .ensures ∙ unjoined-zero (c .before .before .before .args .source) (c .before .before .before .args .joined) (c .before .before .is-joined .ensures) (c .before .if1 .left)
 
 pub is-sound-source-spec : {M : Type 1} → statement M
 is-sound-source-spec =

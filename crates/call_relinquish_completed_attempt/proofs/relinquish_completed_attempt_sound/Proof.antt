@@ -2,7 +2,7 @@
 use borrow.Author.Needs.{needs}
 use mathlib.Core.Path.{sym, ap, _∙_}
 use Rattle.book.specs.Model.{view}
-use Rattle.rules.specs.Call.{Applied, Stale}
+use Rattle.book_answers.specs.declared.SubmissionAttemptStatus.the-variants.{Applied, Stale}
 use Rattle.part_replies.specs.Reply.{statusReply}
 use Rattle.part_lookup.specs.Normal.{sound-normal}
 use Rattle.part_attempt_answers.specs.Answers.{status-ended}

@@ -4,7 +4,8 @@ use mathlib.Core.Bool.{cond, not}
 use Rattle.base_lists.specs.Bytes.{eqs}
 use Rattle.book.specs.declared.SubmittedTx.{SubmittedTx}
 use Rattle.book.specs.Sound.{idOf}
-use Rattle.rules.specs.Call.{Applied, Stale, Value, statusIs}
+use Rattle.book_answers.specs.declared.SubmissionAttemptStatus.the-variants.{Applied, Stale}
+use Rattle.rules.specs.Call.{Value, statusIs}
 use Rattle.rules.specs.Calls.Common.{withLive}
 use Rattle.rules.specs.Parts.{currentFingerprint}
 use Rattle.rules.specs.Rule.{done, acknowledge, unqueue, note, revise, setAside, Rule, undo, _>>=_, _>>_, step}

@@ -13,7 +13,8 @@ use Rattle.book.specs.declared.OptionalId.the-variants.{NoId, Of}
 use Rattle.book.specs.declared.SubmissionDeliveryGoal.{SubmissionDeliveryGoal}
 use Rattle.book.specs.Model.{Book}
 use Rattle.book.specs.Sound.{readableBundle, idOf}
-use Rattle.rules.specs.Call.{Cause, NoRetainedState, IdCollides, OutputsUnreadable, IdsExhausted}
+use Rattle.book_answers.specs.declared.DrainFailureCause.{DrainFailureCause}
+use Rattle.book_answers.specs.declared.DrainFailureCause.the-variants.{NoRetainedState, IdCollides, OutputsUnreadable, IdsExhausted}
 use Rattle.rules.specs.Calls.Common.{withdraw}
 use Rattle.rules.specs.Calls.Plan.{Memory, withEmitted, withRemoved, withFailure, last64, missOf, wanted}
 use Rattle.rules.specs.Keyed.{pick}
@@ -36,7 +37,7 @@ met c t a = do
   cond (wanted (c .goal) (t .entry)) (deliver (idOf t) (c .goal) a) (done a)
 
 -- plan 2, a miss: "that submission is removed with its queue entries, here and in the remaining candidates, and retired"
-abbrev pub knownBy : ℕ → PendingDelivery → List ℕ → SubmittedTx → Memory → Option Cause → Rule Memory
+abbrev pub knownBy : ℕ → PendingDelivery → List ℕ → SubmittedTx → Memory → Option DrainFailureCause → Rule Memory
 knownBy n c f t a none = met c t a
 knownBy n c f t a (some m) = do
   withdraw (idOf t)

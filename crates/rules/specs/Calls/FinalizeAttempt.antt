@@ -7,30 +7,33 @@ use Rattle.book.specs.declared.SpendBundle.{SpendBundle}
 use Rattle.book.specs.declared.SubmittedTx.{SubmittedTx}
 use Rattle.book.specs.Sound.{soundBundle, idOf}
 use Rattle.book.specs.Zero.{isZeroBundle}
-use Rattle.rules.specs.Call.{FeeSource, NoSource, Joined, JoinFailed, SourceFailed, FinalizedSubmission, Value, finalized}
+use Rattle.book_answers.specs.declared.FinalizedSubmission.{FinalizedSubmission}
+use Rattle.book_answers.specs.declared.SubmissionFeeSource.{SubmissionFeeSource}
+use Rattle.book_answers.specs.declared.SubmissionFeeSource.the-variants.{NotRequested, Joined, JoinFailed, Failed}
+use Rattle.rules.specs.Call.{Value, finalized}
 use Rattle.rules.specs.Calls.Common.{withLive}
 use Rattle.rules.specs.Calls.Finalized.{unusedFee, currentFinal, attachedFinal}
 use Rattle.rules.specs.Parts.{currentFingerprint, feeUnresolved, validate}
 use Rattle.rules.specs.Rule.{done, attach, revise, finalise, Rule, undo, _>>=_, _>>_, step}
 
-abbrev pub isJoined : FeeSource → Bool
-isJoined NoSource = false
+abbrev pub isJoined : SubmissionFeeSource → Bool
+isJoined NotRequested = false
 isJoined Joined = true
 isJoined JoinFailed = false
-isJoined SourceFailed = false
+isJoined Failed = false
 
-abbrev pub isNoSource : FeeSource → Bool
-isNoSource NoSource = true
-isNoSource Joined = false
-isNoSource JoinFailed = false
-isNoSource SourceFailed = false
+abbrev pub isNotRequested : SubmissionFeeSource → Bool
+isNotRequested NotRequested = true
+isNotRequested Joined = false
+isNotRequested JoinFailed = false
+isNotRequested Failed = false
 
 unfoldable pub finalizeAs : ℕ → FinalizedSubmission → Rule Value
 finalizeAs i r = do
-  step (finalise i (r .fingerprint))
+  step (finalise i (r .«variant_fingerprint»))
   done (finalized (some r))
 
-unfoldable pub finalizeWith : FeeSource → SpendBundle → SubmittedTx → Rule Value
+unfoldable pub finalizeWith : SubmissionFeeSource → SpendBundle → SubmittedTx → Rule Value
 unfolding finalizeAs unusedFee currentFinal attachedFinal
 finalizeWith source j t =
     cond (feeUnresolved (t .entry))
@@ -39,9 +42,9 @@ finalizeWith source j t =
       step (revise (idOf t) (attach j))
       finalizeAs (idOf t) (attachedFinal j (t .entry)))
     (finalizeAs (idOf t) (unusedFee (t .slots .«active_attempt» .attempt .goal) (t .entry))))
-    (cond (isNoSource source) (finalizeAs (idOf t) (currentFinal (t .slots .«active_attempt» .attempt .goal) (t .entry))) (undo 9))
+    (cond (isNotRequested source) (finalizeAs (idOf t) (currentFinal (t .slots .«active_attempt» .attempt .goal) (t .entry))) (undo 9))
 
-unfoldable pub finalizeLive : FeeSource → SpendBundle → SubmittedTx → Rule Value
+unfoldable pub finalizeLive : SubmissionFeeSource → SpendBundle → SubmittedTx → Rule Value
 unfolding validate currentFingerprint finalizeWith
 finalizeLive source j t =
     cond (t .slots .«active_attempt» .attempt .«finalized_variant_fingerprint» .present) (undo 5)
@@ -49,10 +52,10 @@ finalizeLive source j t =
     (cond (eqs (currentFingerprint (t .entry)) (t .slots .«active_attempt» .attempt .«drained_variant_fingerprint»)) (finalizeWith source j t) (undo 8)))
 
 -- the joined bundle is sound; with any other source it is unused, and zero
-unfoldable pub soundSource : FeeSource → SpendBundle → Bool
+unfoldable pub soundSource : SubmissionFeeSource → SpendBundle → Bool
 unfolding soundBundle isZeroBundle
 soundSource source j = cond (isJoined source) (soundBundle j) (isZeroBundle j)
 
-unfoldable pub finalizeAttempt : ℕ → FeeSource → SpendBundle → Rule Value
+unfoldable pub finalizeAttempt : ℕ → SubmissionFeeSource → SpendBundle → Rule Value
 unfolding soundSource withLive finalizeLive
 finalizeAttempt t source j = cond (soundSource source j) (withLive t (finalized none) (finalizeLive source j)) (undo 3)

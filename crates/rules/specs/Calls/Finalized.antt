@@ -5,7 +5,8 @@ use Rattle.book.specs.declared.SubmittedEntry.{SubmittedEntry}
 use Rattle.book.specs.declared.SubmissionDeliveryGoal.{SubmissionDeliveryGoal}
 use Rattle.book.specs.Zero.{isEnsureBroadcast}
 use Rattle.archive_bundle_form.specs.Forms.{variantFingerprint}
-use Rattle.rules.specs.Call.{FeeAttached, FeeUnused, FeeNotRequested, FinalizedSubmission}
+use Rattle.book_answers.specs.declared.FeeSourceDisposition.the-variants as disposition
+use Rattle.book_answers.specs.declared.FinalizedSubmission.{FinalizedSubmission}
 use Rattle.rules.specs.Parts.{currentBundle, currentAppliedFee, currentFingerprint, holdsHash, currentAcknowledged}
 
 -- the base is broadcast without the fee: `SubmitWithoutFee`
@@ -13,11 +14,11 @@ unfoldable pub unusedFee : SubmissionDeliveryGoal → SubmittedEntry → Finaliz
 unfolding currentFingerprint currentAcknowledged
 unusedFee g e = record {
   bundle = e .«base_bundle»;
-  appliedFee = 0;
+  «applied_fee» = 0;
   warning = true;
-  disposition = FeeUnused;
-  fingerprint = currentFingerprint e;
-  shouldBroadcast = isEnsureBroadcast g && not (currentAcknowledged e);
+  disposition = disposition.Unused;
+  «variant_fingerprint» = currentFingerprint e;
+  «should_broadcast» = isEnsureBroadcast g && not (currentAcknowledged e);
 }
 
 -- no fee is open: the current variant
@@ -25,11 +26,11 @@ unfoldable pub currentFinal : SubmissionDeliveryGoal → SubmittedEntry → Fina
 unfolding currentBundle currentAppliedFee currentFingerprint currentAcknowledged
 currentFinal g e = record {
   bundle = currentBundle e;
-  appliedFee = currentAppliedFee e;
+  «applied_fee» = currentAppliedFee e;
   warning = false;
-  disposition = FeeNotRequested;
-  fingerprint = currentFingerprint e;
-  shouldBroadcast = isEnsureBroadcast g && not (currentAcknowledged e);
+  disposition = disposition.NotRequested;
+  «variant_fingerprint» = currentFingerprint e;
+  «should_broadcast» = isEnsureBroadcast g && not (currentAcknowledged e);
 }
 
 -- the joined bundle, with the fee that was asked for
@@ -37,9 +38,9 @@ unfoldable pub attachedFinal : SpendBundle → SubmittedEntry → FinalizedSubmi
 unfolding variantFingerprint holdsHash
 attachedFinal j e = record {
   bundle = j;
-  appliedFee = e .«fee_intent» .amount;
+  «applied_fee» = e .«fee_intent» .amount;
   warning = false;
-  disposition = FeeAttached;
-  fingerprint = variantFingerprint j;
-  shouldBroadcast = not (holdsHash (e .«wallet_acknowledged_variant») (variantFingerprint j));
+  disposition = disposition.Attached;
+  «variant_fingerprint» = variantFingerprint j;
+  «should_broadcast» = not (holdsHash (e .«wallet_acknowledged_variant») (variantFingerprint j));
 }

@@ -1,6 +1,7 @@
 -- `relinquish_completed_attempt` "changes nothing; a live token gets Stale"; a set-aside one Applied; refusal 4: not set aside and not below next token.
 use Prim.Native.Nat.{ℕ}
-use Rattle.rules.specs.Call.{Applied, Stale, Value, statusIs}
+use Rattle.book_answers.specs.declared.SubmissionAttemptStatus.the-variants.{Applied, Stale}
+use Rattle.rules.specs.Call.{Value, statusIs}
 use Rattle.rules.specs.Calls.Common.{Found, live, aside, gone, neverIssued, find}
 use Rattle.rules.specs.Rule.{done, Rule, undo, _>>=_, _>>_, book}
 

@@ -2,7 +2,8 @@
 use Prim.Native.Nat.{ℕ}
 use Rattle.book.specs.declared.SubmittedTx.{SubmittedTx}
 use Rattle.book.specs.Sound.{idOf}
-use Rattle.rules.specs.Call.{Applied, Stale, Value, statusIs}
+use Rattle.book_answers.specs.declared.SubmissionAttemptStatus.the-variants.{Applied, Stale}
+use Rattle.rules.specs.Call.{Value, statusIs}
 use Rattle.rules.specs.Calls.Common.{withLive}
 use Rattle.rules.specs.Rule.{done, setAside, Rule, _>>=_, _>>_, step}
 

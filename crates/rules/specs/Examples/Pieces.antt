@@ -2,7 +2,7 @@
 use Prim.Native.Nat.{ℕ, zero, suc}
 use mathlib.Core.Bool.{true, false}
 use mathlib.Core.List.{List, [], _∷_}
-use mathlib.Core.Option.{Option}
+use mathlib.Core.Option.{Option, none, some}
 use lib.ListN.{replicate}
 use Rattle.book.specs.declared.Height.{Height}
 use Rattle.book.specs.declared.SubmissionFeeIntent.{SubmissionFeeIntent}
@@ -24,9 +24,17 @@ use Rattle.book.specs.declared.FeeResolution.the-variants.{Unresolved, NotReque
 use Rattle.book.specs.Model.{Book}
 use Rattle.book.specs.Zero.{zeros, zeroOutput, zeroSpend, zeroBundle, zeroFeeIntent, zeroHash, noAttempt, noSlots, baseVariant}
 use Rattle.archive_bundle_form.specs.Forms.{variantFingerprint}
-use Rattle.rules.specs.Call.{Call, Cause, Failure, FeeAttached, FinalizedSubmission, Value, noValue}
+use Rattle.book_answers.specs.declared.DrainFailureCause.{DrainFailureCause}
+use Rattle.book_answers.specs.declared.DrainedSubmission.{DrainedSubmission}
+use Rattle.book_answers.specs.declared.FeeSourceDisposition.the-variants as disposition
+use Rattle.book_answers.specs.declared.FinalizedSubmission.{FinalizedSubmission}
+use Rattle.book_answers.specs.declared.OptionalToken.{OptionalToken}
+use Rattle.book_answers.specs.declared.OptionalToken.the-variants as token
+use Rattle.book_answers.specs.declared.SubmissionAttemptRelationship.{SubmissionAttemptRelationship}
+use Rattle.book_answers.specs.declared.SubmissionDrainFailure.{SubmissionDrainFailure}
+use Rattle.rules.specs.Call.{Call, Value, noValue}
 use Rattle.rules.specs.Parts.{intentOf}
-use Rattle.rules.specs.Rule.{Relationship, DrainedSubmission, Answer, answer}
+use Rattle.rules.specs.Rule.{Answer, answer}
 
 unfoldable pub noArchive : Book → List ℕ
 noArchive b = []
@@ -64,13 +72,17 @@ damaged = record {
   goal = EnsureBroadcast;
 }
 
-unfoldable pub drained : ℕ → ℕ → Option ℕ → Relationship → ℕ → DrainedSubmission
-unfolding zeroBundle zeroFeeIntent height
-drained i t p r x = record { id = i; token = t; predecessor = p; relationship = r; bundle = zeroBundle; expiry = At (height x); feeIntent = zeroFeeIntent }
+abbrev pub tokenBy : Option ℕ → OptionalToken
+tokenBy none = token.NoToken
+tokenBy (some t) = token.Of (record { 0 = t })
 
-unfoldable pub failing : ℕ → Cause → ℕ → ℕ → Failure
+unfoldable pub drained : ℕ → ℕ → Option ℕ → SubmissionAttemptRelationship → ℕ → DrainedSubmission
+unfolding zeroBundle zeroFeeIntent height
+drained i t p r x = record { id = record { 0 = i }; «attempt_token» = record { 0 = t }; «predecessor_attempt_token» = tokenBy p; relationship = r; bundle = zeroBundle; expiry = At (height x); «fee_intent» = zeroFeeIntent }
+
+unfoldable pub failing : ℕ → DrainFailureCause → ℕ → ℕ → SubmissionDrainFailure
 unfolding intentBy
-failing n c i x = record { index = n; cause = c; candidateId = i; intentFingerprint = intentOf (intentBy NoId x) }
+failing n c i x = record { «candidate_index» = n; cause = c; «candidate_id» = record { 0 = i }; «intent_fingerprint» = intentOf (intentBy NoId x) }
 
 unfoldable pub noFee : SubmissionFeeIntent
 noFee = record { kind = NoFeeConfigured; target = zeros 32; amount = 0 }
@@ -164,7 +176,7 @@ drainedSlot t = record {
 
 unfoldable pub joinedEmpty : FinalizedSubmission
 unfolding zeroBundle
-joinedEmpty = record { bundle = zeroBundle; appliedFee = 3; warning = false; disposition = FeeAttached; fingerprint = variantFingerprint zeroBundle; shouldBroadcast = true }
+joinedEmpty = record { bundle = zeroBundle; «applied_fee» = 3; warning = false; disposition = disposition.Attached; «variant_fingerprint» = variantFingerprint zeroBundle; «should_broadcast» = true }
 
 -- a book that retains one submission, as 1, with these replayed ids
 unfoldable pub holding : SubmittedEntry → AttemptSlots → List ℕ → Book

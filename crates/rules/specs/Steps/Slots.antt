@@ -2,7 +2,6 @@
 use Prim.Native.Nat.{ℕ}
 use mathlib.Core.Bool.{Bool, true, false, cond}
 use mathlib.Core.List.{List}
-use mathlib.Core.Option.{Option, none, some}
 use Rattle.base_lists.specs.Bytes.{eqs}
 use Rattle.book.specs.Zero.{zeroHash, noAttempt, isEnsureBroadcast}
 use Rattle.book.specs.declared.Token.{Token}
@@ -12,7 +11,11 @@ use Rattle.book.specs.declared.OptionalAttempt.{OptionalAttempt}
 use Rattle.book.specs.declared.AttemptSlots.{AttemptSlots}
 use Rattle.book.specs.declared.SubmittedEntry.{SubmittedEntry}
 use Rattle.rules.specs.Parts.{currentBundle, currentFingerprint, openFeeIntent}
-use Rattle.rules.specs.Rule.{Relationship, Initial, Exact, NewerFeeBearing, Other, DrainedSubmission}
+use Rattle.book_answers.specs.declared.DrainedSubmission.{DrainedSubmission}
+use Rattle.book_answers.specs.declared.OptionalToken.{OptionalToken}
+use Rattle.book_answers.specs.declared.OptionalToken.the-variants.{NoToken, Of}
+use Rattle.book_answers.specs.declared.SubmissionAttemptRelationship.{SubmissionAttemptRelationship}
+use Rattle.book_answers.specs.declared.SubmissionAttemptRelationship.the-variants.{Initial, Exact, NewerFeeBearing, Other}
 
 abbrev pub present : DeliveryAttempt → OptionalAttempt
 present a = record { present = true; attempt = a }
@@ -54,22 +57,22 @@ unfoldable pub resolved : DeliveryAttempt → List ℕ
 resolved a = cond (a .«finalized_variant_fingerprint» .present) (a .«finalized_variant_fingerprint» .hash) (a .«drained_variant_fingerprint»)
 
 -- `issue_attempt`: the relationship to the predecessor
-unfoldable pub relationshipTo : OptionalAttempt → SubmissionDeliveryGoal → List ℕ → Relationship
+unfoldable pub relationshipTo : OptionalAttempt → SubmissionDeliveryGoal → List ℕ → SubmissionAttemptRelationship
 unfolding resolved
 relationshipTo p g v = cond (p .present) (cond (isEnsureBroadcast g) (cond (eqs (resolved (p .attempt)) v) Exact Other) NewerFeeBearing) Initial
 
-abbrev pub tokenIn : OptionalAttempt → Option ℕ
-tokenIn p = cond (p .present) (some (p .attempt .token .0)) none
+abbrev pub tokenIn : OptionalAttempt → OptionalToken
+tokenIn p = cond (p .present) (Of (p .attempt .token)) NoToken
 
 -- what a drain hands out for a submission that gets a token
 unfoldable pub handed : ℕ → SubmissionDeliveryGoal → SubmittedEntry → OptionalAttempt → DrainedSubmission
 unfolding relationshipTo currentBundle currentFingerprint openFeeIntent
 handed t g e p = record {
-  id = e .id .0;
-  token = t;
-  predecessor = tokenIn p;
+  id = e .id;
+  «attempt_token» = record { 0 = t };
+  «predecessor_attempt_token» = tokenIn p;
   relationship = relationshipTo p g (currentFingerprint e);
   bundle = currentBundle e;
   expiry = e .status .expiry;
-  feeIntent = openFeeIntent e;
+  «fee_intent» = openFeeIntent e;
 }

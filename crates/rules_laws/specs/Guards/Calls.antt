@@ -26,7 +26,9 @@ use Rattle.book.specs.declared.SubmissionChainTerminality.{SubmissionChainTermi
 use Rattle.book.specs.declared.SubmissionChainTerminality.the-variants.{Landed}
 use Rattle.book.specs.Model.{Book}
 use Rattle.book.specs.Sound.{readableBundle, soundDelivery, idOf, soundBundle, soundEntry, soundSubmitted, soundIntent}
-use Rattle.rules.specs.Call.{FeeSource, Call, Cause, Value, written}
+use Rattle.book_answers.specs.declared.DrainFailureCause.{DrainFailureCause}
+use Rattle.book_answers.specs.declared.SubmissionFeeSource.{SubmissionFeeSource}
+use Rattle.rules.specs.Call.{Call, Value, written}
 use Rattle.rules.specs.Calls.{rules}
 use Rattle.rules.specs.CoinLists.{encodeCoins}
 use Rattle.rules.specs.Doors.{idsOk}
@@ -43,7 +45,7 @@ use Rattle.rules.specs.Calls.CollectRollbackReplayIds.{markEach, offerAgain, co
 use Rattle.rules.specs.Calls.Common.{Found, live, aside, gone, neverIssued, find, byLive, withLive, withdraw, withdrawEach, writing}
 use Rattle.rules.specs.Calls.Drain.{isOneOf, oneCandidate, candidates, drain}
 use Rattle.rules.specs.Calls.FeeIntentForAttempt.{feeIntentForAttempt}
-use Rattle.rules.specs.Calls.FinalizeAttempt.{isJoined, isNoSource, finalizeAs, finalizeWith, finalizeLive, soundSource, finalizeAttempt}
+use Rattle.rules.specs.Calls.FinalizeAttempt.{isJoined, isNotRequested, finalizeAs, finalizeWith, finalizeLive, soundSource, finalizeAttempt}
 use Rattle.rules.specs.Calls.Offer.{isQueued, deliverable, redelivery, offerTo, offer, goalFor}
 use Rattle.rules.specs.Calls.Plan.{Memory, blank, withEmitted, last64, missOf, wanted}
 use Rattle.rules.specs.Calls.Queue.{queue}
@@ -164,7 +166,7 @@ module _ (P : Memory → Type 0) (h : (a : Memory) → P a) where
       (λ e. taken-cond P b (eqb (b .nextToken .0) last64) _ _ (λ l. eqb-true (b .nextToken .0) last64 l) (λ l. (refl, λ c x. h (withEmitted i a))))
 
   module _ (n : ℕ) (c : PendingDelivery) (k : soundDelivery c ≡ true) where
-    taken-knownBy : (f : List ℕ) (t : SubmittedTx) (a : Memory) (m : Option Cause) (b : Book) → TakenTo P b (knownBy n c f t a m)
+    taken-knownBy : (f : List ℕ) (t : SubmittedTx) (a : Memory) (m : Option DrainFailureCause) (b : Book) → TakenTo P b (knownBy n c f t a m)
     unfolding met withdraw
     taken-knownBy f t a none b = (refl, λ d x. taken-cond P d (wanted (c .goal) (t .entry)) _ _ (λ e. taken-deliver (idOf t) (c .goal) a d) (λ e. h a))
     taken-knownBy f t a (some m) b = (refl, λ d x. (refl, λ e y. h _))
@@ -209,15 +211,15 @@ unfolding drain
 taken-drain b s = (refl, λ c x. taken-candidates 0 (b .pending) (s .pending) blank c x)
 
 -- ---- attempts
-taken-finalizeWith : (source : FeeSource) (j : SpendBundle) → soundSource source j ≡ true → (t : SubmittedTx) → AllTaken (finalizeWith source j t)
+taken-finalizeWith : (source : SubmissionFeeSource) (j : SpendBundle) → soundSource source j ≡ true → (t : SubmittedTx) → AllTaken (finalizeWith source j t)
 unfolding finalizeWith finalizeAs soundSource
 taken-finalizeWith source j h t b s =
     taken-cond Ends b (feeUnresolved (t .entry)) _ _
     (λ u. taken-cond Ends b (isJoined source) _ _
     (λ e. (ap (λ (x : Bool). cond x (soundBundle j) (isZeroBundle j)) (sym e) ∙ h, λ c x. (refl, λ d y. tt))) (λ e. (refl, λ c x. tt)))
-    (λ u. taken-cond Ends b (isNoSource source) _ _ (λ e. (refl, λ c x. tt)) (λ e. tt))
+    (λ u. taken-cond Ends b (isNotRequested source) _ _ (λ e. (refl, λ c x. tt)) (λ e. tt))
 
-taken-finalize : (t : ℕ) (source : FeeSource) (j : SpendBundle) → AllTaken (finalizeAttempt t source j)
+taken-finalize : (t : ℕ) (source : SubmissionFeeSource) (j : SpendBundle) → AllTaken (finalizeAttempt t source j)
 unfolding finalizeAttempt finalizeLive
 taken-finalize t source j b s = taken-cond Ends b (soundSource source j) _ _
     (λ h. taken-live t _ _ (λ u c x.

@@ -21,7 +21,8 @@ use Rattle.rules.specs.Calls.{rules}
 use Rattle.rules.specs.Keyed.{pick, change, without}
 use Rattle.rules.specs.Opened.{opened}
 use Rattle.rules.specs.Parts.{currentFingerprint}
-use Rattle.rules.specs.Rule.{done, DrainedSubmission, Revision, Note, enqueue, unqueue, retire, unreplay, unqueueAll, unretireAll, beginEpoch, endEpoch, Step, note, revise, retain, emit, remove, setAside, finalise, replay, Rule, undo, stop, look, act, turn, Outcome, ended, undone, stopped, logged, guarded, lengthens, grows, full, run, left}
+use Rattle.book_answers.specs.declared.DrainedSubmission.{DrainedSubmission}
+use Rattle.rules.specs.Rule.{done, Revision, Note, enqueue, unqueue, retire, unreplay, unqueueAll, unretireAll, beginEpoch, endEpoch, Step, note, revise, retain, emit, remove, setAside, finalise, replay, Rule, undo, stop, look, act, turn, Outcome, ended, undone, stopped, logged, guarded, lengthens, grows, full, run, left}
 use Rattle.rules.specs.Steps.{withEntry, withSlots, noteBook, reviseBook, retainBook, issueBook, emitTo, emitBook, removeBook, markBook, replayBook, onBook, runBook}
 use Rattle.rules.specs.Steps.Entry.{revised}
 use Rattle.rules.specs.Steps.Notes.{isId, unqueued, noted, forgotten, replayedWith}

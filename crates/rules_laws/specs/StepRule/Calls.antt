@@ -28,13 +28,16 @@ use Rattle.book.specs.declared.SubmissionChainTerminality.the-variants.{Landed}
 use Rattle.book.specs.Model.{Book}
 use Rattle.book.specs.Sound.{readableBundle, soundDelivery, idOf}
 use Rattle.rules.specs.Books.{callBook, answerBook}
-use Rattle.rules.specs.Call.{FeeSource, Call, Cause, Value}
+use Rattle.book_answers.specs.declared.DrainFailureCause.{DrainFailureCause}
+use Rattle.book_answers.specs.declared.DrainedSubmission.{DrainedSubmission}
+use Rattle.book_answers.specs.declared.SubmissionFeeSource.{SubmissionFeeSource}
+use Rattle.rules.specs.Call.{Call, Value}
 use Rattle.rules.specs.Calls.{rules}
 use Rattle.rules.specs.CoinLists.{encodeCoins}
 use Rattle.rules.specs.Doors.{idsOk}
 use Rattle.rules.specs.Keyed.{pick}
 use Rattle.rules.specs.Parts.{currentFingerprint, feeUnresolved, activeEntry, intentOf, validate}
-use Rattle.rules.specs.Rule.{done, DrainedSubmission, reopen, revise, replay, Rule, undo, stop, look, act, turn, _>>=_, _>>_, step, Outcome, ended, undone, stopped, logged, guarded, grows, full, run, Answer, answer, refused, answered, left}
+use Rattle.rules.specs.Rule.{done, reopen, revise, replay, Rule, undo, stop, look, act, turn, _>>=_, _>>_, step, Outcome, ended, undone, stopped, logged, guarded, grows, full, run, Answer, answer, refused, answered, left}
 use Rattle.rules.specs.Steps.{onBook, runBook}
 use Rattle.rules.specs.Steps.Slots.{resolved}
 use Rattle.rules.specs.Calls.AbandonAttempt.{abandonLive, abandonAttempt}
@@ -46,7 +49,7 @@ use Rattle.rules.specs.Calls.CollectRollbackReplayIds.{markEach, offerAgain, co
 use Rattle.rules.specs.Calls.Common.{Found, live, aside, gone, neverIssued, find, byLive, withLive, withdraw, withdrawEach, writing}
 use Rattle.rules.specs.Calls.Drain.{isOneOf, oneCandidate, candidates, drain}
 use Rattle.rules.specs.Calls.FeeIntentForAttempt.{feeIntentForAttempt}
-use Rattle.rules.specs.Calls.FinalizeAttempt.{isJoined, isNoSource, finalizeAs, finalizeWith, finalizeLive, soundSource, finalizeAttempt}
+use Rattle.rules.specs.Calls.FinalizeAttempt.{isJoined, isNotRequested, finalizeAs, finalizeWith, finalizeLive, soundSource, finalizeAttempt}
 use Rattle.rules.specs.Calls.Offer.{isQueued, deliverable, offerTo, offer, goalFor}
 use Rattle.rules.specs.Calls.Plan.{Memory, blank, withEmitted, last64, missOf, wanted}
 use Rattle.rules.specs.Calls.Queue.{queue}
@@ -158,7 +161,7 @@ module _ (P : Bool → Memory → Type 0) (h : (g : Bool) (a : Memory) → P g a
   unfolding met
   paced-met c t a = (refl, paced-cond P false (wanted (c .goal) (t .entry)) _ _ (paced-deliver false (idOf t) (c .goal) a) (h false a))
 
-  paced-known : (n : ℕ) (c : PendingDelivery) (f : List ℕ) (t : SubmittedTx) (a : Memory) (m : Option Cause) → PacedTo P false (knownBy n c f t a m)
+  paced-known : (n : ℕ) (c : PendingDelivery) (f : List ℕ) (t : SubmittedTx) (a : Memory) (m : Option DrainFailureCause) → PacedTo P false (knownBy n c f t a m)
   paced-known n c f t a none = paced-met c t a
   paced-known n c f t a (some m) = paced-bind P false (withdraw (idOf t)) _ (paced-withdraw _ (λ g. h g _) (idOf t))
 
@@ -200,21 +203,21 @@ unfolding drain
 paced-drain = λ b. (refl, paced-candidates 0 (b .pending) blank)
 
 -- ---- attempts
-paced-finalizeWith : (source : FeeSource) (j : SpendBundle) (t : SubmittedTx) → Paced (finalizeWith source j t)
+paced-finalizeWith : (source : SubmissionFeeSource) (j : SpendBundle) (t : SubmittedTx) → Paced (finalizeWith source j t)
 unfolding finalizeWith finalizeAs
 paced-finalizeWith source j t =
     paced-cond Settled false (feeUnresolved (t .entry)) _ _
     (paced-cond Settled false (isJoined source) _ _ (refl, (refl, refl)) (refl, refl))
-    (paced-cond Settled false (isNoSource source) _ _ (refl, refl) (refl, refl))
+    (paced-cond Settled false (isNotRequested source) _ _ (refl, refl) (refl, refl))
 
-paced-finalizeLive : (source : FeeSource) (j : SpendBundle) (t : SubmittedTx) → Paced (finalizeLive source j t)
+paced-finalizeLive : (source : SubmissionFeeSource) (j : SpendBundle) (t : SubmittedTx) → Paced (finalizeLive source j t)
 unfolding finalizeLive
 paced-finalizeLive source j t =
     paced-cond Settled false (t .slots .«active_attempt» .attempt .«finalized_variant_fingerprint» .present) _ _ (refl, refl)
     (paced-cond Settled false (not (validate (t .entry))) _ _ (refl, refl)
     (paced-cond Settled false (eqs (currentFingerprint (t .entry)) (t .slots .«active_attempt» .attempt .«drained_variant_fingerprint»)) _ _ (paced-finalizeWith source j t) (refl, refl)))
 
-paced-finalize : (t : ℕ) (source : FeeSource) (j : SpendBundle) → Paced (finalizeAttempt t source j)
+paced-finalize : (t : ℕ) (source : SubmissionFeeSource) (j : SpendBundle) → Paced (finalizeAttempt t source j)
 unfolding finalizeAttempt
 paced-finalize t source j = paced-cond Settled false (soundSource source j) _ _ (paced-live t _ _ (paced-finalizeLive source j)) (refl, refl)
 

@@ -5,7 +5,8 @@ use mathlib.Core.Path.{_≡_, refl, ap, ap₂, _∙_}
 use borrow.Author.Tests.{le-ltb}
 use Rattle.base_lists.specs.Lists.{anyb}
 use Rattle.book.specs.Model.{Book}
-use Rattle.rules.specs.Rule.{done, DrainedSubmission, Step, Rule, undo, stop, look, act, turn, Outcome, logged, guarded, grows, full, run}
+use Rattle.book_answers.specs.declared.DrainedSubmission.{DrainedSubmission}
+use Rattle.rules.specs.Rule.{done, Step, Rule, undo, stop, look, act, turn, Outcome, logged, guarded, grows, full, run}
 use Rattle.rules.specs.Steps.{onBook, runBook}
 use Rattle.rules_laws.specs.Sound.Facts.{Short}
 use Rattle.rules_laws.specs.Sound.Run.{short-step}

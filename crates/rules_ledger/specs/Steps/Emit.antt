@@ -19,7 +19,7 @@ use Rattle.rules.specs.Steps.{issueBook, emitTo, emitBook}
 use Rattle.rules.specs.Steps.Slots.{present, issueAttempt, taken, slotsIssued, tokenIn, handed}
 use Rattle.rules_ledger.specs.Law.{mapEffect, Law}
 use Rattle.rules_ledger.specs.Ledger.{live, aside, Fate, displaced, struck, Row, Ledger, entryId, rowId, rowToken, withFate}
-use Rattle.rules_ledger.specs.Tidy.{isOpen, Displaced, Fits, Place, issueOf, history, Tidy, lastTo, grown, Chained, places-beside}
+use Rattle.rules_ledger.specs.Tidy.{isOpen, Displaced, Fits, Place, issueOf, history, Tidy, lastTo, tokenOf, grown, Chained, places-beside}
 use Rattle.rules_ledger.specs.View.{slotsBy, slotsOf, hold, bookOf, hold-change}
 
 abbrev pub displacedBy : Fate → Fate
@@ -98,13 +98,13 @@ displaced-all e (r ∷ rs) h = (by (r .fate) (h .0), keep rs (h .1))
     by aside q = refl
     by live q = refl
 
-last-to : (i : ℕ) (rows : List Row) → tokenIn (lastOf (pick rowId i rows)) ≡ lastTo i (map issueOf rows)
+last-to : (i : ℕ) (rows : List Row) → tokenOf (tokenIn (lastOf (pick rowId i rows))) ≡ lastTo i (map issueOf rows)
 unfolding pick lastTo noAttempt
 last-to i [] = refl
 last-to i (r ∷ rows) = go (eqb (r .id) i) (last-to i rows)
   where
-    go : (t : Bool) → tokenIn (lastOf (pick rowId i rows)) ≡ lastTo i (map issueOf rows)
-        → tokenIn (lastOf (cond t (r ∷ pick rowId i rows) (pick rowId i rows))) ≡ cond t (some (rowToken r)) (lastTo i (map issueOf rows))
+    go : (t : Bool) → tokenOf (tokenIn (lastOf (pick rowId i rows))) ≡ lastTo i (map issueOf rows)
+        → tokenOf (tokenIn (lastOf (cond t (r ∷ pick rowId i rows) (pick rowId i rows)))) ≡ cond t (some (rowToken r)) (lastTo i (map issueOf rows))
     go true ih = refl
     go false ih = ih
 

@@ -1,7 +1,7 @@
 -- The loop keeps: the first `i` failures are appended, within 59 bytes each; the capped count takes the same as `n`.
 use Rattle.codec_forms.specs.Wire.{encMany}
 use Rattle.codec_append.specs.Fits.{FitsWithin, within-start, within-more, within-done}
-use Rattle.codec_answers.specs.Drain.{encodeFailed}
+use Rattle.codec_answers.specs.Drain.{encodeFailure}
 use borrow.Author.Needs.{needs}
 use native.Mathlib.Omega.{arith}
 use mathlib.Core.Path.{_≡_, refl}
@@ -11,7 +11,7 @@ use Rattle.codec_answers.proofs.drained.append_each_failure.Statement.{
 use Rattle.codec_answers.proofs.drained.append_each_failure.Tie as tie
 
 abbrev Inv-loop : tie.InvT-loop
-Inv-loop out₀ at n a k e₀ i₀ out e i = FitsWithin (i * 59) (encMany encodeFailed (take i a)) at out₀ out e × (i ≤ k) × (k ≤ 16) × (length out ≡ length out₀)
+Inv-loop out₀ at n a k e₀ i₀ out e i = FitsWithin (i * 59) (encMany encodeFailure (take i a)) at out₀ out e × (i ≤ k) × (k ≤ 16) × (length out ≡ length out₀)
 
 abbrev μ-loop : tie.MeasureT-loop
 μ-loop out₀ at n a k e₀ i₀ out e i = k - i
@@ -20,7 +20,7 @@ at-most-requires : tie.Need-at-most-requires Inv-loop μ-loop
 at-most-requires c κs = search needs
 
 loop-holds : tie.Need-loop-holds Inv-loop μ-loop
-loop-holds c = (within-start 59 encodeFailed (c .before .before .args .t3) (c .before .before .args .at) (c .before .before .args .out .now), omega arith, omega (arith, c .at-most .ensures), refl)
+loop-holds c = (within-start 59 encodeFailure (c .before .before .args .t3) (c .before .before .args .at) (c .before .before .args .out .now), omega arith, omega (arith, c .at-most .ensures), refl)
 
 mul-f : tie.Need-mul-f Inv-loop μ-loop
 mul-f c = search needs
@@ -38,13 +38,13 @@ loop-less : tie.Need-loop-less Inv-loop μ-loop
 loop-less c = search needs
 
 loop-again : tie.Need-loop-again Inv-loop μ-loop
-loop-again c = let l : length (c .before .before .before .before .before .before .before .before .before .args .t3) ≡ 16 = search needs in (within-more 59 _ encodeFailed (c .before .before .before .before .before .before .before .before .before .args .t3) (c .before .before .before .before .before .before .loop .i) (omega (arith, l, c .before .before .before .before .before .before .loop .inv .2)) (c .before .before .before .before .before .before .loop .inv .0) (c .before .before .append-drain-failure .ensures), omega arith, c .before .before .before .before .before .before .loop .inv .2, search needs)
+loop-again c = let l : length (c .before .before .before .before .before .before .before .before .before .args .t3) ≡ 16 = search needs in (within-more 59 _ encodeFailure (c .before .before .before .before .before .before .before .before .before .args .t3) (c .before .before .before .before .before .before .loop .i) (omega (arith, l, c .before .before .before .before .before .before .loop .inv .2)) (c .before .before .before .before .before .before .loop .inv .0) (c .before .before .append-drain-failure .ensures), omega arith, c .before .before .before .before .before .before .loop .inv .2, search needs)
 
 same-length : tie.Need-same-length Inv-loop μ-loop
 same-length c = c .before .loop .inv .3
 
 returns : tie.Need-returns Inv-loop μ-loop
-returns c = let l : length (c .before .before .before .before .args .t3) ≡ 16 = search needs in within-done 59 encodeFailed (c .before .before .before .before .args .t3) (c .before .before .before .before .args .n) (c .before .before .at-most .result) (c .before .loop .i) l (c .before .before .at-most .ensures) (c .before .loop .inv .1) (c .loop-test .left) (c .before .loop .inv .0)
+returns c = let l : length (c .before .before .before .before .args .t3) ≡ 16 = search needs in within-done 59 encodeFailure (c .before .before .before .before .args .t3) (c .before .before .before .before .args .n) (c .before .before .at-most .result) (c .before .loop .i) l (c .before .before .at-most .ensures) (c .before .loop .inv .1) (c .loop-test .left) (c .before .loop .inv .0)
 
 pub append-each-failure-spec : {M : Type 1} → statement M
 append-each-failure-spec =

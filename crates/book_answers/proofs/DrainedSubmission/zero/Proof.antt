@@ -1,8 +1,8 @@
 -- Every field is written as `zeroDrained` has it, and bundle and fee intent are zero by their own `zero`.
-use Rattle.part_submitted.specs.Drained.{zeroDrained}
+use Rattle.book_answers.specs.Zero.{zeroDrained}
 use borrow.Author.Needs.{needs}
-use Rattle.part_submitted.proofs.DrainedSubmission.zero.Statement.{statement}
-use Rattle.part_submitted.proofs.DrainedSubmission.zero.Tie as tie
+use Rattle.book_answers.proofs.DrainedSubmission.zero.Statement.{statement}
+use Rattle.book_answers.proofs.DrainedSubmission.zero.Tie as tie
 
 returns : tie.Need-returns
 unfolding zeroDrained
