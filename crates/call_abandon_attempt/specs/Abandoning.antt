@@ -8,7 +8,7 @@ use Rattle.book.specs.Sound.{idOf, soundb}
 use Rattle.book.specs.declared.SubmittedTx.{SubmittedTx}
 use Rattle.book.specs.declared.BookData.{BookData}
 use Rattle.book_answers.specs.declared.SubmissionAttemptStatus.the-variants.{Applied}
-use Rattle.rules.specs.Call.{statusIs, Value}
+use Rattle.book_answers.specs.declared.SubmissionAttemptStatus.{SubmissionAttemptStatus}
 use Rattle.rules.specs.Rule.{Rule, done, act, turn, note, remove, retire, ended, undone, full, run}
 use Rattle.rules.specs.Steps.{noteBook, removeBook, onBook, runBook}
 use Rattle.rules.specs.Calls.Common.{withdraw}
@@ -43,8 +43,8 @@ module _ (b : BookData) (sound : soundb b ≡ true) (i : ℕ) {rest : BookData} 
     limit = full-retire (removeBook i (view b)) (rest-holds .sound .fits) i ∙ sym (ap (λ (y : Retired). y .full) retired-is)
 
     -- the rules behind the removal
-    ending : Rule Value
-    ending = turn (done (statusIs Applied))
+    ending : Rule SubmissionAttemptStatus
+    ending = turn (done Applied)
 
     removing : runBook (act (remove i) (act (note (retire i)) ending)) (view b) ≡ runBook (act (note (retire i)) ending) (removeBook i (view b))
     unfolding onBook
@@ -54,7 +54,7 @@ module _ (b : BookData) (sound : soundb b ≡ true) (i : ℕ) {rest : BookData} 
     unfolding onBook
     full-run e = removing ∙ act-full (note (retire i)) ending (removeBook i (view b)) (limit ∙ e)
 
-    done-run : x .full ≡ false → runBook (act (remove i) (act (note (retire i)) ending)) (view b) ≡ ended (noteBook (retire i) (removeBook i (view b))) [] (statusIs Applied)
+    done-run : x .full ≡ false → runBook (act (remove i) (act (note (retire i)) ending)) (view b) ≡ ended (noteBook (retire i) (removeBook i (view b))) [] Applied
     unfolding onBook run ending
     done-run e = removing ∙ act-silent (note (retire i)) ending (removeBook i (view b)) (limit ∙ e) refl
 

@@ -10,7 +10,7 @@ use Rattle.book.specs.Sound.{idOf, soundb}
 use Rattle.book.specs.declared.SubmittedTx.{SubmittedTx}
 use Rattle.book.specs.declared.BookData.{BookData}
 use Rattle.book_answers.specs.declared.SubmissionAttemptStatus.the-variants.{Applied}
-use Rattle.rules.specs.Call.{statusIs, Value}
+use Rattle.book_answers.specs.declared.SubmissionAttemptStatus.{SubmissionAttemptStatus}
 use Rattle.rules.specs.Parts.{currentFingerprint}
 use Rattle.rules.specs.Rule.{Rule, done, undo, acknowledge, unqueue, note, revise, setAside, _>>=_, _>>_, step, Outcome, ended, undone, run}
 use Rattle.rules.specs.Steps.{withEntry, withSlots, noteBook, onBook, runBook}
@@ -37,12 +37,12 @@ abbrev pub acknowledgedAside : List ℕ → SubmittedTx → SubmittedTx
 acknowledgedAside f s = withSlots slotsAside (withEntry (revised (acknowledge f)) s)
 
 -- the rules behind the two tests
-abbrev acknowledging : SubmittedTx → Rule Value
+abbrev acknowledging : SubmittedTx → Rule SubmissionAttemptStatus
 acknowledging s = do
   step (revise (idOf s) (acknowledge (final s)))
   step (setAside (idOf s))
   step (note (unqueue (idOf s)))
-  done (statusIs Applied)
+  done Applied
 
 module _ (s : SubmittedTx) (m : Book) where
   unfinalised-run : finalised s ≡ false → undone 6 ≡ runBook (acknowledgeLive s) m
@@ -61,10 +61,10 @@ module _ (s : SubmittedTx) (m : Book) where
 
 module _ (b : BookData) (sound : soundb b ≡ true) (k : ℕ) (within : k < length (view b .submitted)) where
   -- revised and set aside is stored once
-  stored-run : ended (noteBook (unqueue (idOf (at (view b) k))) (storedAt k (acknowledgedAside (final (at (view b) k)) (at (view b) k)) (view b))) [] (statusIs Applied)
+  stored-run : ended (noteBook (unqueue (idOf (at (view b) k))) (storedAt k (acknowledgedAside (final (at (view b) k)) (at (view b) k)) (view b))) [] Applied
       ≡ runBook (acknowledging (at (view b) k)) (view b)
   unfolding run onBook
-  stored-run = ap {B = Outcome Book Value} (λ (n : Book). ended (noteBook (unqueue (idOf (at (view b) k))) n) [] (statusIs Applied))
+  stored-run = ap {B = Outcome Book SubmissionAttemptStatus} (λ (n : Book). ended (noteBook (unqueue (idOf (at (view b) k))) n) [] Applied)
       (sym (revise-mark (view b) k (holds-lists (holds-sound b sound) .ids) within (acknowledge (final (at (view b) k))) slotsAside))
 
   module _ {s : SubmittedTx} (read : s ≡ at (view b) k) where
@@ -76,9 +76,9 @@ module _ (b : BookData) (sound : soundb b ≡ true) (k : ℕ) (within : k < leng
     acknowledge-other e q = ap (statusReply b) (of-read acknowledgeLive (view b) read (other-run s (view b) e q))
 
     acknowledge-run : finalised s ≡ true → eqs (currentFingerprint (s .entry)) (final s) ≡ true
-        → ended (noteBook (unqueue (idOf s)) (storedAt k (acknowledgedAside (final s) s) (view b))) [] (statusIs Applied) ≡ runBook (acknowledgeLive (at (view b) k)) (view b)
+        → ended (noteBook (unqueue (idOf s)) (storedAt k (acknowledgedAside (final s) s) (view b))) [] Applied ≡ runBook (acknowledgeLive (at (view b) k)) (view b)
     acknowledge-run e q =
-        ap {B = Outcome Book Value} (λ (y : SubmittedTx). ended (noteBook (unqueue (idOf y)) (storedAt k (acknowledgedAside (final y) y) (view b))) [] (statusIs Applied)) read
+        ap {B = Outcome Book SubmissionAttemptStatus} (λ (y : SubmittedTx). ended (noteBook (unqueue (idOf y)) (storedAt k (acknowledgedAside (final y) y) (view b))) [] Applied) read
         ∙ stored-run ∙ ap (λ (y : SubmittedTx). runBook (acknowledging y) (view b)) (sym read)
         ∙ of-read acknowledgeLive (view b) read (sym (tested s (view b) e q))
 

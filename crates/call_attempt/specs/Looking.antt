@@ -8,12 +8,10 @@ use Rattle.book.specs.Model.{Book, view}
 use Rattle.book.specs.declared.BookData.{BookData}
 use Rattle.book.specs.declared.DeliveryAttempt.{DeliveryAttempt}
 use Rattle.book.specs.declared.OptionalAttempt.{OptionalAttempt}
-use Rattle.rules.specs.Call.{attemptIs, Value}
 use Rattle.rules.specs.Calls.Attempt.{attempt, attemptBy}
 use Rattle.rules.specs.Rule.{Outcome, ended, run}
 use Rattle.rules.specs.Steps.{runBook}
-use Rattle.part_replies.specs.Reply.{attemptReply}
-use Rattle.part_replies.specs.Values as values
+use Rattle.part_replies.specs.Reply.{attemptIn, attemptReply}
 use Rattle.part_replies.specs.declared.AttemptReply.{AttemptReply}
 use Rattle.part_replies.specs.declared.CallAnswer.the-variants.{Done}
 use Rattle.part_lookup.specs.Normal.{Normal}
@@ -26,9 +24,9 @@ use Rattle.part_lookup.specs.LookupLaws.{foundAt}
 use Rattle.part_attempt_answers.specs.Live.{livePlace, find-by, at}
 
 module _ (t : ℕ) (m : Book) {p : AttemptPlace} (here : p ≡ attemptPlace t m) {q : Place} (told : q ≡ livePlace p) where
-  pub attempt-live : {k : ℕ} → q ≡ At k → ended m [] (attemptIs (some (at m k .slots .«active_attempt» .attempt))) ≡ runBook (attempt t) m
+  pub attempt-live : {k : ℕ} → q ≡ At k → ended m [] (some (at m k .slots .«active_attempt» .attempt)) ≡ runBook (attempt t) m
   unfolding attempt run
-  attempt-live {k} e = ap {B = Outcome Book Value} (λ (x : Option DeliveryAttempt). ended m [] (attemptIs x)) (go p (sym told ∙ e) ∙ ap attemptBy (sym (find-by t m here)))
+  attempt-live {k} e = ap {B = Outcome Book (Option DeliveryAttempt)} (λ (x : Option DeliveryAttempt). ended m [] x) (go p (sym told ∙ e) ∙ ap attemptBy (sym (find-by t m here)))
     where
       go : (x : AttemptPlace) → livePlace x ≡ At k → some (at m k .slots .«active_attempt» .attempt) ≡ attemptBy (foundAt m x)
       go (Live j) z = let y : k ≡ j = cc in ap (λ (i : ℕ). some (at m i .slots .«active_attempt» .attempt)) y
@@ -36,9 +34,9 @@ module _ (t : ℕ) (m : Book) {p : AttemptPlace} (here : p ≡ attemptPlace t m)
       go Gone z = let y : _≡_ {A = ℕ} 0 1 = cc in absurd (omega arith)
       go NeverIssued z = let y : _≡_ {A = ℕ} 0 1 = cc in absurd (omega arith)
 
-  pub attempt-none : q ≡ Nothing → ended m [] (attemptIs none) ≡ runBook (attempt t) m
+  pub attempt-none : q ≡ Nothing → ended m [] none ≡ runBook (attempt t) m
   unfolding attempt run
-  attempt-none e = ap {B = Outcome Book Value} (λ (x : Option DeliveryAttempt). ended m [] (attemptIs x)) (go p (sym told ∙ e) ∙ ap attemptBy (sym (find-by t m here)))
+  attempt-none e = ap {B = Outcome Book (Option DeliveryAttempt)} (λ (x : Option DeliveryAttempt). ended m [] x) (go p (sym told ∙ e) ∙ ap attemptBy (sym (find-by t m here)))
     where
       go : (x : AttemptPlace) → livePlace x ≡ Nothing → none ≡ attemptBy (foundAt m x)
       go (Live j) z = let y : _≡_ {A = ℕ} 0 1 = cc in absurd (omega arith)
@@ -47,9 +45,9 @@ module _ (t : ℕ) (m : Book) {p : AttemptPlace} (here : p ≡ attemptPlace t m)
       go NeverIssued z = refl
 
 -- an attempt, or none, of a book that stays
-pub attempt-ended : (b : BookData) → Normal b → {a : OptionalAttempt} (v : Option DeliveryAttempt) {o : Outcome Book Value} → a ≡ values.attemptBy (attemptIs v)
-    → ended (view b) [] (attemptIs v) ≡ o → record { answer = Done; attempt = a; book = b } ≡ attemptReply b o
+pub attempt-ended : (b : BookData) → Normal b → {a : OptionalAttempt} (v : Option DeliveryAttempt) {o : Outcome Book (Option DeliveryAttempt)} → a ≡ attemptIn v
+    → ended (view b) [] v ≡ o → record { answer = Done; attempt = a; book = b } ≡ attemptReply b o
 attempt-ended b n v e q =
     ap {B = AttemptReply} (λ (x : OptionalAttempt). record { answer = Done; attempt = x; book = b }) e
-    ∙ ap {B = AttemptReply} (λ (x : BookData). record { answer = Done; attempt = values.attemptBy (attemptIs v); book = x }) (n .held)
+    ∙ ap {B = AttemptReply} (λ (x : BookData). record { answer = Done; attempt = attemptIn v; book = x }) (n .held)
     ∙ ap (attemptReply b) q

@@ -8,7 +8,6 @@ use Rattle.book.specs.declared.Height.{Height}
 use Rattle.book.specs.declared.OptionalHeight.the-variants.{At}
 use Rattle.book.specs.Model.{view, back}
 use Rattle.book.specs.Sound.{soundb}
-use Rattle.rules.specs.Call.{flag}
 use Rattle.rules.specs.Rule.{done, note, beginEpoch, act, run}
 use Rattle.rules.specs.Steps.{onBook, runBook, noteBook}
 use Rattle.rules.specs.Steps.Notes.{noted}
@@ -49,6 +48,6 @@ module _ (b : BookData) where
         ap {B = FlagReply} (λ (o : BookData). record { answer = Done; flag = x .started; book = o }) f
         ∙ ap replyOf e ∙ go (isAt (b .«replay_epoch» .«rollback_height») (h .0))
       where
-        go : (t : Bool) → replyOf (by h t) ≡ flagReply b (runBook (cond t (done (flag false)) (act (note (beginEpoch h)) (done (flag true)))) (view b))
+        go : (t : Bool) → replyOf (by h t) ≡ flagReply b (runBook (cond t (done false) (act (note (beginEpoch h)) (done true))) (view b))
         go true = refl
         go false = refl

@@ -16,7 +16,6 @@ use Rattle.book.specs.declared.BookData.{BookData}
 use Rattle.book.specs.declared.Ids16.{Ids16}
 use Rattle.book.specs.declared.Ids64.{Ids64}
 use Rattle.book.specs.declared.SubmittedTx.{SubmittedTx}
-use Rattle.rules.specs.Call.{Value, idsAre}
 use Rattle.rules.specs.Rule.{done, undo, look, Outcome, ended, undone, run}
 use Rattle.rules.specs.Steps.{runBook}
 use Rattle.rules.specs.Calls.CausallyRolledBackIds.{rolledBack, causallyRolledBackIds}
@@ -53,10 +52,10 @@ module _ (absent inputs : List ℕ) where
   abbrev doors : Bool
   doors = coinListb absent && idListb inputs
 
-  abbrev answer : Book → Value
-  answer m = idsAre (rising (rolledBackIds (coinsIn absent) (idsIn inputs) m))
+  abbrev answer : Book → List ℕ
+  answer m = rising (rolledBackIds (coinsIn absent) (idsIn inputs) m)
 
-  abbrev by-doors : Book → Bool → Outcome Book Value
+  abbrev by-doors : Book → Bool → Outcome Book (List ℕ)
   by-doors m t = runBook (cond t (look (λ b. done (answer b))) (undo 2)) m
 
   pub lists-told : {c l t : Bool} → c ≡ coinListb absent → l ≡ idListb inputs → (c && l) ≡ t → doors ≡ t

@@ -14,7 +14,6 @@ use Rattle.book.specs.SoundLaws.{Fits}
 use Rattle.book.specs.declared.BookData.{BookData}
 use Rattle.book.specs.declared.ReplayEpoch.{ReplayEpoch}
 use Rattle.book.specs.declared.OptionalHeight.the-variants.{NoHeight}
-use Rattle.rules.specs.Call.{Value, noValue}
 use Rattle.rules.specs.Rule.{Rule, done, act, note, unqueueAll, endEpoch, _>>_, undone, run}
 use Rattle.rules.specs.Steps.{onBook, runBook, noteBook}
 use Rattle.rules.specs.Steps.Notes.{noted}
@@ -38,8 +37,8 @@ pub all-fit : (m : Book) → Fits m → length (rising (map idOf (m .submitted))
 all-fit m f = let l = rising-length (map idOf (m .submitted)) in let k = ids-fit m f in omega arith
 
 module _ (b : BookData) {gone : Ids16} (g : gone ≡ ids16 (rising (map idOf (view b .submitted)))) {w : Withdrawn} (h : Withdrawal b (list16 gone) w) where
-  abbrev clearing : Rule Value
-  clearing = act (note unqueueAll) (act (note endEpoch) (done noValue))
+  abbrev clearing : Rule (Unit {0})
+  clearing = act (note unqueueAll) (act (note endEpoch) (done tt))
 
   clear-run : runBook clearLocalArtifacts (view b) ≡ runBook (withdrawEach (rising (map idOf (view b .submitted))) >> clearing) (view b)
   unfolding clearLocalArtifacts run

@@ -15,7 +15,6 @@ use Rattle.book.specs.declared.Ids16.{Ids16}
 use Rattle.book.specs.declared.SubmissionDeliveryGoal.the-variants.{EnsureBroadcast}
 use Rattle.book.specs.Model.{Book, view, list16, ids16}
 use Rattle.book.specs.Sound.{idOf, soundb}
-use Rattle.rules.specs.Call.{Value, noValue}
 use Rattle.rules.specs.Doors.{idsOk}
 use Rattle.rules.specs.Rule.{Rule, done, undo, book, _>>=_, _>>_, undone, run}
 use Rattle.rules.specs.Steps.{runBook}
@@ -52,7 +51,7 @@ marks-are m (i ∷ is) = go (elemb i (m .replayed)) (marks-are m is)
     go true ih = ih
     go false ih = ap (λ (r : Rule (Unit {0})). markOne i >> r) ih
 
-pub offer-each : Each offerAgain (λ i. offer i Rollback EnsureBroadcast) noValue
+pub offer-each : Each offerAgain (λ i. offer i Rollback EnsureBroadcast) tt
 unfolding offerAgain
 offer-each = record { none = refl; more = λ i is m. bind-turn (offer i Rollback EnsureBroadcast) (offerAgain is) m }
 
@@ -81,7 +80,7 @@ module _ (b : BookData) (h : soundb b ≡ true) where
 
 -- ---- the call
 module _ (is : List ℕ) (m : Book) where
-  abbrev rounds : Rule Value
+  abbrev rounds : Rule (Unit {0})
   rounds = book >>= (λ b. markEach b (namedIn is b) >>= (λ _. offerAgain (namedIn is b)))
 
   pub collect-long : 64 < length is → runBook (collectRollbackReplayIds is) m ≡ undone 2
@@ -95,9 +94,9 @@ module _ (is : List ℕ) (m : Book) where
   -- by the cells of the named and of the fresh ids, the book after the marks, and the answer of the offers
   pub collect-taken : length is ≤ 64 → {named : Ids16} → named ≡ ids16 (namedIn is m) → {fresh : Ids16} → fresh ≡ ids16 (withoutIds (m .replayed) (list16 named))
       → {q : BookData} → Reached tt q (runBook (markAll (list16 fresh)) m)
-      → (t : Bool) (r : BookData) → Ends noValue t r (runBook (offerAgain (list16 named)) (view q)) → Ends noValue t r (runBook (collectRollbackReplayIds is) m)
+      → (t : Bool) (r : BookData) → Ends tt t r (runBook (offerAgain (list16 named)) (view q)) → Ends tt t r (runBook (collectRollbackReplayIds is) m)
   collect-taken l {named} e {fresh} f {q} h t r k =
-      ends-as noValue r (runBook (offerAgain (list16 named)) (view q)) t
+      ends-as tt r (runBook (offerAgain (list16 named)) (view q)) t
       (collect-within l
       ∙ ap (λ (ns : List ℕ). runBook (markEach m ns >>= (λ _. offerAgain ns)) m) (sym (list-is (namedIn is m) e))
       ∙ ap (λ (w : Rule (Unit {0})). runBook (w >>= (λ _. offerAgain (list16 named))) m) (marks-are m (list16 named) ∙ ap markAll (sym (list-is (withoutIds (m .replayed) (list16 named)) f)))

@@ -25,7 +25,6 @@ ghost use mathlib.Core.Path.{_≡_};
 ghost use Prim.Native.Nat.{_≤_};
 ghost use Rattle.book.specs.Model.{view, back, list16, ids16};
 ghost use Rattle.book.specs.Sound.{soundb};
-ghost use Rattle.rules.specs.Call.{noValue};
 ghost use Rattle.rules.specs.Rule.{reopen as opened};
 ghost use Rattle.rules.specs.Steps.{reviseBook, replayBook, runBook};
 ghost use Rattle.rules.specs.Calls.CollectRollbackReplayIds.{offerAgain, collectRollbackReplayIds};
@@ -90,7 +89,7 @@ fn mark_each(b: BookData, fresh: Ids16) -> BookData
 
 fn offer_again(b: BookData, named: Ids16) -> Offered
     requires { ⌜ (soundb b ≡ true) × (named .count ≤ 16) ⌝ }
-    ensures { λ r. ⌜ Ends noValue (r .full) (r .book) (runBook (offerAgain (list16 named)) (view b)) ⌝ }
+    ensures { λ r. ⌜ Ends tt (r .full) (r .book) (runBook (offerAgain (list16 named)) (view b)) ⌝ }
 {
     let n = named.count;
     let items = named.items;

@@ -17,7 +17,7 @@ use Rattle.book.specs.Sound.{soundDelivery, soundb}
 use Rattle.book.specs.SoundLaws.{sound-lists, Counted}
 use Rattle.book.specs.declared.BookData.{BookData}
 use Rattle.book.specs.declared.PendingDelivery.{PendingDelivery}
-use Rattle.rules.specs.Call.{Value, failures}
+use Rattle.book_answers.specs.declared.SubmissionDrainFailure.{SubmissionDrainFailure}
 use Rattle.book_answers.specs.declared.DrainedSubmission.{DrainedSubmission}
 use Rattle.rules.specs.Rule.{Rule, turn, note, unqueueAll, Outcome, ended, undone, logged, run, left, followed, run-bind, logged-logged}
 use Rattle.rules.specs.Steps.{onBook, noteBook, runBook}
@@ -164,7 +164,7 @@ module _ {b book : BookData} {answers : DrainAnswers} {i : ℕ} (v : Running b b
   pub store-below : {k : PlanAction} → p .answer ≡ Planned k → isStoring k ≡ true → (p .place .index < 16) × (length (book .submitted) ≡ 16)
   store-below {k} q e = (stored-fits p (view book) k e (planned-fits q) .below, sizes book (holds-normal (v .holds)) .submitted-long)
 
-  abbrev more : Memory → Rule Value
+  abbrev more : Memory → Rule (List SubmissionDrainFailure)
   more a = turn (candidates (suc i) (drop (i + 1) (view b .pending)) a)
 
   cut : whole b ≡ drainReply b (logged (v .xs) (followed (λ x. x) onBook more (outcomeBy (p .answer) p (v .a) (v .m))))
@@ -172,7 +172,7 @@ module _ {b book : BookData} {answers : DrainAnswers} {i : ℕ} (v : Running b b
   cut =
       v .rest
       ∙ ap (λ (l : List PendingDelivery). drainReply b (logged (v .xs) (runBook (candidates i l (v .a)) (v .m)))) step
-      ∙ ap (λ (o : Outcome Book Value). drainReply b (logged (v .xs) o)) (run-bind (λ x. x) onBook (oneCandidate i c (v .a)) more (v .m))
+      ∙ ap (λ (o : Outcome Book (List SubmissionDrainFailure)). drainReply b (logged (v .xs) o)) (run-bind (λ x. x) onBook (oneCandidate i c (v .a)) more (v .m))
       ∙ ap (λ (o : Outcome Book Memory). drainReply b (logged (v .xs) (followed (λ x. x) onBook more o))) (carries .outcome)
 
   -- the book left is sound
@@ -217,7 +217,7 @@ unfolding candidates run
 ends {b} {book} {answers} {i} v e =
     ap (λ (d : DrainAnswers). finishedWith book d) (v .held)
     ∙ ap (λ (x : BookData). finishedWith x (answersOf (v .xs) (v .a))) (v .holds .cells)
-    ∙ ap (λ (ys : List DrainedSubmission). drainReply b (ended (v .m) ys (failures (v .a .failed)))) (sym (append-nil (v .xs)))
+    ∙ ap (λ (ys : List DrainedSubmission). drainReply b (ended (v .m) ys (v .a .failed))) (sym (append-nil (v .xs)))
     ∙ sym (v .rest ∙ ap (λ (l : List PendingDelivery). drainReply b (logged (v .xs) (runBook (candidates i l (v .a)) (v .m)))) e)
 
 -- ---- the queue that the loop goes through

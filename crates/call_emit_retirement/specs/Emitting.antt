@@ -5,7 +5,6 @@ use Prim.Native.Nat.{ℕ}
 use Rattle.book.specs.declared.BookData.{BookData}
 use Rattle.book.specs.Model.{view}
 use Rattle.book.specs.Sound.{soundb}
-use Rattle.rules.specs.Call.{noValue}
 use Rattle.rules.specs.Rule.{done, turn, undone, run}
 use Rattle.rules.specs.Steps.{runBook}
 use Rattle.rules.specs.Calls.EmitRetirement.{emitRetirement}
@@ -20,10 +19,10 @@ use Rattle.part_sound_laws.specs.RetireLaws.{retire-book, run-full, run-retired
 module _ (b : BookData) (s : soundb b ≡ true) (i : ℕ) {x : Retired} (e : x ≡ retiring i (view b)) where
   pub emit-full : x .full ≡ true → doneReply b (undone 10) ≡ doneReply b (runBook (emitRetirement i) (view b))
   unfolding emitRetirement
-  emit-full f = ap (doneReply b) (sym (run-full i (view b) (sound-normal b s .fits) e (turn (done noValue)) f))
+  emit-full f = ap (doneReply b) (sym (run-full i (view b) (sound-normal b s .fits) e (turn (done tt)) f))
 
   pub emit-is : x .full ≡ false → record { answer = Done; book = x .book } ≡ doneReply b (runBook (emitRetirement i) (view b))
   unfolding emitRetirement run
   emit-is f =
       ap {B = DoneReply} (λ (o : BookData). record { answer = Done; book = o }) (retire-book i (view b) (sound-normal b s .fits) e f)
-      ∙ ap (doneReply b) (sym (run-retired i (view b) (sound-normal b s .fits) e (turn (done noValue)) f))
+      ∙ ap (doneReply b) (sym (run-retired i (view b) (sound-normal b s .fits) e (turn (done tt)) f))

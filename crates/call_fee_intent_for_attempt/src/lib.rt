@@ -15,7 +15,6 @@ ghost use mathlib.Core.Bool.{true};
 ghost use mathlib.Core.Path.{_≡_};
 ghost use Rattle.book.specs.Model.{view};
 ghost use Rattle.book.specs.Sound.{soundb};
-ghost use Rattle.rules.specs.Call.{feeIntentIs};
 ghost use mathlib.Core.Option.{none};
 ghost use Rattle.rules.specs.Rule.{undone};
 ghost use Rattle.rules.specs.Steps.{runBook};
@@ -37,7 +36,7 @@ fn fee_intent_refused(b: BookData, n: u8) -> FeeIntentReply
 
 fn fee_intent_inactive(b: BookData, place: AttemptPlace) -> FeeIntentReply
     requires { ⌜ Normal b ⌝ }
-    ensures { λ r. ⌜ r ≡ feeIntentReply b (inactive (view b) (feeIntentIs none) place) ⌝ }
+    ensures { λ r. ⌜ r ≡ feeIntentReply b (inactive (view b) none place) ⌝ }
 {
     let never = is_never_issued(place);
     if never {

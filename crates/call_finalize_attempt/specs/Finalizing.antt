@@ -11,7 +11,6 @@ use Rattle.book.specs.declared.SpendBundle.{SpendBundle}
 use Rattle.book.specs.declared.SubmittedEntry.{SubmittedEntry}
 use Rattle.book.specs.declared.SubmittedTx.{SubmittedTx}
 use Rattle.book_answers.specs.declared.FinalizedSubmission.{FinalizedSubmission}
-use Rattle.rules.specs.Call.{Value, finalized}
 use Rattle.rules.specs.Rule.{Rule, attach, revise, act, Outcome, ended, run}
 use Rattle.rules.specs.Steps.{withEntry, withSlots, onBook, runBook}
 use Rattle.rules.specs.Steps.Entry.{revised}
@@ -35,7 +34,7 @@ abbrev pub finalizedReply : BookData → ℕ → SubmittedTx → FinalizedSubmis
 finalizedReply b k s r = record { answer = Done; present = true; finalized = r; book = back (storedAt k (withSlots (slotsFinal (r .«variant_fingerprint»)) s) (view b)) }
 
 -- none, of a book that stays
-pub none-ended : (b : BookData) → Normal b → {r : FinalizedSubmission} {o : Outcome Book Value} → r ≡ zeroFinal → ended (view b) [] (finalized none) ≡ o
+pub none-ended : (b : BookData) → Normal b → {r : FinalizedSubmission} {o : Outcome Book (Option FinalizedSubmission)} → r ≡ zeroFinal → ended (view b) [] none ≡ o
     → record { answer = Done; present = false; finalized = r; book = b } ≡ finalizeReply b o
 none-ended b n e q =
     ap {B = FinalizeReply} (λ (x : FinalizedSubmission). record { answer = Done; present = false; finalized = x; book = b }) e
@@ -43,13 +42,13 @@ none-ended b n e q =
     ∙ ap (finalizeReply b) q
 
 -- the rules where the fee is attached
-abbrev pub attaching : SpendBundle → SubmittedTx → Rule Value
+abbrev pub attaching : SpendBundle → SubmittedTx → Rule (Option FinalizedSubmission)
 attaching j s = act (revise (idOf s) (attach j)) (finalizeAs (idOf s) (attachedFinal j (s .entry)))
 
 -- the book that is left, in the rules' terms
 module _ (b : BookData) (k : ℕ) (s : SubmittedTx) where
-  abbrev final : FinalizedSubmission → SubmittedTx → Outcome Book Value
-  final x y = ended (storedAt k (withSlots (slotsFinal (x .«variant_fingerprint»)) y) (view b)) [] (finalized (some x))
+  abbrev final : FinalizedSubmission → SubmittedTx → Outcome Book (Option FinalizedSubmission)
+  final x y = ended (storedAt k (withSlots (slotsFinal (x .«variant_fingerprint»)) y) (view b)) [] (some x)
 
   replied : {r : FinalizedSubmission} (x : FinalizedSubmission) → r ≡ x → finalizedReply b k s r ≡ finalizeReply b (final x s)
   replied x e = ap (finalizedReply b k s) e
@@ -59,7 +58,7 @@ module _ (b : BookData) (k : ℕ) (s : SubmittedTx) where
     unfolding finalizeAs run onBook
     final-run x =
         ap (final x) (h .read)
-        ∙ ap {B = Outcome Book Value} (λ (n : Book). ended n [] (finalized (some x)))
+        ∙ ap {B = Outcome Book (Option FinalizedSubmission)} (λ (n : Book). ended n [] (some x))
         (sym (mark-at (view b) (holds-lists (holds-sound b (h .sound)) .ids) (idOf s) k (h .within) (ap idOf (sym (h .read))) (slotsFinal (x .«variant_fingerprint»))))
 
     pub finalize-answer : {r : FinalizedSubmission} (x : FinalizedSubmission) → r ≡ x → finalizedReply b k s r ≡ finalizeReply b (runBook (finalizeAs (idOf s) x) (view b))
@@ -70,7 +69,7 @@ module _ (b : BookData) (k : ℕ) (s : SubmittedTx) (h : Standing b k s) (j : Sp
   attach-base : final b k s (attachedFinal j (at (view b) k .entry)) (withEntry (revised (attach j)) (at (view b) k)) ≡ runBook (attaching j (at (view b) k)) (view b)
   unfolding finalizeAs run onBook
   attach-base =
-      ap {B = Outcome Book Value} (λ (n : Book). ended n [] (finalized (some (attachedFinal j (at (view b) k .entry)))))
+      ap {B = Outcome Book (Option FinalizedSubmission)} (λ (n : Book). ended n [] (some (attachedFinal j (at (view b) k .entry))))
       (sym (revise-mark (view b) k (holds-lists (holds-sound b (h .sound)) .ids) (h .within) (attach j) (slotsFinal (attachedFinal j (at (view b) k .entry) .«variant_fingerprint»))))
 
   attach-run : final b k s (attachedFinal j (s .entry)) (withEntry (revised (attach j)) s) ≡ runBook (attaching j s) (view b)

@@ -10,7 +10,7 @@ use Rattle.book.specs.Zero.{isZeroBundle}
 use Rattle.book.specs.declared.SpendBundle.{SpendBundle}
 use Rattle.book.specs.declared.SubmittedTx.{SubmittedTx}
 use Rattle.book_answers.specs.declared.SubmissionFeeSource.{SubmissionFeeSource}
-use Rattle.rules.specs.Call.{Value, finalized}
+use Rattle.book_answers.specs.declared.FinalizedSubmission.{FinalizedSubmission}
 use Rattle.rules.specs.Parts.{currentFingerprint, feeUnresolved, validate}
 use Rattle.rules.specs.Rule.{Rule, undo, undone, run}
 use Rattle.rules.specs.Steps.{runBook}
@@ -30,15 +30,15 @@ module _ (source : SubmissionFeeSource) (j : SpendBundle) where
   unjoined-zero p e = ap (λ (x : Bool). cond x (soundBundle j) (isZeroBundle j)) (sym e ∙ p)
 
   module _ (t : ℕ) (m : Book) where
-    by-source : {x : Bool} → soundSource source j ≡ x → runBook (finalizeAttempt t source j) m ≡ runBook (cond x (withLive t (finalized none) (finalizeLive source j)) (undo 3)) m
+    by-source : {x : Bool} → soundSource source j ≡ x → runBook (finalizeAttempt t source j) m ≡ runBook (cond x (withLive t none (finalizeLive source j)) (undo 3)) m
     unfolding finalizeAttempt
-    by-source e = ap (λ (x : Bool). runBook (cond x (withLive t (finalized none) (finalizeLive source j)) (undo 3)) m) e
+    by-source e = ap (λ (x : Bool). runBook (cond x (withLive t none (finalizeLive source j)) (undo 3)) m) e
 
     pub source-unsound : soundSource source j ≡ false → undone 3 ≡ runBook (finalizeAttempt t source j) m
     unfolding run
     source-unsound e = sym (by-source e)
 
-    pub source-sound : soundSource source j ≡ true → runBook (withLive t (finalized none) (finalizeLive source j)) m ≡ runBook (finalizeAttempt t source j) m
+    pub source-sound : soundSource source j ≡ true → runBook (withLive t none (finalizeLive source j)) m ≡ runBook (finalizeAttempt t source j) m
     source-sound e = sym (by-source e)
 
 -- ---- a live token
@@ -75,10 +75,10 @@ module _ (source : SubmissionFeeSource) (j : SpendBundle) (s : SubmittedTx) (m :
       live-on r = sym (by-tests p q r)
 
   -- ---- the fee
-  abbrev unused : Rule Value
+  abbrev unused : Rule (Option FinalizedSubmission)
   unused = finalizeAs (idOf s) (unusedFee (s .slots .«active_attempt» .attempt .goal) (s .entry))
 
-  abbrev current : Rule Value
+  abbrev current : Rule (Option FinalizedSubmission)
   current = finalizeAs (idOf s) (currentFinal (s .slots .«active_attempt» .attempt .goal) (s .entry))
 
   by-fee : {o t n : Bool} → feeUnresolved (s .entry) ≡ o → isJoined source ≡ t → isNotRequested source ≡ n

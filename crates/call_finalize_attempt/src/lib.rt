@@ -34,7 +34,6 @@ ghost use lib.ListN.{length};
 ghost use Rattle.book.specs.Zero.{isEnsureBroadcast};
 ghost use Rattle.book.specs.Model.{view};
 ghost use Rattle.book.specs.Sound.{soundb, soundBundle};
-ghost use Rattle.rules.specs.Call.{finalized as finalizedIs};
 ghost use Rattle.rules.specs.Parts.{currentFingerprint, currentAcknowledged};
 ghost use Rattle.rules.specs.Rule.{undone, attach as attaches};
 ghost use Rattle.rules.specs.Steps.{withEntry, runBook};
@@ -95,7 +94,7 @@ fn finalize_refused(b: BookData, n: u8) -> FinalizeReply
 // A token that is not live: none, or refusal 4.
 fn finalize_inactive(b: BookData, place: AttemptPlace) -> FinalizeReply
     requires { ⌜ Normal b ⌝ }
-    ensures { λ r. ⌜ r ≡ finalizeReply b (inactive (view b) (finalizedIs none) place) ⌝ }
+    ensures { λ r. ⌜ r ≡ finalizeReply b (inactive (view b) none place) ⌝ }
 {
     let never = is_never_issued(place);
     if never {

@@ -9,7 +9,6 @@ use Rattle.book.specs.declared.OptionalHeight.the-variants.{NoHeight}
 use Rattle.book.specs.declared.ReplayEpoch.{ReplayEpoch}
 use Rattle.book.specs.Model.{view, back}
 use Rattle.book.specs.Sound.{soundb}
-use Rattle.rules.specs.Call.{noValue}
 use Rattle.rules.specs.Rule.{done, note, endEpoch, act, run}
 use Rattle.rules.specs.Steps.{onBook, runBook, noteBook}
 use Rattle.rules.specs.Steps.Notes.{noted}
@@ -49,6 +48,6 @@ module _ (b : BookData) where
         ap {B = DoneReply} (λ (o : BookData). record { answer = Done; book = o }) f
         ∙ ap replyOf e ∙ go (isBefore (b .«replay_epoch» .«rollback_height») (h .0))
       where
-        go : (t : Bool) → replyOf (by t) ≡ doneReply b (runBook (cond t (act (note endEpoch) (done noValue)) (done noValue)) (view b))
+        go : (t : Bool) → replyOf (by t) ≡ doneReply b (runBook (cond t (act (note endEpoch) (done tt)) (done tt)) (view b))
         go true = refl
         go false = refl

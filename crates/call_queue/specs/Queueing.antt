@@ -5,7 +5,6 @@ use Rattle.book.specs.declared.BookData.{BookData}
 use Rattle.book.specs.declared.PendingDelivery.{PendingDelivery}
 use Rattle.book.specs.Model.{Book}
 use Rattle.book.specs.Sound.{soundDelivery}
-use Rattle.rules.specs.Call.{noValue}
 use Rattle.rules.specs.Rule.{done, undo, enqueue, note, step, turn, _>>=_, undone, run}
 use Rattle.rules.specs.Steps.{runBook}
 use Rattle.rules.specs.Calls.Queue.{queue}
@@ -14,11 +13,11 @@ use Rattle.part_offer.specs.Ends.{Ends, ends-as, ends-then}
 module _ (d : PendingDelivery) (m : Book) where
   pub queue-damaged : soundDelivery d ≡ false → runBook (queue d) m ≡ undone 3
   unfolding queue run
-  queue-damaged e = ap (λ (t : Bool). runBook (cond t (step (note (enqueue d)) >>= (λ _. turn (done noValue))) (undo 3)) m) e
+  queue-damaged e = ap (λ (t : Bool). runBook (cond t (step (note (enqueue d)) >>= (λ _. turn (done tt))) (undo 3)) m) e
 
-  pub queue-taken : (t : Bool) (q : BookData) → soundDelivery d ≡ true → Ends tt t q (runBook (step (note (enqueue d))) m) → Ends noValue t q (runBook (queue d) m)
+  pub queue-taken : (t : Bool) (q : BookData) → soundDelivery d ≡ true → Ends tt t q (runBook (step (note (enqueue d))) m) → Ends tt t q (runBook (queue d) m)
   unfolding queue
   queue-taken t q e h =
-      ends-as noValue q (runBook (step (note (enqueue d)) >>= (λ _. turn (done noValue))) m) t
-      (ap (λ (t : Bool). runBook (cond t (step (note (enqueue d)) >>= (λ _. turn (done noValue))) (undo 3)) m) e)
-      (ends-then tt noValue t q (step (note (enqueue d))) m h)
+      ends-as tt q (runBook (step (note (enqueue d)) >>= (λ _. turn (done tt))) m) t
+      (ap (λ (t : Bool). runBook (cond t (step (note (enqueue d)) >>= (λ _. turn (done tt))) (undo 3)) m) e)
+      (ends-then tt tt t q (step (note (enqueue d))) m h)

@@ -7,7 +7,6 @@ use Rattle.book.specs.declared.DeliveryTrigger.the-variants.{ProviderReadiness}
 use Rattle.book.specs.declared.SubmittedTx.{SubmittedTx}
 use Rattle.book.specs.Model.{Book}
 use Rattle.book.specs.Sound.{idOf}
-use Rattle.rules.specs.Call.{Value, noValue}
 use Rattle.rules.specs.Parts.{feeUnresolved, activeEntry}
 use Rattle.rules.specs.Rule.{Rule, done, _>>=_, ended, run}
 use Rattle.rules.specs.Steps.{runBook}
@@ -23,10 +22,10 @@ isReady t = activeEntry (t .entry) && feeUnresolved (t .entry)
 abbrev pub readyOne : SubmittedTx → Rule (Unit {0})
 readyOne t = cond (isReady t) (offer (idOf t) ProviderReadiness (goalFor (t .entry))) (done tt)
 
-abbrev pub readyAll : List SubmittedTx → Rule Value
+abbrev pub readyAll : List SubmittedTx → Rule (Unit {0})
 readyAll ts = offerEach ProviderReadiness (filterb isReady ts)
 
-pub ready-each : Each readyAll readyOne noValue
+pub ready-each : Each readyAll readyOne tt
 unfolding offerEach run
 ready-each = record { none = refl; more = λ t ts m. go t ts m (isReady t) }
   where

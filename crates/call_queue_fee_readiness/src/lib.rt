@@ -14,7 +14,6 @@ ghost use mathlib.Core.Bool.{true};
 ghost use mathlib.Core.Path.{_≡_};
 ghost use Rattle.book.specs.Model.{view};
 ghost use Rattle.book.specs.Sound.{soundb};
-ghost use Rattle.rules.specs.Call.{noValue};
 ghost use Rattle.rules.specs.Steps.{runBook};
 ghost use Rattle.rules.specs.Calls.QueueFeeReadiness.{queueFeeReadiness};
 ghost use Rattle.part_replies.specs.Reply.{doneReply};
@@ -42,7 +41,7 @@ fn offer_ready(b: BookData, t: SubmittedTx) -> Offered
 // The submissions of b in their order.
 fn offer_all_ready(b: BookData) -> Offered
     requires { ⌜ soundb b ≡ true ⌝ }
-    ensures { λ r. ⌜ Ends noValue (r .full) (r .book) (runBook queueFeeReadiness (view b)) ⌝ }
+    ensures { λ r. ⌜ Ends tt (r .full) (r .book) (runBook queueFeeReadiness (view b)) ⌝ }
 {
     let n = b.submitted_count;
     let mut out = b;

@@ -14,7 +14,6 @@ use Rattle.book.specs.Zero.{zeroSubmitted}
 use Rattle.part_lookup.specs.declared.Place.the-variants.{At, Nothing}
 use Rattle.part_lookup.specs.Place.{placeOfId, hasId}
 use Rattle.part_lookup.specs.PlaceLaws.{at-first, first-filter, first-passes, none-passes}
-use Rattle.rules.specs.Call.{noValue}
 use Rattle.rules.specs.Doors.{idsOk}
 use Rattle.rules.specs.Keyed.{pick}
 use Rattle.rules.specs.Rule.{Rule, undo, book, _>>=_, ended, undone, run}
@@ -28,7 +27,7 @@ use Rattle.part_offer.specs.Each.{Each}
 abbrev pub rebroadcastOne : DeliveryTrigger → ℕ → Rule (Unit {0})
 rebroadcastOne trigger i = book >>= (λ b. rebroadcastOf trigger (pick idOf i (b .submitted)))
 
-pub rebroadcast-each : (trigger : DeliveryTrigger) → Each (rebroadcast trigger) (rebroadcastOne trigger) noValue
+pub rebroadcast-each : (trigger : DeliveryTrigger) → Each (rebroadcast trigger) (rebroadcastOne trigger) tt
 unfolding rebroadcast
 rebroadcast-each trigger = record { none = refl; more = λ i is m. bind-turn (rebroadcastOne trigger i) (rebroadcast trigger is) m }
 

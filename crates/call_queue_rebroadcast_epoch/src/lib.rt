@@ -15,7 +15,6 @@ ghost use mathlib.Core.Bool.{true};
 ghost use mathlib.Core.Path.{_≡_};
 ghost use Rattle.book.specs.Model.{view};
 ghost use Rattle.book.specs.Sound.{soundb};
-ghost use Rattle.rules.specs.Call.{noValue};
 ghost use Rattle.rules.specs.Steps.{runBook};
 ghost use Rattle.rules.specs.Calls.QueueRebroadcastEpoch.{rebroadcast as rebroadcastAll, queueRebroadcastEpoch};
 ghost use Rattle.part_replies.specs.Reply.{doneReply};
@@ -41,7 +40,7 @@ fn rebroadcast_one(b: BookData, id: SubmissionId, trigger: DeliveryTrigger) -> O
 
 fn rebroadcast(b: BookData, ids: &[u64], trigger: DeliveryTrigger) -> Offered
     requires { ⌜ soundb b ≡ true ⌝ }
-    ensures { λ r. ⌜ Ends noValue (r .full) (r .book) (runBook (rebroadcastAll trigger (now (ids .entry))) (view b)) ⌝ }
+    ensures { λ r. ⌜ Ends tt (r .full) (r .book) (runBook (rebroadcastAll trigger (now (ids .entry))) (view b)) ⌝ }
 {
     let mut out = b;
     let mut i = 0;

@@ -16,7 +16,6 @@ use Rattle.book.specs.SoundLaws.{back-view}
 use Rattle.book.specs.declared.BookData.{BookData}
 use Rattle.book.specs.declared.SubmittedTx.{SubmittedTx}
 use Rattle.book.specs.declared.SubmissionChainTerminality.the-variants.{Landed}
-use Rattle.rules.specs.Call.{Value, noValue}
 use Rattle.rules.specs.Doors.{idsOk}
 use Rattle.rules.specs.Rule.{done, Rule, undo, look, _>>=_, endTurn, Outcome, ended, undone, followed, run, run-bind}
 use Rattle.rules.specs.Steps.{onBook, runBook}
@@ -66,10 +65,10 @@ module _ (observed spent : List (List ℕ)) (reorg : Bool) (ids : List ℕ) wher
   each-step t ts m = run-bind (λ b. b) onBook (judge observed spent reorg ids t) (λ _. endTurn >>= (λ _. judgeEach observed spent reorg ids ts)) m
 
   -- the run of what is left from k on, over the book out, is the whole run w
-  pub record Left (w : Outcome Book Value) (k : ℕ) (out : BookData) : Type 0 where
+  pub record Left (w : Outcome Book (Unit {0})) (k : ℕ) (out : BookData) : Type 0 where
     pub is : w ≡ runBook (judgeEach observed spent reorg ids (drop k (view out .submitted))) (view out)
 
-  module _ {w : Outcome Book Value} {k : ℕ} {out : BookData} (l : Left w k out) where
+  module _ {w : Outcome Book (Unit {0})} {k : ℕ} {out : BookData} (l : Left w k out) where
     next : k < length (view out .submitted)
         → w ≡ followed (λ b. b) onBook (λ _. endTurn >>= (λ _. judgeEach observed spent reorg ids (drop (k + 1) (view out .submitted)))) (runBook (judge observed spent reorg ids (getD (view out .submitted) k zeroSubmitted)) (view out))
     next h =
@@ -93,12 +92,12 @@ module _ (observed spent : List (List ℕ)) (reorg : Bool) (ids : List ℕ) wher
                 ∙ ap (λ (ts : List SubmittedTx). runBook (judgeEach observed spent reorg ids ts) (view (x .book))) (sym (y .later));
           }
 
-    pub left-done : length (view out .submitted) ≤ k → w ≡ ended (view out) [] noValue
+    pub left-done : length (view out .submitted) ≤ k → w ≡ ended (view out) [] tt
     unfolding run judgeEach
     left-done h = l .is ∙ ap (λ (ts : List SubmittedTx). runBook (judgeEach observed spent reorg ids ts) (view out)) (drop-of-length-le (view out .submitted) {i = k} h)
 
 -- ---- the call's answers
-pub done-reply : (b out : BookData) {w : Outcome Book Value} → soundb out ≡ true → w ≡ ended (view out) [] noValue → record { answer = Done; book = out } ≡ doneReply b w
+pub done-reply : (b out : BookData) {w : Outcome Book (Unit {0})} → soundb out ≡ true → w ≡ ended (view out) [] tt → record { answer = Done; book = out } ≡ doneReply b w
 done-reply b out s e = ap (λ (y : BookData). record { answer = Done; book = y }) (sym (back-view out s)) ∙ ap (doneReply b) (sym e)
 
 module _ (observed spent : List ℕ) (reorg : Bool) (ids : List ℕ) (m : Book) where
@@ -109,7 +108,7 @@ module _ (observed spent : List ℕ) (reorg : Bool) (ids : List ℕ) (m : Book) 
   unfolding idsOk
   lists-told p q h = sym (λ j. p j && q j && leb (length ids) 64) ∙ h
 
-  abbrev by-doors : Bool → Outcome Book Value
+  abbrev by-doors : Bool → Outcome Book (Unit {0})
   by-doors t = runBook (cond t (look (λ b. judgeEach (coinsIn observed) (idsIn spent) reorg ids (b .submitted))) (undo 2)) m
 
   pub reconcile-open : doors ≡ true → runBook (judgeEach (coinsIn observed) (idsIn spent) reorg ids (m .submitted)) m ≡ runBook (reconcileChainTerminality observed spent reorg ids) m

@@ -5,7 +5,7 @@ use mathlib.Core.List.{[]}
 use mathlib.Core.Path.{_≡_, refl, sym, ap, _∙_}
 use Rattle.book.specs.Model.{Book}
 use Rattle.book_answers.specs.declared.SubmissionAttemptStatus.the-variants.{Applied, Stale}
-use Rattle.rules.specs.Call.{statusIs, Value}
+use Rattle.book_answers.specs.declared.SubmissionAttemptStatus.{SubmissionAttemptStatus}
 use Rattle.rules.specs.Calls.Common.{Found}
 use Rattle.rules.specs.Calls.RelinquishCompletedAttempt.{relinquishBy, relinquishCompletedAttempt}
 use Rattle.rules.specs.Rule.{Outcome, ended, undone, run}
@@ -23,21 +23,21 @@ isSetAside Gone = false
 isSetAside NeverIssued = false
 
 module _ (t : ℕ) (m : Book) {p : AttemptPlace} (here : p ≡ attemptPlace t m) where
-  relinquish-run : cond (isNeverIssued p) (undone 4) (ended m [] (statusIs (cond (isSetAside p) Applied Stale))) ≡ runBook (relinquishCompletedAttempt t) m
+  relinquish-run : cond (isNeverIssued p) (undone 4) (ended m [] (cond (isSetAside p) Applied Stale)) ≡ runBook (relinquishCompletedAttempt t) m
   unfolding relinquishCompletedAttempt run
   relinquish-run = go p ∙ ap (λ (x : Found). runBook (relinquishBy x) m) (sym (find-by t m here))
     where
-      go : (x : AttemptPlace) → cond (isNeverIssued x) (undone 4) (ended m [] (statusIs (cond (isSetAside x) Applied Stale))) ≡ runBook (relinquishBy (foundAt m x)) m
+      go : (x : AttemptPlace) → cond (isNeverIssued x) (undone 4) (ended m [] (cond (isSetAside x) Applied Stale)) ≡ runBook (relinquishBy (foundAt m x)) m
       go (Live k) = refl
       go (SetAside k) = refl
       go Gone = refl
       go NeverIssued = refl
 
   pub relinquish-never : isNeverIssued p ≡ true → undone 4 ≡ runBook (relinquishCompletedAttempt t) m
-  relinquish-never e = sym (ap (λ (x : Bool). cond x (undone 4) (ended m [] (statusIs (cond (isSetAside p) Applied Stale)))) e) ∙ relinquish-run
+  relinquish-never e = sym (ap (λ (x : Bool). cond x (undone 4) (ended m [] (cond (isSetAside p) Applied Stale))) e) ∙ relinquish-run
 
-  pub relinquish-issued : {aside : Bool} → isNeverIssued p ≡ false → isSetAside p ≡ aside → ended m [] (statusIs (cond aside Applied Stale)) ≡ runBook (relinquishCompletedAttempt t) m
+  pub relinquish-issued : {aside : Bool} → isNeverIssued p ≡ false → isSetAside p ≡ aside → ended m [] (cond aside Applied Stale) ≡ runBook (relinquishCompletedAttempt t) m
   relinquish-issued {aside} e q =
-      sym (ap {B = Outcome Book Value} (λ (x : Bool). cond (isNeverIssued p) (undone 4) (ended m [] (statusIs (cond x Applied Stale)))) q
-      ∙ ap {B = Outcome Book Value} (λ (x : Bool). cond x (undone 4) (ended m [] (statusIs (cond aside Applied Stale)))) e)
+      sym (ap {B = Outcome Book SubmissionAttemptStatus} (λ (x : Bool). cond (isNeverIssued p) (undone 4) (ended m [] (cond x Applied Stale))) q
+      ∙ ap {B = Outcome Book SubmissionAttemptStatus} (λ (x : Bool). cond x (undone 4) (ended m [] (cond aside Applied Stale))) e)
       ∙ relinquish-run

@@ -10,7 +10,6 @@ use Rattle.book.specs.declared.BookData.{BookData}
 use Rattle.book.specs.declared.Ids16.{Ids16}
 use Rattle.book.specs.declared.Ids64.{Ids64}
 use Rattle.book.specs.Model.{view, list16, ids16, ids64}
-use Rattle.rules.specs.Call.{Value, idsAre}
 use Rattle.rules.specs.Rule.{Rule, done, undo, look, _>>_, undone, run}
 use Rattle.rules.specs.Steps.{runBook}
 use Rattle.rules.specs.Doors.{idsOk}
@@ -24,23 +23,23 @@ use Rattle.part_withdraw.specs.Withdrawal.{Withdrawal}
 use Rattle.part_withdraw.specs.declared.Withdrawn.{Withdrawn}
 
 module _ (b : BookData) (is : List ℕ) where
-  abbrev withIds : Bool → Rule Value
-  withIds t = cond t (look (λ m. withdrawEach (toRemove is m) >> done (idsAre (toRemove is m)))) (undo 2)
+  abbrev withIds : Bool → Rule (List ℕ)
+  withIds t = cond t (look (λ m. withdrawEach (toRemove is m) >> done (toRemove is m))) (undo 2)
 
   pub retain-many : 64 < length is → idsReply b (undone 2) ≡ idsReply b (runBook (retainSubmitted is) (view b))
   unfolding retainSubmitted idsOk run
   retain-many h = ap (idsReply b) (sym (ap (λ (t : Bool). runBook (withIds t) (view b)) (lt-leb (length is) 64 h)))
 
   module _ (few : length is ≤ 64) {gone : Ids16} (g : gone ≡ ids16 (toRemove is (view b))) {w : Withdrawn} (h : Withdrawal b (list16 gone) w) where
-    few-run : runBook (retainSubmitted is) (view b) ≡ runBook (withdrawEach (toRemove is (view b)) >> done (idsAre (toRemove is (view b)))) (view b)
+    few-run : runBook (retainSubmitted is) (view b) ≡ runBook (withdrawEach (toRemove is (view b)) >> done (toRemove is (view b))) (view b)
     unfolding retainSubmitted idsOk run
     few-run = ap (λ (t : Bool). runBook (withIds t) (view b)) (le-leb (length is) 64 few)
 
     pub retain-full : w .full ≡ true → idsReply b (undone 10) ≡ idsReply b (runBook (retainSubmitted is) (view b))
-    retain-full f = ap (idsReply b) (sym (few-run ∙ then-full b (toRemove is (view b)) g h (done (idsAre (toRemove is (view b)))) f))
+    retain-full f = ap (idsReply b) (sym (few-run ∙ then-full b (toRemove is (view b)) g h (done (toRemove is (view b))) f))
 
     pub retain-is : w .full ≡ false → {x : Ids64} → x ≡ ids64 (list16 gone) → record { answer = Done; ids = x; book = w .book } ≡ idsReply b (runBook (retainSubmitted is) (view b))
     unfolding run
     retain-is f {x} e =
         (λ i. record { answer = Done; ids = (e ∙ ap ids64 (list-is (toRemove is (view b)) g)) i; book = holds-sound (w .book) (h .sound f) .cells i })
-        ∙ ap (idsReply b) (sym (few-run ∙ then-on b (toRemove is (view b)) g h (done (idsAre (toRemove is (view b)))) f))
+        ∙ ap (idsReply b) (sym (few-run ∙ then-on b (toRemove is (view b)) g h (done (toRemove is (view b))) f))

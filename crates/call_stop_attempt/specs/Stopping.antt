@@ -10,7 +10,7 @@ use Rattle.book.specs.declared.AttemptSlots.{AttemptSlots}
 use Rattle.book.specs.declared.SubmittedTx.{SubmittedTx}
 use Rattle.book.specs.declared.BookData.{BookData}
 use Rattle.book_answers.specs.declared.SubmissionAttemptStatus.the-variants.{Applied}
-use Rattle.rules.specs.Call.{statusIs, Value}
+use Rattle.book_answers.specs.declared.SubmissionAttemptStatus.{SubmissionAttemptStatus}
 use Rattle.rules.specs.Rule.{Outcome, ended, run}
 use Rattle.rules.specs.Steps.{withSlots, onBook, runBook}
 use Rattle.rules.specs.Steps.Slots.{slotsAside}
@@ -24,9 +24,9 @@ use Rattle.part_attempt_answers.specs.Live.{at}
 use Rattle.part_attempt_answers.specs.Answers.{status-ended}
 
 module _ (b : BookData) (sound : soundb b ≡ true) (k : ℕ) (within : k < length (view b .submitted)) where
-  stop-run : ended (storedAt k (withSlots slotsAside (at (view b) k)) (view b)) [] (statusIs Applied) ≡ runBook (stopLive (at (view b) k)) (view b)
+  stop-run : ended (storedAt k (withSlots slotsAside (at (view b) k)) (view b)) [] Applied ≡ runBook (stopLive (at (view b) k)) (view b)
   unfolding stopLive run onBook
-  stop-run = ap {B = Outcome Book Value} (λ (n : Book). ended n [] (statusIs Applied))
+  stop-run = ap {B = Outcome Book SubmissionAttemptStatus} (λ (n : Book). ended n [] Applied)
       (sym (mark-at (view b) (holds-lists (holds-sound b sound) .ids) (idOf (at (view b) k)) k within refl slotsAside))
 
   pub stop-answer : {s : SubmittedTx} {x : AttemptSlots} {out : BookData} → s ≡ at (view b) k → x ≡ slotsAside (s .slots)

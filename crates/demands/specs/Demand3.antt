@@ -21,6 +21,7 @@ use Rattle.book.specs.Sound.{idOf}
 use Rattle.archive_form.specs.Encode.{encodeModel}
 use Rattle.rules.specs.Books.{bookAfter}
 use Rattle.rules.specs.Call.{Call, Drain}
+use Rattle.rules.specs.Calls.Drain.{drain}
 use Rattle.rules.specs.Keyed.{pick}
 use Rattle.rules.specs.Opened.{opened}
 use Rattle.book_answers.specs.declared.DrainedSubmission.{DrainedSubmission}
@@ -55,7 +56,7 @@ module _ (token id : ℕ) where
   issuedAt before c = issuedBy (outcome (programBook before) c)
 
   abbrev pub drainAt : List Call → DrainAnswer
-  drainAt before = drainAnswer (programBook before) Drain
+  drainAt before = drainAnswer (programBook before) drain
 
   module _ (calls : List Call) where
     -- the book's lists; the ledger's next token, and its rows, the last issued first; what was emitted, removed and halted
@@ -107,7 +108,7 @@ demand-3 token id calls = record {
   opening = a .opening;
   tokens = a .tokens;
   issued = grows;
-  handed = λ before rest q k. grows before Drain rest q ∙ grown-by (tokensAt token id before) (programBook token id before) Drain k;
+  handed = λ before rest q k. grows before Drain rest q ∙ grown-by (tokensAt token id before) (programBook token id before) k;
   fates = a .fates;
   retained = rw e (a .retained);
   sum = a .sum;
@@ -116,7 +117,7 @@ demand-3 token id calls = record {
   oneEntry = rw e (a .oneEntry);
   oneSlot = rw e (a .oneSlot);
   oneRow = a .oneRow;
-  predecessors = λ before rest q. named (tokensAt token id before) (programBook token id before) Drain (chained before rest q);
+  predecessors = λ before rest q. named (tokensAt token id before) (programBook token id before) (chained before rest q);
   behind11 = chained;
 }
   where

@@ -8,7 +8,6 @@ use lib.ListN.{length, getD}
 use Rattle.book.specs.Zero.{zeroSubmitted}
 use Rattle.book.specs.Model.{Book}
 use Rattle.book.specs.declared.SubmittedTx.{SubmittedTx}
-use Rattle.rules.specs.Call.{Value}
 use Rattle.rules.specs.Calls.Common.{Found, find, byLive, withLive}
 use Rattle.rules.specs.Rule.{Rule, Outcome, ended, undone, run}
 use Rattle.rules.specs.Steps.{runBook}
@@ -33,15 +32,15 @@ isNeverIssued Gone = false
 isNeverIssued NeverIssued = true
 
 -- a token that is not live: the value of an inactive one; 4, not live and not below next token
-abbrev pub inactive : Book → Value → AttemptPlace → Outcome Book Value
+abbrev pub inactive : {A : Type 0} → Book → A → AttemptPlace → Outcome Book A
 inactive m v p = cond (isNeverIssued p) (undone 4) (ended m [] v)
 
-module _ (m : Book) (v : Value) (p : AttemptPlace) {t : Bool} (told : t ≡ isNeverIssued p) where
+module _ {A : Type 0} (m : Book) (v : A) (p : AttemptPlace) {t : Bool} (told : t ≡ isNeverIssued p) where
   pub inactive-never : t ≡ true → undone 4 ≡ inactive m v p
-  inactive-never e = ap {B = Outcome Book Value} (λ (x : Bool). cond x (undone 4) (ended m [] v)) (sym e ∙ told)
+  inactive-never e = ap {B = Outcome Book A} (λ (x : Bool). cond x (undone 4) (ended m [] v)) (sym e ∙ told)
 
   pub inactive-issued : t ≡ false → ended m [] v ≡ inactive m v p
-  inactive-issued e = ap {B = Outcome Book Value} (λ (x : Bool). cond x (undone 4) (ended m [] v)) (sym e ∙ told)
+  inactive-issued e = ap {B = Outcome Book A} (λ (x : Bool). cond x (undone 4) (ended m [] v)) (sym e ∙ told)
 
 -- the submission at a place
 abbrev pub at : Book → ℕ → SubmittedTx
@@ -67,7 +66,7 @@ module _ (t : ℕ) (m : Book) where
     pub live-within : {k : ℕ} → q ≡ At k → k < length (m .submitted)
     live-within e = live-found t m (live-at e) .within
 
-    module _ (v : Value) (f : SubmittedTx → Rule Value) where
+    module _ {A : Type 0} (v : A) (f : SubmittedTx → Rule A) where
       found : runBook (withLive t v f) m ≡ runBook (byLive v f (foundAt m p)) m
       unfolding withLive run
       found = ap (λ (x : Found). runBook (byLive v f x) m) (find-by here)

@@ -8,7 +8,6 @@ use part_replies::StatusReply;
 ghost use mathlib.Core.Path.{_≡_};
 ghost use Rattle.book.specs.Model.{view};
 ghost use Rattle.book_answers.specs.declared.SubmissionAttemptStatus.the-variants.{Stale};
-ghost use Rattle.rules.specs.Call.{statusIs};
 ghost use Rattle.rules.specs.Rule.{undone};
 ghost use Rattle.part_replies.specs.Reply.{statusReply};
 ghost use Rattle.part_replies.specs.declared.CallAnswer.the-variants.{Done};
@@ -60,7 +59,7 @@ pub fn status_done(b: BookData, status: SubmissionAttemptStatus) -> StatusReply
 // A token that is not live: `Stale`, or refusal 4.
 pub fn status_inactive(b: BookData, place: AttemptPlace) -> StatusReply
     requires { ⌜ Normal b ⌝ }
-    ensures { λ r. ⌜ r ≡ statusReply b (inactive (view b) (statusIs Stale) place) ⌝ }
+    ensures { λ r. ⌜ r ≡ statusReply b (inactive (view b) Stale place) ⌝ }
 {
     let never = is_never_issued(place);
     if never {

@@ -7,7 +7,6 @@ use Rattle.book.specs.declared.BookData.{BookData}
 use Rattle.book.specs.Model.{Book, view}
 use Rattle.book.specs.Sound.{soundb}
 use Rattle.book.specs.SoundLaws.{back-view}
-use Rattle.rules.specs.Call.{Value, noValue}
 use Rattle.rules.specs.Rule.{Rule, done, turn, _>>=_, Outcome, ended, undone, stopped, followed, run, run-bind}
 use Rattle.rules.specs.Steps.{onBook, runBook}
 use Rattle.part_replies.specs.Reply.{doneReply}
@@ -74,10 +73,10 @@ settledReply b true q = refusedReply b 10
 settledReply b false q = record { answer = Done; book = q }
 
 -- the reply of a refusal
-pub refused-is : (b : BookData) (n : ℕ) (o : Outcome Book Value) → o ≡ undone n → refusedReply b n ≡ doneReply b o
+pub refused-is : (b : BookData) (n : ℕ) (o : Outcome Book (Unit {0})) → o ≡ undone n → refusedReply b n ≡ doneReply b o
 refused-is b n o e = ap (doneReply b) (sym e)
 
-pub settled-is : (b : BookData) (t : Bool) (q : BookData) (o : Outcome Book Value) → Ends noValue t q o → settledReply b t q ≡ doneReply b o
+pub settled-is : (b : BookData) (t : Bool) (q : BookData) (o : Outcome Book (Unit {0})) → Ends tt t q o → settledReply b t q ≡ doneReply b o
 settled-is b true q o h = refused-is b 10 o h
 settled-is b false q o h =
     ap {B = DoneReply} (λ (x : BookData). record { answer = Done; book = x }) (sym (back-view q (h .sound)))

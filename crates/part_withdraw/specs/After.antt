@@ -7,7 +7,6 @@ use Rattle.part_ids.specs.IdLaws.{list-is}
 use Rattle.book.specs.declared.BookData.{BookData}
 use Rattle.book.specs.declared.Ids16.{Ids16}
 use Rattle.book.specs.Model.{view, list16, ids16}
-use Rattle.rules.specs.Call.{Value}
 use Rattle.rules.specs.Rule.{Rule, _>>_, undone, followed, run-bind}
 use Rattle.rules.specs.Steps.{onBook, runBook}
 use Rattle.rules.specs.Calls.Common.{withdrawEach}
@@ -15,7 +14,7 @@ use Rattle.part_sound_laws.specs.Acts.{logged-none}
 use Rattle.part_withdraw.specs.Withdrawal.{outcomeBy, Withdrawal}
 use Rattle.part_withdraw.specs.declared.Withdrawn.{Withdrawn}
 
-module _ (b : BookData) (is : List ℕ) {gone : Ids16} (g : gone ≡ ids16 is) {w : Withdrawn} (h : Withdrawal b (list16 gone) w) (k : Rule Value) where
+module _ (b : BookData) (is : List ℕ) {gone : Ids16} (g : gone ≡ ids16 is) {w : Withdrawn} (h : Withdrawal b (list16 gone) w) {A : Type 0} (k : Rule A) where
   ran : runBook (withdrawEach is >> k) (view b) ≡ followed (λ m. m) onBook (λ _. k) (outcomeBy (w .full) (w .book))
   ran =
       run-bind (λ m. m) onBook (withdrawEach is) (λ _. k) (view b)

@@ -15,7 +15,6 @@ use Rattle.book.specs.Model.{Book, view}
 use Rattle.book.specs.Sound.{soundb}
 use Rattle.book.specs.SoundLaws.{back-view}
 use Rattle.book.specs.declared.BookData.{BookData}
-use Rattle.rules.specs.Call.{Value, written}
 use Rattle.rules.specs.CoinLists.{encodeCoin}
 use Rattle.rules.specs.Rule.{Rule, done, undo, look, Outcome, ended, undone, run}
 use Rattle.rules.specs.Steps.{runBook}
@@ -26,32 +25,32 @@ use Rattle.part_replies.specs.Reply.{writtenReply, bufferLeft}
 use Rattle.part_coin_lists.specs.Writing.{PutCoins}
 
 -- the reply r and the buffer d′, that was d, are those of the outcome o
-abbrev pub Answers : BookData → List ℕ → List ℕ → WrittenReply → Outcome Book Value → Type 0
+abbrev pub Answers : BookData → List ℕ → List ℕ → WrittenReply → Outcome Book (List ℕ) → Type 0
 Answers b d d′ r o = (r ≡ writtenReply b o) × (d′ ≡ bufferLeft d o)
 
-pub answers-as : (b : BookData) (d : List ℕ) {d′ : List ℕ} {r : WrittenReply} {o o′ : Outcome Book Value} → o ≡ o′ → Answers b d d′ r o → Answers b d d′ r o′
-answers-as b d {d′} {r} e h = subst (λ (o : Outcome Book Value). Answers b d d′ r o) e h
+pub answers-as : (b : BookData) (d : List ℕ) {d′ : List ℕ} {r : WrittenReply} {o o′ : Outcome Book (List ℕ)} → o ≡ o′ → Answers b d d′ r o → Answers b d d′ r o′
+answers-as b d {d′} {r} e h = subst (λ (o : Outcome Book (List ℕ)). Answers b d d′ r o) e h
 
-pub refused-is : (b : BookData) (d : List ℕ) (n : ℕ) {r : WrittenReply} {o : Outcome Book Value} → o ≡ undone n → r ≡ writtenReply b (undone n) → Answers b d d r o
+pub refused-is : (b : BookData) (d : List ℕ) (n : ℕ) {r : WrittenReply} {o : Outcome Book (List ℕ)} → o ≡ undone n → r ≡ writtenReply b (undone n) → Answers b d d r o
 unfolding overlay
 refused-is b d n e h = answers-as b d (sym e) (h, refl)
 
-pub written-is : (b : BookData) → soundb b ≡ true → (s : List ℕ) {d d′ : List ℕ} {n : ℕ} → Puts s 0 d d′ n → Answers b d d′ (record { answer = Done; length = n; book = b }) (ended (view b) [] (written s))
+pub written-is : (b : BookData) → soundb b ≡ true → (s : List ℕ) {d d′ : List ℕ} {n : ℕ} → Puts s 0 d d′ n → Answers b d d′ (record { answer = Done; length = n; book = b }) (ended (view b) [] s)
 written-is b h s {d} {d′} {n} p =
     let o = puts-overlay p in
     ((λ j. record { answer = Done; length = o .0 j; book = sym (back-view b h) j }), o .1)
 
 -- writing: whole, or 12
-pub writes : (room : ℕ) (s : List ℕ) (m : Book) → length s ≤ room → runBook (writing room s) m ≡ ended m [] (written s)
+pub writes : (room : ℕ) (s : List ℕ) (m : Book) → length s ≤ room → runBook (writing room s) m ≡ ended m [] s
 unfolding run writing
-writes room s m h = ap (λ (t : Bool). runBook (cond t (done (written s)) (undo 12)) m) (le-leb (length s) room h)
+writes room s m h = ap (λ (t : Bool). runBook (cond t (done s) (undo 12)) m) (le-leb (length s) room h)
 
 pub too-short : (room : ℕ) (s : List ℕ) (m : Book) → room < length s → runBook (writing room s) m ≡ undone 12
 unfolding run writing
-too-short room s m h = ap (λ (t : Bool). runBook (cond t (done (written s)) (undo 12)) m) (lt-leb (length s) room h)
+too-short room s m h = ap (λ (t : Bool). runBook (cond t (done s) (undo 12)) m) (lt-leb (length s) room h)
 
 -- rules behind a test of what is handed in
-module _ (k : Book → Rule Value) (m : Book) where
+module _ (k : Book → Rule (List ℕ)) (m : Book) where
   pub let-in : {t : Bool} → t ≡ true → runBook (cond t (look k) (undo 2)) m ≡ runBook (k m) m
   unfolding run
   let-in e = ap (λ (t : Bool). runBook (cond t (look k) (undo 2)) m) e
@@ -79,7 +78,7 @@ module _ (count : ℕ) (coins d : List ℕ) (m : Book) where
         → Answers b d d₂ (record { answer = Done; length = n; book = b }) (runBook (writing (length d) (be 2 count ++ coins)) m)
     list-written b v s p q =
         let all = be 2 count ++ coins in
-        answers-as b d (sym (writes (length d) all m (omega (arith, list-length)) ∙ ap (λ (x : Book). ended x [] (written all)) v)) (written-is b s all (puts-join list-room p q))
+        answers-as b d (sym (writes (length d) all m (omega (arith, list-length)) ∙ ap (λ (x : Book). ended x [] all) v)) (written-is b s all (puts-join list-room p q))
 
 -- ---- the coins written at the start of a buffer, read from it
 pub front : {cs : List (List ℕ)} {d d′ : List ℕ} {n : ℕ} → PutCoins cs 0 d d′ n → take (n - 0) d′ ≡ encMany encodeCoin cs

@@ -1,4 +1,5 @@
--- The calls of a list, and the rules of each. Archive writing takes the archive form as an argument.
+-- The calls of a list, and the rules of each: here alone answers of different types come under one, `Value`. Archive writing takes the
+-- archive form as an argument.
 pub mod Common
 pub mod Offer
 pub mod Queue
@@ -32,7 +33,7 @@ pub mod WriteArchive
 use Prim.Native.Nat.{ℕ}
 use mathlib.Core.List.{List}
 use Rattle.book.specs.Model.{Book, back}
-use Rattle.rules.specs.Call.{Call, Value}
+use Rattle.rules.specs.Call.{Call, Value, noValue, failures, finalized, feeIntentIs, statusIs, idsAre, flag, heightIs, attemptIs, written}
 use Rattle.rules.specs.Calls.AbandonAttempt.{abandonAttempt}
 use Rattle.rules.specs.Calls.AbsentOutputsForIds.{absentOutputsForIds}
 use Rattle.rules.specs.Calls.AcknowledgeAttempt.{acknowledgeAttempt}
@@ -58,35 +59,38 @@ use Rattle.rules.specs.Calls.RestoreRuntime.{restoreRuntime}
 use Rattle.rules.specs.Calls.RetainSubmitted.{retainSubmitted}
 use Rattle.rules.specs.Calls.StopAttempt.{stopAttempt}
 use Rattle.rules.specs.Calls.WriteArchive.{writeArchive}
-use Rattle.rules.specs.Rule.{Rule}
+use Rattle.rules.specs.Rule.{Rule, _<$>_}
+
+abbrev pub nothing : Unit {0} → Value
+nothing u = noValue
 
 module _ (encode : Book → List ℕ) where
   unfoldable pub rules : Call → Rule Value
   unfolding queue queueRetainedDelivery queueRebroadcastEpoch queueFeeReadiness drain finalizeAttempt feeIntentForAttempt acknowledgeAttempt stopAttempt abandonAttempt relinquishCompletedAttempt retainSubmitted emitRetirement drainRetirements reconciliationInputCoins activeIds beginReplay finishReplayIfAdvanced replayRollbackHeight reconcileChainTerminality causallyRolledBackIds absentOutputsForIds collectRollbackReplayIds clearLocalArtifacts restoreRuntime attempt writeArchive
-  rules (Call.Queue d) = queue d
-  rules (Call.QueueRebroadcastEpoch is trigger) = queueRebroadcastEpoch is trigger
-  rules Call.QueueFeeReadiness = queueFeeReadiness
-  rules (Call.QueueRetainedDelivery i trigger g) = queueRetainedDelivery i trigger g
-  rules Call.Drain = drain
-  rules (Call.FinalizeAttempt t source j) = finalizeAttempt t source j
-  rules (Call.FeeIntentForAttempt t) = feeIntentForAttempt t
-  rules (Call.AcknowledgeAttempt t) = acknowledgeAttempt t
-  rules (Call.StopAttempt t) = stopAttempt t
-  rules (Call.AbandonAttempt t) = abandonAttempt t
-  rules (Call.RelinquishCompletedAttempt t) = relinquishCompletedAttempt t
-  rules (Call.RetainSubmitted is) = retainSubmitted is
-  rules (Call.EmitRetirement i) = emitRetirement i
-  rules Call.DrainRetirements = drainRetirements
-  rules (Call.ReconciliationInputCoins outputs room) = reconciliationInputCoins outputs room
-  rules Call.ActiveIds = activeIds
-  rules (Call.BeginReplay h) = beginReplay h
-  rules (Call.FinishReplayIfAdvanced h) = finishReplayIfAdvanced h
-  rules Call.ReplayRollbackHeight = replayRollbackHeight
-  rules (Call.ReconcileChainTerminality observed spent reorg back) = reconcileChainTerminality observed spent reorg back
-  rules (Call.CausallyRolledBackIds absent inputs) = causallyRolledBackIds absent inputs
-  rules (Call.AbsentOutputsForIds is absent room) = absentOutputsForIds is absent room
-  rules (Call.CollectRollbackReplayIds is) = collectRollbackReplayIds is
-  rules Call.ClearLocalArtifacts = clearLocalArtifacts
-  rules Call.RestoreRuntime = restoreRuntime
-  rules (Call.Attempt t) = attempt t
-  rules (Call.WriteArchive room) = writeArchive encode room
+  rules (Call.Queue d) = nothing <$> queue d
+  rules (Call.QueueRebroadcastEpoch is trigger) = nothing <$> queueRebroadcastEpoch is trigger
+  rules Call.QueueFeeReadiness = nothing <$> queueFeeReadiness
+  rules (Call.QueueRetainedDelivery i trigger g) = nothing <$> queueRetainedDelivery i trigger g
+  rules Call.Drain = failures <$> drain
+  rules (Call.FinalizeAttempt t source j) = finalized <$> finalizeAttempt t source j
+  rules (Call.FeeIntentForAttempt t) = feeIntentIs <$> feeIntentForAttempt t
+  rules (Call.AcknowledgeAttempt t) = statusIs <$> acknowledgeAttempt t
+  rules (Call.StopAttempt t) = statusIs <$> stopAttempt t
+  rules (Call.AbandonAttempt t) = statusIs <$> abandonAttempt t
+  rules (Call.RelinquishCompletedAttempt t) = statusIs <$> relinquishCompletedAttempt t
+  rules (Call.RetainSubmitted is) = idsAre <$> retainSubmitted is
+  rules (Call.EmitRetirement i) = nothing <$> emitRetirement i
+  rules Call.DrainRetirements = idsAre <$> drainRetirements
+  rules (Call.ReconciliationInputCoins outputs room) = written <$> reconciliationInputCoins outputs room
+  rules Call.ActiveIds = idsAre <$> activeIds
+  rules (Call.BeginReplay h) = flag <$> beginReplay h
+  rules (Call.FinishReplayIfAdvanced h) = nothing <$> finishReplayIfAdvanced h
+  rules Call.ReplayRollbackHeight = heightIs <$> replayRollbackHeight
+  rules (Call.ReconcileChainTerminality observed spent reorg back) = nothing <$> reconcileChainTerminality observed spent reorg back
+  rules (Call.CausallyRolledBackIds absent inputs) = idsAre <$> causallyRolledBackIds absent inputs
+  rules (Call.AbsentOutputsForIds is absent room) = written <$> absentOutputsForIds is absent room
+  rules (Call.CollectRollbackReplayIds is) = nothing <$> collectRollbackReplayIds is
+  rules Call.ClearLocalArtifacts = nothing <$> clearLocalArtifacts
+  rules Call.RestoreRuntime = nothing <$> restoreRuntime
+  rules (Call.Attempt t) = attemptIs <$> attempt t
+  rules (Call.WriteArchive room) = written <$> writeArchive encode room

@@ -2,8 +2,8 @@
 -- effect: `run`. DESIGN: "The rules of a call are a tree of looks and steps".
 use Prim.Native.Nat.{ℕ}
 use mathlib.Core.Bool.{Bool, true, false, _||_, _&&_}
-use mathlib.Core.List.{List, [], _∷_, _++_, append-assoc}
-use mathlib.Core.Path.{_≡_, refl}
+use mathlib.Core.List.{List, [], _∷_, _++_, append-assoc, append-nil}
+use mathlib.Core.Path.{_≡_, refl, _∙_}
 use lib.Dec.{ltb}
 use lib.ListN.{length}
 use Rattle.book.specs.Model.{Book}
@@ -72,6 +72,11 @@ _>>=_ (turn r) f = turn (_>>=_ r f)
 abbrev pub _>>_ : {A B : Type 0} → Rule A → Rule B → Rule B
 _>>_ m r = _>>=_ m (λ _. r)
 
+-- the same rules, the answer made into another
+infixl 25 _<$>_
+abbrev pub _<$>_ : {A B : Type 0} → (A → B) → Rule A → Rule B
+_<$>_ f r = r >>= (λ a. done (f a))
+
 abbrev pub book : Rule Book
 book = look done
 
@@ -132,6 +137,12 @@ logged-logged xs ys (ended s zs a) = rw append-assoc
 logged-logged xs ys (undone n) = refl
 logged-logged xs ys (stopped s zs n) = rw append-assoc
 
+-- the answer under an outcome
+abbrev pub mapped : {S A B : Type 0} → (A → B) → Outcome S A → Outcome S B
+mapped f (ended s xs a) = ended s xs (f a)
+mapped f (undone n) = undone n
+mapped f (stopped s xs n) = stopped s xs n
+
 module _ {S : Type 0} (view : S → Book) (effect : Step → S → Effect S) where
   unfoldable pub run : {A : Type 0} → Rule A → S → Outcome S A
   run (done a) s = ended s [] a
@@ -169,6 +180,16 @@ module _ {S : Type 0} (view : S → Book) (effect : Step → S → Effect S) whe
       rw (run-bind r f (effect p s .after)) (followed-act f (grows p && full (view (effect p s .after))) (effect p s .out) (run r (effect p s .after)))
   run-bind (turn r) f s = run-bind r f s
 
+  followed-done : {A B : Type 0} (f : A → B) (k : Outcome S A) → followed (λ a. done (f a)) k ≡ mapped f k
+  unfolding run
+  followed-done f (ended s xs a) = rw append-nil
+  followed-done f (undone n) = refl
+  followed-done f (stopped s xs n) = refl
+
+  -- rules with their answer made into another come to the same, but for the answer
+  pub run-map : {A B : Type 0} (f : A → B) (r : Rule A) (s : S) → run (f <$> r) s ≡ mapped f (run r s)
+  run-map f r s = run-bind r (λ a. done (f a)) s ∙ followed-done f (run r s)
+
 -- the state under an outcome
 abbrev pub carry : {S T A : Type 0} → (S → T) → Outcome S A → Outcome T A
 carry f (ended s ys a) = ended (f s) ys a
@@ -196,3 +217,8 @@ abbrev pub issuedBy : {S A : Type 0} → Outcome S A → List DrainedSubmission
 issuedBy (ended s xs a) = xs
 issuedBy (undone n) = []
 issuedBy (stopped s xs n) = xs
+
+pub issued-mapped : {S A B : Type 0} (f : A → B) (k : Outcome S A) → issuedBy (mapped f k) ≡ issuedBy k
+issued-mapped f (ended s xs a) = refl
+issued-mapped f (undone n) = refl
+issued-mapped f (stopped s xs n) = refl

@@ -32,7 +32,6 @@ use Rattle.book_answers.specs.declared.DrainedSubmission.{DrainedSubmission}
 use Rattle.book_answers.specs.declared.FinalizedSubmission.{FinalizedSubmission}
 use Rattle.book_answers.specs.declared.SubmissionDrainFailure.{SubmissionDrainFailure}
 use Rattle.book_answers.specs.declared.SubmissionFeeSource.{SubmissionFeeSource}
-use Rattle.rules.specs.Call.{Value, failures, finalized, feeIntentIs, idsAre, attemptIs}
 use Rattle.rules.specs.Doors.{idsOk}
 use Rattle.rules.specs.Keyed.{pick}
 use Rattle.rules.specs.Parts.{currentBundle, currentFingerprint, feeUnresolved, openFeeIntent, intentOf, validate, activeEntry}
@@ -137,8 +136,8 @@ says-weaken P Q f k b (turn r) h = says-weaken P Q f k b r h
 abbrev pub Prints : List SubmissionDrainFailure → Type 0
 Prints fs = Every (λ f. length (f .«intent_fingerprint») ≡ 32) fs
 
-pub data DrainSays (k : ℕ) : Value → Type 0 where
-  drain-says : (fs : List SubmissionDrainFailure) → k ≤ 16 → length fs ≤ 16 → Prints fs → DrainSays k (failures fs)
+pub data DrainSays (k : ℕ) : List SubmissionDrainFailure → Type 0 where
+  drain-says : (fs : List SubmissionDrainFailure) → k ≤ 16 → length fs ≤ 16 → Prints fs → DrainSays k fs
 
 record Few (n k : ℕ) (a : Memory) : Type 0 where
   issued : k ≤ n
@@ -267,20 +266,20 @@ pub record TypedFinal (f : FinalizedSubmission) : Type 0 where
   pub bundle : TypedBundle (f .bundle)
   pub fingerprint : length (f .«variant_fingerprint») ≡ 32
 
-pub data FinalSays (k : ℕ) : Value → Type 0 where
-  no-final : FinalSays k (finalized none)
-  one-final : (f : FinalizedSubmission) → TypedFinal f → FinalSays k (finalized (some f))
+pub data FinalSays (k : ℕ) : Option FinalizedSubmission → Type 0 where
+  no-final : FinalSays k none
+  one-final : (f : FinalizedSubmission) → TypedFinal f → FinalSays k (some f)
 
-pub data FeeIntentSays (k : ℕ) : Value → Type 0 where
-  no-intent : FeeIntentSays k (feeIntentIs none)
-  one-intent : (f : SubmissionFeeIntent) → TypedFeeIntent f → FeeIntentSays k (feeIntentIs (some f))
+pub data FeeIntentSays (k : ℕ) : Option SubmissionFeeIntent → Type 0 where
+  no-intent : FeeIntentSays k none
+  one-intent : (f : SubmissionFeeIntent) → TypedFeeIntent f → FeeIntentSays k (some f)
 
-pub data AttemptSays (k : ℕ) : Value → Type 0 where
-  no-attempt : AttemptSays k (attemptIs none)
-  one-attempt : (a : DeliveryAttempt) → TypedAttempt a → AttemptSays k (attemptIs (some a))
+pub data AttemptSays (k : ℕ) : Option DeliveryAttempt → Type 0 where
+  no-attempt : AttemptSays k none
+  one-attempt : (a : DeliveryAttempt) → TypedAttempt a → AttemptSays k (some a)
 
-pub data IdsSay (k : ℕ) : Value → Type 0 where
-  ids-say : (is : List ℕ) → length is ≤ 64 → IdsSay k (idsAre is)
+pub data IdsSay (k : ℕ) : List ℕ → Type 0 where
+  ids-say : (is : List ℕ) → length is ≤ 64 → IdsSay k is
 
 -- the submission of a live token
 LiveIn : Found → Type 0
@@ -300,19 +299,19 @@ find-live : (t : ℕ) (b : Book) → Within b → LiveIn (find t b)
 unfolding find liveAt
 find-live t b w = found-live (ltb t (b .nextToken .0)) (isAside t b) (liveAt t b) (every-filter TypedSubmitted (λ s. hasToken t (s .slots .«active_attempt»)) (b .submitted) (w .submitted))
 
-module _ (P : ℕ → Value → Type 0) where
-  says-byLive : (v : Value) (k : SubmittedTx → Rule Value) (b : Book) → P 0 v → ((s : SubmittedTx) → TypedSubmitted s → Says P 0 b (k s)) → (f : Found) → LiveIn f → Says P 0 b (byLive v k f)
+module _ {A : Type 0} (P : ℕ → A → Type 0) where
+  says-byLive : (v : A) (k : SubmittedTx → Rule A) (b : Book) → P 0 v → ((s : SubmittedTx) → TypedSubmitted s → Says P 0 b (k s)) → (f : Found) → LiveIn f → Says P 0 b (byLive v k f)
   unfolding LiveIn
   says-byLive v k b n h (live s) w = h s w
   says-byLive v k b n h aside w = n
   says-byLive v k b n h gone w = n
   says-byLive v k b n h neverIssued w = tt
 
-  says-live : (t : ℕ) (v : Value) (k : SubmittedTx → Rule Value) (b : Book) → Within b → P 0 v → ((s : SubmittedTx) → TypedSubmitted s → Says P 0 b (k s)) → Says P 0 b (withLive t v k)
+  says-live : (t : ℕ) (v : A) (k : SubmittedTx → Rule A) (b : Book) → Within b → P 0 v → ((s : SubmittedTx) → TypedSubmitted s → Says P 0 b (k s)) → Says P 0 b (withLive t v k)
   unfolding withLive
   says-live t v k b w n h = says-byLive v k b n h (find t b) (find-live t b w)
 
-  says-withdraws : (v : Value) → P 0 v → (is : List ℕ) (b : Book) → Says P 0 b (withdrawEach is >> done v)
+  says-withdraws : (v : A) → P 0 v → (is : List ℕ) (b : Book) → Says P 0 b (withdrawEach is >> done v)
   unfolding withdrawEach withdraw
   says-withdraws v h [] b = h
   says-withdraws v h (i ∷ is) b = λ c d. says-withdraws v h is d
@@ -336,17 +335,17 @@ module _ (b : Book) (w : Within b) where
   pub final-says : (t : ℕ) (source : SubmissionFeeSource) (j : SpendBundle) → TypedBundle j → Says FinalSays 0 b (finalizeAttempt t source j)
   unfolding finalizeAttempt
   final-says t source j h =
-      says-cond FinalSays 0 b (soundSource source j) _ _ (says-live FinalSays t (finalized none) (finalizeLive source j) b w no-final (final-live-says source j h)) tt
+      says-cond FinalSays 0 b (soundSource source j) _ _ (says-live FinalSays t none (finalizeLive source j) b w no-final (final-live-says source j h)) tt
 
   pub fee-intent-says : (t : ℕ) → Says FeeIntentSays 0 b (feeIntentForAttempt t)
   unfolding feeIntentForAttempt
-  fee-intent-says t = says-live FeeIntentSays t (feeIntentIs none) _ b w no-intent (λ s x. one-intent (openFeeIntent (s .entry)) (open-fee-typed (s .entry) (x .entry)))
+  fee-intent-says t = says-live FeeIntentSays t none _ b w no-intent (λ s x. one-intent (openFeeIntent (s .entry)) (open-fee-typed (s .entry) (x .entry)))
 
   pub attempt-says : (t : ℕ) → Says AttemptSays 0 b (attempt t)
   unfolding attempt LiveIn
   attempt-says t = go (find t b) (find-live t b w)
     where
-      go : (f : Found) → LiveIn f → AttemptSays 0 (attemptIs (attemptBy f))
+      go : (f : Found) → LiveIn f → AttemptSays 0 (attemptBy f)
       go (live s) x = one-attempt _ (x .slots .active)
       go aside x = no-attempt
       go gone x = no-attempt
@@ -357,7 +356,7 @@ module _ (b : Book) (s : SoundBook b) where
   unfolding retainSubmitted
   retain-says is =
       says-cond IdsSay 0 b (idsOk is) _ _
-      (says-withdraws IdsSay (idsAre (toRemove is b)) (ids-say (toRemove is b)
+      (says-withdraws IdsSay (toRemove is b) (ids-say (toRemove is b)
       (unfold toRemove in omega (
         arith,
         rising-length (filterb (λ i. elemb i is) (map idOf (b .submitted))),

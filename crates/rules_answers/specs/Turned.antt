@@ -25,18 +25,18 @@ use Rattle.book.specs.Sound.{readableBundle, soundDelivery, idOf}
 use Rattle.book_answers.specs.declared.DrainFailureCause.{DrainFailureCause}
 use Rattle.book_answers.specs.declared.DrainedSubmission.{DrainedSubmission}
 use Rattle.book_answers.specs.declared.SubmissionFeeSource.{SubmissionFeeSource}
-use Rattle.rules.specs.Call.{Call, Value, written}
-use Rattle.rules.specs.Calls.{rules}
+use Rattle.rules.specs.Call.{Call, failures, finalized, feeIntentIs, statusIs, idsAre, flag, heightIs, attemptIs, written}
+use Rattle.rules.specs.Calls.{rules, nothing}
 use Rattle.rules.specs.CoinLists.{encodeCoins}
 use Rattle.rules.specs.Doors.{idsOk}
 use Rattle.rules.specs.Keyed.{pick}
 use Rattle.rules.specs.Parts.{currentFingerprint, feeUnresolved, activeEntry, intentOf, validate}
-use Rattle.rules.specs.Rule.{Rule, done, undo, stop, look, act, turn, _>>=_, _>>_, Outcome, ended, undone, stopped, logged, guarded, grows, full, run, step, replay, revise, reopen}
+use Rattle.rules.specs.Rule.{Rule, done, undo, stop, look, act, turn, _>>=_, _>>_, Outcome, ended, undone, stopped, logged, guarded, grows, full, run, step, replay, revise, reopen, _<$>_}
 use Rattle.rules.specs.Steps.{onBook, runBook}
 use Rattle.rules.specs.Steps.Slots.{resolved}
-use Rattle.rules.specs.Calls.AbandonAttempt.{abandonLive}
-use Rattle.rules.specs.Calls.AbsentOutputsForIds.{absentOutputs as absentOutputsOf}
-use Rattle.rules.specs.Calls.ReconciliationInputCoins.{inputCoinsToReconcile}
+use Rattle.rules.specs.Calls.AbandonAttempt.{abandonLive, abandonAttempt}
+use Rattle.rules.specs.Calls.AbsentOutputsForIds.{absentOutputs as absentOutputsOf, absentOutputsForIds}
+use Rattle.rules.specs.Calls.ReconciliationInputCoins.{inputCoinsToReconcile, reconciliationInputCoins}
 use Rattle.rules.specs.Calls.AcknowledgeAttempt.{acknowledgeLive, acknowledgeAttempt}
 use Rattle.rules.specs.Calls.Candidate.{deliver, met, knownBy, known, unknown, named, unnamed, plannedBy, candidate}
 use Rattle.rules.specs.Calls.CollectRollbackReplayIds.{markEach, offerAgain, collectRollbackReplayIds}
@@ -46,14 +46,23 @@ use Rattle.rules.specs.Calls.FinalizeAttempt.{isJoined, isNotRequested, finaliz
 use Rattle.rules.specs.Calls.Offer.{isQueued, deliverable, offerTo, offer, goalFor}
 use Rattle.rules.specs.Calls.Plan.{Memory, blank, last64, missOf, wanted}
 use Rattle.rules.specs.Calls.Queue.{queue}
-use Rattle.rules.specs.Calls.QueueFeeReadiness.{offerEach}
-use Rattle.rules.specs.Calls.QueueRebroadcastEpoch.{rebroadcastOf, rebroadcast}
-use Rattle.rules.specs.Calls.ReconcileChainTerminality.{outputObserved, inputSpent, halt, judge, judgeEach}
-use Rattle.rules.specs.Calls.RelinquishCompletedAttempt.{relinquishBy}
-use Rattle.rules.specs.Calls.Replay.{isAt, isBefore}
-use Rattle.rules.specs.Calls.RestoreRuntime.{setAsideEach}
-use Rattle.rules.specs.Calls.RetainSubmitted.{toRemove}
-use Rattle.rules.specs.Calls.StopAttempt.{stopLive}
+use Rattle.rules.specs.Calls.QueueFeeReadiness.{offerEach, queueFeeReadiness}
+use Rattle.rules.specs.Calls.QueueRebroadcastEpoch.{rebroadcastOf, rebroadcast, queueRebroadcastEpoch}
+use Rattle.rules.specs.Calls.ReconcileChainTerminality.{outputObserved, inputSpent, halt, judge, judgeEach, reconcileChainTerminality}
+use Rattle.rules.specs.Calls.RelinquishCompletedAttempt.{relinquishBy, relinquishCompletedAttempt}
+use Rattle.rules.specs.Calls.Replay.{isAt, isBefore, replayRollbackHeight, beginReplay, finishReplayIfAdvanced}
+use Rattle.rules.specs.Calls.RestoreRuntime.{setAsideEach, restoreRuntime}
+use Rattle.rules.specs.Calls.RetainSubmitted.{toRemove, retainSubmitted}
+use Rattle.rules.specs.Calls.StopAttempt.{stopLive, stopAttempt}
+use Rattle.rules.specs.Calls.EmitRetirement.{emitRetirement}
+use Rattle.rules.specs.Calls.DrainRetirements.{drainRetirements}
+use Rattle.rules.specs.Calls.ActiveIds.{activeIds}
+use Rattle.rules.specs.Calls.Attempt.{attempt}
+use Rattle.rules.specs.Calls.CausallyRolledBackIds.{causallyRolledBackIds}
+use Rattle.rules.specs.Calls.WriteArchive.{writeArchive}
+use Rattle.rules.specs.Calls.QueueRetainedDelivery.{queueRetainedDelivery}
+use Rattle.rules.specs.Calls.FeeIntentForAttempt.{feeIntentForAttempt}
+use Rattle.rules.specs.Calls.ClearLocalArtifacts.{clearLocalArtifacts}
 use Rattle.rules_answers.specs.Kind.{kindOf, isDrain, asksRoom}
 
 -- a number with which no call is turned away; w says whether 12 may be one
@@ -123,18 +132,18 @@ turns-offer d i w g b = turns-offerTo d w g (isQueued i b) (pick idOf i (b .subm
 turns-offered : {A : Type 0} (d : Bool) (i : ℕ) (w : DeliveryTrigger) (g : SubmissionDeliveryGoal) (r : Unit {0} → Rule A) → Turns d (r tt) → Turns d (offer i w g >>= r)
 turns-offered d i w g r h = turns-bind d (offer i w g) r (turns-offer d i w g) (λ u. h)
 
-turns-withdraws : (d : Bool) (r : Rule Value) → Turns d r → (is : List ℕ) → Turns d (withdrawEach is >> r)
+turns-withdraws : {A : Type 0} (d : Bool) (r : Rule A) → Turns d r → (is : List ℕ) → Turns d (withdrawEach is >> r)
 unfolding withdrawEach withdraw
 turns-withdraws d r h [] = h
 turns-withdraws d r h (i ∷ is) = turns-withdraws d r h is
 
-turns-byLive : (d : Bool) (v : Value) (k : SubmittedTx → Rule Value) → ((s : SubmittedTx) → Turns d (k s)) → (f : Found) → Turns d (byLive v k f)
+turns-byLive : {A : Type 0} (d : Bool) (v : A) (k : SubmittedTx → Rule A) → ((s : SubmittedTx) → Turns d (k s)) → (f : Found) → Turns d (byLive v k f)
 turns-byLive d v k h (live s) = h s
 turns-byLive d v k h aside = tt
 turns-byLive d v k h gone = tt
 turns-byLive d v k h neverIssued = refl
 
-turns-live : (d : Bool) (t : ℕ) (v : Value) (k : SubmittedTx → Rule Value) → ((s : SubmittedTx) → Turns d (k s)) → Turns d (withLive t v k)
+turns-live : {A : Type 0} (d : Bool) (t : ℕ) (v : A) (k : SubmittedTx → Rule A) → ((s : SubmittedTx) → Turns d (k s)) → Turns d (withLive t v k)
 unfolding withLive
 turns-live d t v k h b = turns-byLive d v k h (find t b)
 
@@ -260,46 +269,55 @@ turns-writing : (room : ℕ) (s : List ℕ) → TurnsBy false true (writing room
 unfolding writing
 turns-writing room s = go (leb (length s) room)
   where
-    go : (t : Bool) → TurnsBy false true (cond t (done (written s)) (undo 12))
+    go : (t : Bool) → TurnsBy false true (cond t (done s) (undo 12))
     go true = tt
     go false = refl
 
-turns-asked : (t : Bool) (k : Book → Rule Value) → ((b : Book) → TurnsBy false true (k b)) → TurnsBy false true (cond t (look k) (undo 2))
+turns-asked : {A : Type 0} (t : Bool) (k : Book → Rule A) → ((b : Book) → TurnsBy false true (k b)) → TurnsBy false true (cond t (look k) (undo 2))
 turns-asked true k h = h
 turns-asked false k h = refl
 
 -- ---- every call
+-- the same rules with their answer made into another
+turns-map : {A B : Type 0} (d w : Bool) (f : A → B) (r : Rule A) → TurnsBy d w r → TurnsBy d w (f <$> r)
+turns-map d w f (done a) h = tt
+turns-map d w f (undo n) h = h
+turns-map d w f (stop n) h = h
+turns-map d w f (look k) h = λ b. turns-map d w f (k b) (h b)
+turns-map d w f (act p r) h = turns-map d w f r h
+turns-map d w f (turn r) h = turns-map d w f r h
+
 turns : (encode : Book → List ℕ) (c : Call) → TurnsBy (isDrain (kindOf c)) (asksRoom (kindOf c)) (rules encode c)
 unfolding rules
-turns encode (Call.Queue x) = turns-cond false (soundDelivery x) _ _ tt refl
-turns encode (Call.QueueRebroadcastEpoch is w) = turns-cond false (idsOk is) _ _ (turns-rebroadcast false w is) refl
-turns encode Call.QueueFeeReadiness = λ b. turns-offers false ProviderReadiness (filterb (λ t. activeEntry (t .entry) && feeUnresolved (t .entry)) (b .submitted))
-turns encode (Call.QueueRetainedDelivery i w g) = turns-offered false i w g _ tt
-turns encode Call.Drain = turns-drain
-turns encode (Call.FinalizeAttempt t source j) = turns-finalize false t source j
-turns encode (Call.FeeIntentForAttempt t) = turns-live false t _ _ (λ s. tt)
-turns encode (Call.AcknowledgeAttempt t) = turns-acknowledge false t
-turns encode (Call.StopAttempt t) = turns-live false t _ _ (unfold stopLive in λ s. tt)
-turns encode (Call.AbandonAttempt t) = turns-live false t _ _ (unfold abandonLive withdraw in λ s. tt)
-turns encode (Call.RelinquishCompletedAttempt t) = λ b. turns-relinquish false (find t b)
-turns encode (Call.RetainSubmitted is) = turns-cond false (idsOk is) _ _ (λ b. turns-withdraws false _ tt (toRemove is b)) refl
-turns encode (Call.EmitRetirement i) = tt
-turns encode Call.DrainRetirements = λ b. tt
-turns encode (Call.ReconciliationInputCoins outputs room) = turns-asked (coinListb outputs) _ (λ b. turns-writing room (encodeCoins (inputCoinsToReconcile (coinsIn outputs) b)))
-turns encode Call.ActiveIds = λ b. tt
-turns encode (Call.BeginReplay h) = λ b. turns-cond false (isAt (b .rollback) (h .0)) _ _ tt tt
-turns encode (Call.FinishReplayIfAdvanced h) = λ b. turns-cond false (isBefore (b .rollback) (h .0)) _ _ tt tt
-turns encode Call.ReplayRollbackHeight = λ b. tt
-turns encode (Call.ReconcileChainTerminality observed spent reorg ids) =
-    turns-cond false (coinListb observed && idListb spent && idsOk ids) _ _ (λ b. turns-judges false (coinsIn observed) (idsIn spent) reorg ids (b .submitted)) refl
-turns encode (Call.CausallyRolledBackIds absent inputs) = turns-cond false (coinListb absent && idListb inputs) _ _ (λ b. tt) refl
-turns encode (Call.AbsentOutputsForIds is absent room) =
-    turns-asked (idsOk is && coinListb absent) _ (λ b. turns-writing room (encodeCoins (flatMap (λ t. absentOutputsOf (coinsIn absent) (t .entry)) (filterb (λ t. elemb (idOf t) is) (b .submitted)))))
-turns encode (Call.CollectRollbackReplayIds is) = turns-collect false is
-turns encode Call.ClearLocalArtifacts = λ b. turns-withdraws false _ tt (rising (map idOf (b .submitted)))
-turns encode Call.RestoreRuntime = λ b. turns-setAsides false (map idOf (b .submitted))
-turns encode (Call.Attempt t) = λ b. tt
-turns encode (Call.WriteArchive room) = λ b. turns-writing room (encode b)
+turns encode (Call.Queue x) = turns-map false false nothing (queue x) (turns-cond false (soundDelivery x) _ _ tt refl)
+turns encode (Call.QueueRebroadcastEpoch is w) = turns-map false false nothing (queueRebroadcastEpoch is w) (turns-cond false (idsOk is) _ _ (turns-rebroadcast false w is) refl)
+turns encode Call.QueueFeeReadiness = turns-map false false nothing queueFeeReadiness (λ b. turns-offers false ProviderReadiness (filterb (λ t. activeEntry (t .entry) && feeUnresolved (t .entry)) (b .submitted)))
+turns encode (Call.QueueRetainedDelivery i w g) = turns-map false false nothing (queueRetainedDelivery i w g) (turns-offered false i w g _ tt)
+turns encode Call.Drain = turns-map true false failures drain turns-drain
+turns encode (Call.FinalizeAttempt t source j) = turns-map false false finalized (finalizeAttempt t source j) (turns-finalize false t source j)
+turns encode (Call.FeeIntentForAttempt t) = turns-map false false feeIntentIs (feeIntentForAttempt t) (turns-live false t _ _ (λ s. tt))
+turns encode (Call.AcknowledgeAttempt t) = turns-map false false statusIs (acknowledgeAttempt t) (turns-acknowledge false t)
+turns encode (Call.StopAttempt t) = turns-map false false statusIs (stopAttempt t) (turns-live false t _ _ (unfold stopLive in λ s. tt))
+turns encode (Call.AbandonAttempt t) = turns-map false false statusIs (abandonAttempt t) (turns-live false t _ _ (unfold abandonLive withdraw in λ s. tt))
+turns encode (Call.RelinquishCompletedAttempt t) = turns-map false false statusIs (relinquishCompletedAttempt t) (λ b. turns-relinquish false (find t b))
+turns encode (Call.RetainSubmitted is) = turns-map false false idsAre (retainSubmitted is) (turns-cond false (idsOk is) _ _ (λ b. turns-withdraws false _ tt (toRemove is b)) refl)
+turns encode (Call.EmitRetirement i) = turns-map false false nothing (emitRetirement i) tt
+turns encode Call.DrainRetirements = turns-map false false idsAre drainRetirements (λ b. tt)
+turns encode (Call.ReconciliationInputCoins outputs room) = turns-map false true written (reconciliationInputCoins outputs room) (turns-asked (coinListb outputs) _ (λ b. turns-writing room (encodeCoins (inputCoinsToReconcile (coinsIn outputs) b))))
+turns encode Call.ActiveIds = turns-map false false idsAre activeIds (λ b. tt)
+turns encode (Call.BeginReplay h) = turns-map false false flag (beginReplay h) (λ b. turns-cond false (isAt (b .rollback) (h .0)) _ _ tt tt)
+turns encode (Call.FinishReplayIfAdvanced h) = turns-map false false nothing (finishReplayIfAdvanced h) (λ b. turns-cond false (isBefore (b .rollback) (h .0)) _ _ tt tt)
+turns encode Call.ReplayRollbackHeight = turns-map false false heightIs replayRollbackHeight (λ b. tt)
+turns encode (Call.ReconcileChainTerminality observed spent reorg ids) = turns-map false false nothing (reconcileChainTerminality observed spent reorg ids) (
+    turns-cond false (coinListb observed && idListb spent && idsOk ids) _ _ (λ b. turns-judges false (coinsIn observed) (idsIn spent) reorg ids (b .submitted)) refl)
+turns encode (Call.CausallyRolledBackIds absent inputs) = turns-map false false idsAre (causallyRolledBackIds absent inputs) (turns-cond false (coinListb absent && idListb inputs) _ _ (λ b. tt) refl)
+turns encode (Call.AbsentOutputsForIds is absent room) = turns-map false true written (absentOutputsForIds is absent room) (
+    turns-asked (idsOk is && coinListb absent) _ (λ b. turns-writing room (encodeCoins (flatMap (λ t. absentOutputsOf (coinsIn absent) (t .entry)) (filterb (λ t. elemb (idOf t) is) (b .submitted))))))
+turns encode (Call.CollectRollbackReplayIds is) = turns-map false false nothing (collectRollbackReplayIds is) (turns-collect false is)
+turns encode Call.ClearLocalArtifacts = turns-map false false nothing clearLocalArtifacts (λ b. turns-withdraws false _ tt (rising (map idOf (b .submitted))))
+turns encode Call.RestoreRuntime = turns-map false false nothing restoreRuntime (λ b. turns-setAsides false (map idOf (b .submitted)))
+turns encode (Call.Attempt t) = turns-map false false attemptIs (attempt t) (λ b. tt)
+turns encode (Call.WriteArchive room) = turns-map false true written (writeArchive encode room) (λ b. turns-writing room (encode b))
 
 -- how a call's rules turn it away, on any book
 pub turned-away : (encode : Book → List ℕ) (c : Call) (b : Book) → TurnedAway (isDrain (kindOf c)) (asksRoom (kindOf c)) (runBook (rules encode c) b)

@@ -5,7 +5,7 @@ use mathlib.Core.List.{List}
 use mathlib.Core.Path.{_≡_, refl}
 use Rattle.book.specs.Model.{Book}
 use Rattle.book_answers.specs.declared.DrainedSubmission.{DrainedSubmission}
-use Rattle.rules.specs.Rule.{done, Step, Rule, undo, stop, look, act, turn, _>>=_, Outcome, ended, undone, stopped, logged, guarded, grows, full, run}
+use Rattle.rules.specs.Rule.{done, Step, Rule, undo, stop, look, act, turn, _>>=_, _<$>_, Outcome, ended, undone, stopped, logged, guarded, grows, full, run}
 use Rattle.rules.specs.Steps.{onBook, runBook}
 
 -- S is asked of each step in the book that it finds, T of a stop, P where the rules end. Behind a step the book is any that has Q: rules
@@ -30,6 +30,15 @@ module _ (Q : Book → Type 0) (S : Step → Book → Type 0) (T : ℕ → Book 
   held-bind P (look k) f b q h = held-bind P (k b) f b q h
   held-bind P (act p r) f b q h = (h .0, λ c x. held-bind P r f c x (h .1 c x))
   held-bind P (turn r) f b q h = held-bind P r f b q h
+
+  -- the same rules with their answer made into another
+  pub held-map : {A B : Type 0} (P : B → Type 0) (f : A → B) (r : Rule A) (b : Book) → HeldTo (λ a. P (f a)) b r → HeldTo P b (f <$> r)
+  held-map P f (done a) b h = h
+  held-map P f (undo n) b h = tt
+  held-map P f (stop n) b h = h
+  held-map P f (look k) b h = held-map P f (k b) b h
+  held-map P f (act p r) b h = (h .0, λ c x. held-map P f r c (h .1 c x))
+  held-map P f (turn r) b h = held-map P f r b h
 
   pub held-cond : {A : Type 0} (P : A → Type 0) (b : Book) (t : Bool) (x y : Rule A) → (t ≡ true → HeldTo P b x) → (t ≡ false → HeldTo P b y) → HeldTo P b (cond t x y)
   held-cond P b true x y h k = h refl

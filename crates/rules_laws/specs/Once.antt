@@ -17,7 +17,7 @@ use Rattle.book.specs.Model.{Book}
 use Rattle.book.specs.Sound.{readableBundle, idOf}
 use Rattle.book_answers.specs.declared.DrainFailureCause.{DrainFailureCause}
 use Rattle.book_answers.specs.declared.DrainedSubmission.{DrainedSubmission}
-use Rattle.rules.specs.Call.{Value}
+use Rattle.book_answers.specs.declared.SubmissionDrainFailure.{SubmissionDrainFailure}
 use Rattle.rules.specs.Keyed.{pick, picked-key}
 use Rattle.rules.specs.Parts.{intentOf}
 use Rattle.rules.specs.Rule.{done, Step, note, revise, retain, emit, remove, setAside, finalise, replay, Rule, undo, stop, look, act, turn, _>>=_, Outcome, ended, undone, stopped, logged, guarded, lengthens, full, run, issuedBy}
@@ -171,7 +171,7 @@ once-planned : (E : List ℕ) (n : ℕ) (c : PendingDelivery) (f : List ℕ) (b 
 once-planned E n c f b a NoId e = once-unnamed E n c f b a (filterb (λ t. eqs (t .entry .«intent_fingerprint») f) (b .submitted)) e
 once-planned E n c f b a (Of i) e = once-named E n c f (i .0) a (pick idOf (i .0) (b .submitted)) e
 
-Ended : List ℕ → Value → Type 0
+Ended : List ℕ → List SubmissionDrainFailure → Type 0
 Ended E v = Unit {0}
 
 once-candidates : (E : List ℕ) (n : ℕ) (cs : List PendingDelivery) (a : Memory) → E ≡ a .emitted → OnceTo Ended E (candidates n cs a)
@@ -187,7 +187,7 @@ pub emitted-once : (b : Book) → Fresh [] (issuedBy (runBook drain b))
 unfolding drain
 emitted-once b = go (runBook drain b) (fresh-run Ended [] drain b (λ b′. (tt, once-candidates [] 0 (b′ .pending) blank refl)))
   where
-    go : (k : Outcome Book Value) → FreshIn [] k → Fresh [] (issuedBy k)
+    go : (k : Outcome Book (List SubmissionDrainFailure)) → FreshIn [] k → Fresh [] (issuedBy k)
     go (ended b′ xs v) h = h
     go (undone n) h = tt
     go (stopped b′ xs n) h = h

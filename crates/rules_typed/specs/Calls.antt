@@ -31,16 +31,16 @@ use Rattle.book_answers.specs.declared.DrainFailureCause.{DrainFailureCause}
 use Rattle.book_answers.specs.declared.DrainFailureCause.the-variants.{IdsExhausted}
 use Rattle.book_answers.specs.declared.FinalizedSubmission.{FinalizedSubmission}
 use Rattle.book_answers.specs.declared.SubmissionFeeSource.{SubmissionFeeSource}
-use Rattle.rules.specs.Call.{Call, Value, written}
-use Rattle.rules.specs.Calls.{rules}
+use Rattle.rules.specs.Call.{Call, failures, finalized, feeIntentIs, statusIs, idsAre, flag, heightIs, attemptIs, written}
+use Rattle.rules.specs.Calls.{rules, nothing}
 use Rattle.rules.specs.CoinLists.{encodeCoins}
 use Rattle.rules.specs.Doors.{idsOk}
 use Rattle.rules.specs.Keyed.{pick}
 use Rattle.rules.specs.Parts.{currentFingerprint, feeUnresolved, activeEntry, intentOf, validate}
-use Rattle.rules.specs.Rule.{done, emit, retain, reopen, revise, replay, Rule, undo, stop, look, act, turn, _>>=_, _>>_, step}
+use Rattle.rules.specs.Rule.{done, emit, retain, reopen, revise, replay, Rule, undo, stop, look, act, turn, _>>=_, _>>_, step, _<$>_}
 use Rattle.rules.specs.Steps.Slots.{resolved}
 use Rattle.rules.specs.Calls.AbandonAttempt.{abandonLive, abandonAttempt}
-use Rattle.rules.specs.Calls.AbsentOutputsForIds.{absentOutputs}
+use Rattle.rules.specs.Calls.AbsentOutputsForIds.{absentOutputs, absentOutputsForIds}
 use Rattle.rules.specs.Calls.AcknowledgeAttempt.{acknowledgeLive, acknowledgeAttempt}
 use Rattle.rules.specs.Calls.Candidate.{deliver, met, knownBy, known, unknown, named, unnamed, plannedBy, candidate}
 use Rattle.rules.specs.Calls.ClearLocalArtifacts.{clearLocalArtifacts}
@@ -57,22 +57,32 @@ use Rattle.rules.specs.Calls.QueueFeeReadiness.{offerEach, queueFeeReadiness}
 use Rattle.rules.specs.Calls.QueueRebroadcastEpoch.{rebroadcastOf, rebroadcast, queueRebroadcastEpoch}
 use Rattle.rules.specs.Calls.QueueRetainedDelivery.{queueRetainedDelivery}
 use Rattle.rules.specs.Calls.ReconcileChainTerminality.{outputObserved, inputSpent, spentAs, halt, judge, judgeEach, reconcileChainTerminality}
-use Rattle.rules.specs.Calls.ReconciliationInputCoins.{inputCoinsToReconcile}
+use Rattle.rules.specs.Calls.ReconciliationInputCoins.{inputCoinsToReconcile, reconciliationInputCoins}
 use Rattle.rules.specs.Calls.RelinquishCompletedAttempt.{relinquishBy, relinquishCompletedAttempt}
-use Rattle.rules.specs.Calls.Replay.{isAt, isBefore, beginReplay, finishReplayIfAdvanced}
-use Rattle.rules.specs.Calls.RestoreRuntime.{setAsideEach}
+use Rattle.rules.specs.Calls.Replay.{isAt, isBefore, beginReplay, finishReplayIfAdvanced, replayRollbackHeight}
+use Rattle.rules.specs.Calls.RestoreRuntime.{setAsideEach, restoreRuntime}
 use Rattle.rules.specs.Calls.RetainSubmitted.{toRemove, retainSubmitted}
 use Rattle.rules.specs.Calls.StopAttempt.{stopLive, stopAttempt}
+use Rattle.rules.specs.Calls.EmitRetirement.{emitRetirement}
+use Rattle.rules.specs.Calls.DrainRetirements.{drainRetirements}
+use Rattle.rules.specs.Calls.ActiveIds.{activeIds}
+use Rattle.rules.specs.Calls.CausallyRolledBackIds.{causallyRolledBackIds}
+use Rattle.rules.specs.Calls.Attempt.{attempt}
+use Rattle.rules.specs.Calls.WriteArchive.{writeArchive}
 use Rattle.rules_typed.specs.Every.{every-filter, every-image, every-rising}
 use Rattle.rules_typed.specs.Parts.{variant-typed, current-typed, resolved-typed}
-use Rattle.rules_typed.specs.Typing.{Within, TypedTo, Then, TypedCall, typed-bind, typed-cond}
+use Rattle.rules_typed.specs.Typing.{Within, TypedTo, Then, TypedCall, typed-bind, typed-map, typed-cond}
 
 -- no demand where the rules end
-abbrev Ends : Value → Type 0
+abbrev Ends : {A : Type 0} → A → Type 0
 Ends v = Unit {0}
 
-abbrev pub Kept : Rule Value → Type 0
+abbrev pub Kept : {A : Type 0} → Rule A → Type 0
 Kept r = (b : Book) → Within b → TypedTo Ends b r
+
+-- the same rules with their answer made into another
+kept-map : {A B : Type 0} (f : A → B) (r : Rule A) → Kept r → Kept (f <$> r)
+kept-map f r h b w = typed-map Ends f r b (h b w)
 
 -- a number that is not the last one has a next one
 next-fits : (n : ℕ) → U64 n → eqb n last64 ≡ false → U64 (suc n)
@@ -91,7 +101,7 @@ typed-withdraw : (P : Unit {0} → Type 0) → P tt → (i : ℕ) → U64 i → 
 unfolding withdraw
 typed-withdraw P h i k b = (tt, λ c x. (k, λ d y. h))
 
-typed-withdraws : (r : Rule Value) → Kept r → (is : List ℕ) → Every U64 is → Kept (withdrawEach is >> r)
+typed-withdraws : {A : Type 0} (r : Rule A) → Kept r → (is : List ℕ) → Every U64 is → Kept (withdrawEach is >> r)
 unfolding withdrawEach withdraw
 typed-withdraws r h [] k b w = h b w
 typed-withdraws r h (i ∷ is) k b w = (tt, λ c x. (k .0, λ d y. typed-withdraws r h is (k .1) d y))
@@ -109,7 +119,7 @@ unfolding offer
 typed-offer P h i w g b k = typed-offerTo P h w g (isQueued i b) (pick idOf i (b .submitted)) (pick-typed b i k) b
 
 -- the rules behind an offer
-typed-offered : (i : ℕ) (w : DeliveryTrigger) (g : SubmissionDeliveryGoal) (r : Unit {0} → Rule Value) → Kept (r tt) → Kept (offer i w g >>= r)
+typed-offered : (i : ℕ) (w : DeliveryTrigger) (g : SubmissionDeliveryGoal) (r : Unit {0} → Rule (Unit {0})) → Kept (r tt) → Kept (offer i w g >>= r)
 typed-offered i w g r h b k = typed-bind Ends (offer i w g) r b k (typed-offer (Then Ends r) h i w g b k)
 
 -- ---- a token that is live
@@ -130,20 +140,20 @@ find-typed : (t : ℕ) (b : Book) → Within b → TypedFound (find t b)
 unfolding find liveAt
 find-typed t b w = found-typed (ltb t (b .nextToken .0)) (isAside t b) (liveAt t b) (every-filter TypedSubmitted (λ s. hasToken t (s .slots .«active_attempt»)) (b .submitted) (w .submitted))
 
-typed-byLive : (v : Value) (k : SubmittedTx → Rule Value) (b : Book) → ((s : SubmittedTx) → TypedSubmitted s → TypedTo Ends b (k s)) → (f : Found) → TypedFound f → TypedTo Ends b (byLive v k f)
+typed-byLive : {A : Type 0} (v : A) (k : SubmittedTx → Rule A) (b : Book) → ((s : SubmittedTx) → TypedSubmitted s → TypedTo Ends b (k s)) → (f : Found) → TypedFound f → TypedTo Ends b (byLive v k f)
 unfolding TypedFound
 typed-byLive v k b h (live s) w = h s w
 typed-byLive v k b h aside w = tt
 typed-byLive v k b h gone w = tt
 typed-byLive v k b h neverIssued w = tt
 
-typed-live : (t : ℕ) (v : Value) (k : SubmittedTx → Rule Value) → ((s : SubmittedTx) → TypedSubmitted s → Kept (k s)) → Kept (withLive t v k)
+typed-live : {A : Type 0} (t : ℕ) (v : A) (k : SubmittedTx → Rule A) → ((s : SubmittedTx) → TypedSubmitted s → Kept (k s)) → Kept (withLive t v k)
 unfolding withLive
 typed-live t v k h b w = typed-byLive v k b (λ s x. h s x b w) (find t b) (find-typed t b w)
 
 typed-writing : (room : ℕ) (s : List ℕ) → Kept (writing room s)
 unfolding writing
-typed-writing room s b w = typed-cond Ends b (leb (length s) room) (done (written s)) (undo 12) tt tt
+typed-writing room s b w = typed-cond Ends b (leb (length s) room) (done s) (undo 12) tt tt
 
 -- ---- queue
 typed-queue : (d : PendingDelivery) → TypedDelivery d → Kept (queue d)
@@ -334,7 +344,7 @@ unfolding offerAgain
 typed-offerAgain [] b w = tt
 typed-offerAgain (i ∷ is) b w = typed-offered i Rollback EnsureBroadcast (λ _. turn (offerAgain is)) (typed-offerAgain is) b w
 
-typed-marks : (b0 : Book) (r : Rule Value) → Kept r → (is : List ℕ) → Every U64 is → Kept (markEach b0 is >> r)
+typed-marks : {A : Type 0} (b0 : Book) (r : Rule A) → Kept r → (is : List ℕ) → Every U64 is → Kept (markEach b0 is >> r)
 unfolding markEach
 typed-marks b0 r h [] k b w = h b w
 typed-marks b0 r h (i ∷ is) k b w = go (elemb i (b0 .replayed)) (typed-marks b0 r h is (k .1))
@@ -365,30 +375,30 @@ typed-finish h b w = typed-cond Ends b (isBefore (b .rollback) (h .0)) _ _ (tt, 
 -- ---- every call
 pub typed : (encode : Book → List ℕ) (c : Call) → TypedCall c → Kept (rules encode c)
 unfolding rules
-typed encode (Call.Queue d) h = typed-queue d h
-typed encode (Call.QueueRebroadcastEpoch is w) h = typed-epoch is w
-typed encode Call.QueueFeeReadiness h = typed-readiness
-typed encode (Call.QueueRetainedDelivery i w g) h = typed-retained-delivery i w g
-typed encode Call.Drain h = typed-drain
-typed encode (Call.FinalizeAttempt t source j) h = typed-finalize t source j h
-typed encode (Call.FeeIntentForAttempt t) h = typed-fee t
-typed encode (Call.AcknowledgeAttempt t) h = typed-acknowledge t
-typed encode (Call.StopAttempt t) h = typed-stop t
-typed encode (Call.AbandonAttempt t) h = typed-abandon t
-typed encode (Call.RelinquishCompletedAttempt t) h = typed-relinquish t
-typed encode (Call.RetainSubmitted is) h = typed-retain-submitted is
-typed encode (Call.EmitRetirement i) h = λ b w. (h, λ c x. tt)
-typed encode Call.DrainRetirements h = λ b w. (tt, λ c x. tt)
-typed encode (Call.ReconciliationInputCoins outputs room) h = λ b w. typed-cond Ends b (coinListb outputs) _ _ (typed-writing room (encodeCoins (inputCoinsToReconcile (coinsIn outputs) b)) b w) tt
-typed encode Call.ActiveIds h = λ b w. tt
-typed encode (Call.BeginReplay k) h = typed-begin k h
-typed encode (Call.FinishReplayIfAdvanced k) h = typed-finish k
-typed encode Call.ReplayRollbackHeight h = λ b w. tt
-typed encode (Call.ReconcileChainTerminality observed spent reorg ids) h = typed-reconcile observed spent reorg ids
-typed encode (Call.CausallyRolledBackIds absent inputs) h = λ b w. typed-cond Ends b (coinListb absent && idListb inputs) _ _ tt tt
-typed encode (Call.AbsentOutputsForIds is absent room) h = λ b w. typed-cond Ends b (idsOk is && coinListb absent) _ _ (typed-writing room (encodeCoins (flatMap (λ t. absentOutputs (coinsIn absent) (t .entry)) (filterb (λ t. elemb (idOf t) is) (b .submitted)))) b w) tt
-typed encode (Call.CollectRollbackReplayIds is) h = typed-collect is
-typed encode Call.ClearLocalArtifacts h = typed-clear
-typed encode Call.RestoreRuntime h = λ b w. typed-setAsides (map idOf (b .submitted)) b w
-typed encode (Call.Attempt t) h = λ b w. tt
-typed encode (Call.WriteArchive room) h = λ b w. typed-writing room (encode b) b w
+typed encode (Call.Queue d) h = kept-map nothing (queue d) (typed-queue d h)
+typed encode (Call.QueueRebroadcastEpoch is w) h = kept-map nothing (queueRebroadcastEpoch is w) (typed-epoch is w)
+typed encode Call.QueueFeeReadiness h = kept-map nothing queueFeeReadiness typed-readiness
+typed encode (Call.QueueRetainedDelivery i w g) h = kept-map nothing (queueRetainedDelivery i w g) (typed-retained-delivery i w g)
+typed encode Call.Drain h = kept-map failures drain typed-drain
+typed encode (Call.FinalizeAttempt t source j) h = kept-map finalized (finalizeAttempt t source j) (typed-finalize t source j h)
+typed encode (Call.FeeIntentForAttempt t) h = kept-map feeIntentIs (feeIntentForAttempt t) (typed-fee t)
+typed encode (Call.AcknowledgeAttempt t) h = kept-map statusIs (acknowledgeAttempt t) (typed-acknowledge t)
+typed encode (Call.StopAttempt t) h = kept-map statusIs (stopAttempt t) (typed-stop t)
+typed encode (Call.AbandonAttempt t) h = kept-map statusIs (abandonAttempt t) (typed-abandon t)
+typed encode (Call.RelinquishCompletedAttempt t) h = kept-map statusIs (relinquishCompletedAttempt t) (typed-relinquish t)
+typed encode (Call.RetainSubmitted is) h = kept-map idsAre (retainSubmitted is) (typed-retain-submitted is)
+typed encode (Call.EmitRetirement i) h = kept-map nothing (emitRetirement i) (λ b w. (h, λ c x. tt))
+typed encode Call.DrainRetirements h = kept-map idsAre drainRetirements (λ b w. (tt, λ c x. tt))
+typed encode (Call.ReconciliationInputCoins outputs room) h = kept-map written (reconciliationInputCoins outputs room) (λ b w. typed-cond Ends b (coinListb outputs) _ _ (typed-writing room (encodeCoins (inputCoinsToReconcile (coinsIn outputs) b)) b w) tt)
+typed encode Call.ActiveIds h = kept-map idsAre activeIds (λ b w. tt)
+typed encode (Call.BeginReplay k) h = kept-map flag (beginReplay k) (typed-begin k h)
+typed encode (Call.FinishReplayIfAdvanced k) h = kept-map nothing (finishReplayIfAdvanced k) (typed-finish k)
+typed encode Call.ReplayRollbackHeight h = kept-map heightIs replayRollbackHeight (λ b w. tt)
+typed encode (Call.ReconcileChainTerminality observed spent reorg ids) h = kept-map nothing (reconcileChainTerminality observed spent reorg ids) (typed-reconcile observed spent reorg ids)
+typed encode (Call.CausallyRolledBackIds absent inputs) h = kept-map idsAre (causallyRolledBackIds absent inputs) (λ b w. typed-cond Ends b (coinListb absent && idListb inputs) _ _ tt tt)
+typed encode (Call.AbsentOutputsForIds is absent room) h = kept-map written (absentOutputsForIds is absent room) (λ b w. typed-cond Ends b (idsOk is && coinListb absent) _ _ (typed-writing room (encodeCoins (flatMap (λ t. absentOutputs (coinsIn absent) (t .entry)) (filterb (λ t. elemb (idOf t) is) (b .submitted)))) b w) tt)
+typed encode (Call.CollectRollbackReplayIds is) h = kept-map nothing (collectRollbackReplayIds is) (typed-collect is)
+typed encode Call.ClearLocalArtifacts h = kept-map nothing clearLocalArtifacts typed-clear
+typed encode Call.RestoreRuntime h = kept-map nothing restoreRuntime (λ b w. typed-setAsides (map idOf (b .submitted)) b w)
+typed encode (Call.Attempt t) h = kept-map attemptIs (attempt t) (λ b w. tt)
+typed encode (Call.WriteArchive room) h = kept-map written (writeArchive encode room) (λ b w. typed-writing room (encode b) b w)

@@ -4,9 +4,9 @@ use mathlib.Core.Bool.{Bool, cond}
 use Rattle.book.specs.Model.{Book}
 use Rattle.book.specs.Typed.{Every, U64, Bytes, TypedHeight, TypedOptionalHeight, TypedBundle, TypedIntent, TypedSubmitted, TypedDelivery}
 use Rattle.rules.specs.Call.{Call}
-use Rattle.rules.specs.Rule.{Revision, tighten, acknowledge, attach, terminality, reopen, Note, enqueue, unqueue, retire, unreplay, unqueueAll, unretireAll, beginEpoch, endEpoch, Step, note, revise, retain, emit, remove, setAside, finalise, replay, Rule, _>>=_}
+use Rattle.rules.specs.Rule.{Revision, tighten, acknowledge, attach, terminality, reopen, Note, enqueue, unqueue, retire, unreplay, unqueueAll, unretireAll, beginEpoch, endEpoch, Step, note, revise, retain, emit, remove, setAside, finalise, replay, Rule, _>>=_, _<$>_}
 use Rattle.rules_laws.specs.Held
-use Rattle.rules_laws.specs.Held.{HeldTo, held-bind, held-cond}
+use Rattle.rules_laws.specs.Held.{HeldTo, held-bind, held-map, held-cond}
 
 -- each number is within its type and each array has its length; the lists' own lengths are the sound book's affair
 pub record Within (b : Book) : Type 0 where
@@ -90,6 +90,9 @@ Then = Held.Then Within TypedStep AnyStop
 
 pub typed-bind : {A B : Type 0} (P : B → Type 0) (m : Rule A) (f : A → Rule B) (b : Book) → Within b → TypedTo (Then P f) b m → TypedTo P b (m >>= f)
 typed-bind = held-bind Within TypedStep AnyStop
+
+pub typed-map : {A B : Type 0} (P : B → Type 0) (f : A → B) (r : Rule A) (b : Book) → TypedTo (λ a. P (f a)) b r → TypedTo P b (f <$> r)
+typed-map = held-map Within TypedStep AnyStop
 
 pub typed-cond : {A : Type 0} (P : A → Type 0) (b : Book) (t : Bool) (x y : Rule A) → TypedTo P b x → TypedTo P b y → TypedTo P b (cond t x y)
 typed-cond P b t x y h k = held-cond Within TypedStep AnyStop P b t x y (λ e. h) (λ e. k)

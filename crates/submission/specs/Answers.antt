@@ -1,8 +1,17 @@
 -- What each method answers: the rules of its call behind the door, in the method's answer struct, beside the next book.
+use Prim.Native.Nat.{ℕ}
+use mathlib.Core.Bool.{Bool}
+use mathlib.Core.List.{List}
+use mathlib.Core.Option.{Option}
 use Rattle.book.specs.Model.{Book}
-use Rattle.rules.specs.Call.{Call, Value}
-use Rattle.rules.specs.Rule.{Outcome}
-use Rattle.part_replies.specs.Reply.{doneReply, statusReply, idsReply, flagReply, heightReply, attemptReply, feeIntentReply, finalizeReply, writtenReply}
+use Rattle.book.specs.declared.DeliveryAttempt.{DeliveryAttempt}
+use Rattle.book.specs.declared.OptionalHeight.{OptionalHeight}
+use Rattle.book.specs.declared.SubmissionFeeIntent.{SubmissionFeeIntent}
+use Rattle.book_answers.specs.declared.FinalizedSubmission.{FinalizedSubmission}
+use Rattle.book_answers.specs.declared.SubmissionAttemptStatus.{SubmissionAttemptStatus}
+use Rattle.book_answers.specs.declared.SubmissionDrainFailure.{SubmissionDrainFailure}
+use Rattle.rules.specs.Rule.{Rule, Outcome}
+use Rattle.part_replies.specs.Reply.{outcomeOf, doneReply, statusReply, idsReply, flagReply, heightReply, attemptReply, feeIntentReply, finalizeReply, writtenReply}
 use Rattle.part_replies.specs.declared.DoneReply.{DoneReply}
 use Rattle.submission.specs.declared.DoneAnswer.{DoneAnswer}
 use Rattle.part_replies.specs.declared.StatusReply.{StatusReply}
@@ -24,7 +33,7 @@ use Rattle.submission.specs.declared.WrittenAnswer.{WrittenAnswer}
 use Rattle.part_drain_answers.specs.declared.DrainReply.{DrainReply}
 use Rattle.submission.specs.declared.DrainAnswer.{DrainAnswer}
 use Rattle.submission.specs.declared.SubmissionBook.{SubmissionBook}
-use Rattle.submission.specs.Book.{bookOf, outcome}
+use Rattle.submission.specs.Book.{bookOf}
 use Rattle.part_drain_answers.specs.DrainReply.{drainReply}
 
 -- ---- a lower reply, with the book as one of ours
@@ -59,63 +68,63 @@ abbrev pub drainFrom : DrainReply → DrainAnswer
 drainFrom r = record { answer = r .answer; «submission_count» = r .«submission_count»; submissions = r .submissions; «failure_count» = r .«failure_count»; failures = r .failures; book = bookOf (r .book) }
 
 -- ---- the answer that an outcome gives
-abbrev pub doneGiven : SubmissionBook → Outcome Book Value → DoneAnswer
+abbrev pub doneGiven : SubmissionBook → Outcome Book (Unit {0}) → DoneAnswer
 doneGiven s o = doneFrom (doneReply (s .parts) o)
 
-abbrev pub statusGiven : SubmissionBook → Outcome Book Value → StatusAnswer
+abbrev pub statusGiven : SubmissionBook → Outcome Book SubmissionAttemptStatus → StatusAnswer
 statusGiven s o = statusFrom (statusReply (s .parts) o)
 
-abbrev pub idsGiven : SubmissionBook → Outcome Book Value → IdsAnswer
+abbrev pub idsGiven : SubmissionBook → Outcome Book (List ℕ) → IdsAnswer
 idsGiven s o = idsFrom (idsReply (s .parts) o)
 
-abbrev pub flagGiven : SubmissionBook → Outcome Book Value → FlagAnswer
+abbrev pub flagGiven : SubmissionBook → Outcome Book Bool → FlagAnswer
 flagGiven s o = flagFrom (flagReply (s .parts) o)
 
-abbrev pub heightGiven : SubmissionBook → Outcome Book Value → HeightAnswer
+abbrev pub heightGiven : SubmissionBook → Outcome Book OptionalHeight → HeightAnswer
 heightGiven s o = heightFrom (heightReply (s .parts) o)
 
-abbrev pub attemptGiven : SubmissionBook → Outcome Book Value → AttemptAnswer
+abbrev pub attemptGiven : SubmissionBook → Outcome Book (Option DeliveryAttempt) → AttemptAnswer
 attemptGiven s o = attemptFrom (attemptReply (s .parts) o)
 
-abbrev pub feeIntentGiven : SubmissionBook → Outcome Book Value → FeeIntentAnswer
+abbrev pub feeIntentGiven : SubmissionBook → Outcome Book (Option SubmissionFeeIntent) → FeeIntentAnswer
 feeIntentGiven s o = feeIntentFrom (feeIntentReply (s .parts) o)
 
-abbrev pub finalizeGiven : SubmissionBook → Outcome Book Value → FinalizeAnswer
+abbrev pub finalizeGiven : SubmissionBook → Outcome Book (Option FinalizedSubmission) → FinalizeAnswer
 finalizeGiven s o = finalizeFrom (finalizeReply (s .parts) o)
 
-abbrev pub writtenGiven : SubmissionBook → Outcome Book Value → WrittenAnswer
+abbrev pub writtenGiven : SubmissionBook → Outcome Book (List ℕ) → WrittenAnswer
 writtenGiven s o = writtenFrom (writtenReply (s .parts) o)
 
-abbrev pub drainGiven : SubmissionBook → Outcome Book Value → DrainAnswer
+abbrev pub drainGiven : SubmissionBook → Outcome Book (List SubmissionDrainFailure) → DrainAnswer
 drainGiven s o = drainFrom (drainReply (s .parts) o)
 
--- ---- the answer to a call
-abbrev pub doneAnswer : SubmissionBook → Call → DoneAnswer
-doneAnswer s c = doneGiven s (outcome s c)
+-- ---- the answer to a call, by its rules
+abbrev pub doneAnswer : SubmissionBook → Rule (Unit {0}) → DoneAnswer
+doneAnswer s r = doneGiven s (outcomeOf (s .parts) r)
 
-abbrev pub statusAnswer : SubmissionBook → Call → StatusAnswer
-statusAnswer s c = statusGiven s (outcome s c)
+abbrev pub statusAnswer : SubmissionBook → Rule SubmissionAttemptStatus → StatusAnswer
+statusAnswer s r = statusGiven s (outcomeOf (s .parts) r)
 
-abbrev pub idsAnswer : SubmissionBook → Call → IdsAnswer
-idsAnswer s c = idsGiven s (outcome s c)
+abbrev pub idsAnswer : SubmissionBook → Rule (List ℕ) → IdsAnswer
+idsAnswer s r = idsGiven s (outcomeOf (s .parts) r)
 
-abbrev pub flagAnswer : SubmissionBook → Call → FlagAnswer
-flagAnswer s c = flagGiven s (outcome s c)
+abbrev pub flagAnswer : SubmissionBook → Rule Bool → FlagAnswer
+flagAnswer s r = flagGiven s (outcomeOf (s .parts) r)
 
-abbrev pub heightAnswer : SubmissionBook → Call → HeightAnswer
-heightAnswer s c = heightGiven s (outcome s c)
+abbrev pub heightAnswer : SubmissionBook → Rule OptionalHeight → HeightAnswer
+heightAnswer s r = heightGiven s (outcomeOf (s .parts) r)
 
-abbrev pub attemptAnswer : SubmissionBook → Call → AttemptAnswer
-attemptAnswer s c = attemptGiven s (outcome s c)
+abbrev pub attemptAnswer : SubmissionBook → Rule (Option DeliveryAttempt) → AttemptAnswer
+attemptAnswer s r = attemptGiven s (outcomeOf (s .parts) r)
 
-abbrev pub feeIntentAnswer : SubmissionBook → Call → FeeIntentAnswer
-feeIntentAnswer s c = feeIntentGiven s (outcome s c)
+abbrev pub feeIntentAnswer : SubmissionBook → Rule (Option SubmissionFeeIntent) → FeeIntentAnswer
+feeIntentAnswer s r = feeIntentGiven s (outcomeOf (s .parts) r)
 
-abbrev pub finalizeAnswer : SubmissionBook → Call → FinalizeAnswer
-finalizeAnswer s c = finalizeGiven s (outcome s c)
+abbrev pub finalizeAnswer : SubmissionBook → Rule (Option FinalizedSubmission) → FinalizeAnswer
+finalizeAnswer s r = finalizeGiven s (outcomeOf (s .parts) r)
 
-abbrev pub writtenAnswer : SubmissionBook → Call → WrittenAnswer
-writtenAnswer s c = writtenGiven s (outcome s c)
+abbrev pub writtenAnswer : SubmissionBook → Rule (List ℕ) → WrittenAnswer
+writtenAnswer s r = writtenGiven s (outcomeOf (s .parts) r)
 
-abbrev pub drainAnswer : SubmissionBook → Call → DrainAnswer
-drainAnswer s c = drainGiven s (outcome s c)
+abbrev pub drainAnswer : SubmissionBook → Rule (List SubmissionDrainFailure) → DrainAnswer
+drainAnswer s r = drainGiven s (outcomeOf (s .parts) r)

@@ -6,7 +6,7 @@ use Rattle.book.specs.Model.{Book}
 use Rattle.archive_form.specs.Encode.{encodeModel}
 use Rattle.rules.specs.Call.{Call, Value}
 use Rattle.rules.specs.Calls.{rules}
-use Rattle.rules.specs.Rule.{Outcome}
+use Rattle.rules.specs.Rule.{Rule, Outcome}
 use Rattle.part_replies.specs.Reply.{outcomeOf, bookLeft, bufferLeft}
 use Rattle.submission.specs.declared.SubmissionBook.{SubmissionBook}
 
@@ -23,6 +23,5 @@ unfolding outcome
 next s c = bookOf (bookLeft (s .parts) (outcome s c))
 
 -- the lent buffer behind the call: the bytes beyond what is written stay
-unfoldable pub bufferAfter : SubmissionBook → Call → List ℕ → List ℕ
-unfolding outcome
-bufferAfter s c d = bufferLeft d (outcome s c)
+abbrev pub bufferAfter : SubmissionBook → Rule (List ℕ) → List ℕ → List ℕ
+bufferAfter s r d = bufferLeft d (outcomeOf (s .parts) r)

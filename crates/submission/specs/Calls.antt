@@ -1,6 +1,6 @@
 -- The last link: a list of calls made on the program's book, from one just opened, leaves and answers what the rules' list does.
 use Prim.Native.Nat.{ℕ}
-use mathlib.Core.Bool.{Bool, true, cond}
+use mathlib.Core.Bool.{Bool, true, false, cond}
 use mathlib.Core.List.{List, [], _∷_}
 use mathlib.Core.Path.{_≡_, refl, ap, sym, _∙_}
 use Rattle.book.specs.Model.{Book, view, back}
@@ -10,58 +10,35 @@ use Rattle.rules.specs.Books.{callBook, answerBook, bookAfter, answersBook}
 use Rattle.rules.specs.Call.{Call, Value}
 use Rattle.rules.specs.Calls.{rules}
 use Rattle.rules.specs.Opened.{opened}
-use Rattle.rules.specs.Rule.{Outcome, ended, undone, stopped, Answer, answered, left}
-use Rattle.rules.specs.Steps.{runBook}
+use Rattle.rules.specs.Rule.{Rule, _<$>_, Outcome, ended, undone, stopped, mapped, run-map, Answer, answered, left}
+use Rattle.rules.specs.Steps.{onBook, runBook}
 use Rattle.rules_laws.specs.Sound.Run.{SoundBook, sound-call, sound-opened}
 use Rattle.rules_ledger.specs.Theorem.{Accounted, ledger-theorem}
-use Rattle.part_replies.specs.Reply.{bookLeft}
+use Rattle.part_replies.specs.Reply.{outcomeOf, bookLeft}
 use Rattle.part_sound_laws.specs.Holds.{Holds, holds-view, holds-soundb}
 use Rattle.submission.specs.declared.SubmissionBook.{SubmissionBook}
 use Rattle.submission.specs.Book.{bookOf, outcome, next}
 use Rattle.submission.specs.Door.{sound-open, door-open}
-use Rattle.submission.specs.Answers.{doneAnswer, statusAnswer, idsAnswer, flagAnswer, heightAnswer, attemptAnswer, feeIntentAnswer, finalizeAnswer, writtenAnswer, drainAnswer}
 
--- the book in the answer of every method is `next` of its call
-module _ (s : SubmissionBook) (c : Call) where
-  pub done-book : doneAnswer s c .book ≡ next s c
-  unfolding next
-  done-book = refl
+-- a method answers by the rules r of its call c, whose answer `rules` makes into a value: it comes to what the call comes to in a list
+module _ {A : Type 0} (s : SubmissionBook) (c : Call) (f : A → Value) (r : Rule A) (e : rules encodeModel c ≡ f <$> r) where
+  behind-door : (t : Bool) → cond t (runBook (f <$> r) (view (s .parts))) (undone 1) ≡ mapped f (cond t (runBook r (view (s .parts))) (undone 1))
+  behind-door true = run-map (λ b. b) onBook f r (view (s .parts))
+  behind-door false = refl
 
-  pub status-book : statusAnswer s c .book ≡ next s c
-  unfolding next
-  status-book = refl
+  pub outcome-is-rules : outcome s c ≡ mapped f (outcomeOf (s .parts) r)
+  unfolding outcome outcomeOf
+  outcome-is-rules = ap (outcomeOf (s .parts)) e ∙ behind-door (soundb (s .parts))
 
-  pub ids-book : idsAnswer s c .book ≡ next s c
+  -- so the book in its answer is `next` of the call
+  pub book-is-next : bookOf (bookLeft (s .parts) (outcomeOf (s .parts) r)) ≡ next s c
   unfolding next
-  ids-book = refl
-
-  pub flag-book : flagAnswer s c .book ≡ next s c
-  unfolding next
-  flag-book = refl
-
-  pub height-book : heightAnswer s c .book ≡ next s c
-  unfolding next
-  height-book = refl
-
-  pub attempt-book : attemptAnswer s c .book ≡ next s c
-  unfolding next
-  attempt-book = refl
-
-  pub fee-intent-book : feeIntentAnswer s c .book ≡ next s c
-  unfolding next
-  fee-intent-book = refl
-
-  pub finalize-book : finalizeAnswer s c .book ≡ next s c
-  unfolding next
-  finalize-book = refl
-
-  pub written-book : writtenAnswer s c .book ≡ next s c
-  unfolding next
-  written-book = refl
-
-  pub drain-book : drainAnswer s c .book ≡ next s c
-  unfolding next
-  drain-book = refl
+  book-is-next = ap bookOf (sym (ap (bookLeft (s .parts)) outcome-is-rules ∙ go (outcomeOf (s .parts) r)))
+    where
+      go : (o : Outcome Book A) → bookLeft (s .parts) (mapped f o) ≡ bookLeft (s .parts) o
+      go (ended m xs a) = refl
+      go (undone n) = refl
+      go (stopped m xs n) = refl
 
 -- the book of the program after a list of calls, each made by its method on the book that the last one left
 unfoldable pub after : List Call → SubmissionBook → SubmissionBook

@@ -4,7 +4,32 @@ mod refused;
 ghost use mathlib.Core.Path.{_≡_};
 ghost use lib.ListN.{length};
 ghost use Rattle.book.specs.Model.{back};
-ghost use Rattle.rules.specs.Call.{AbandonAttempt, AbsentOutputsForIds, AcknowledgeAttempt, ActiveIds, Attempt, BeginReplay, CausallyRolledBackIds, ClearLocalArtifacts, CollectRollbackReplayIds, Drain, DrainRetirements, EmitRetirement, FeeIntentForAttempt, FinalizeAttempt, FinishReplayIfAdvanced, Queue, QueueFeeReadiness, QueueRebroadcastEpoch, QueueRetainedDelivery, ReconcileChainTerminality, ReconciliationInputCoins, RelinquishCompletedAttempt, ReplayRollbackHeight, RestoreRuntime, RetainSubmitted, StopAttempt, WriteArchive};
+ghost use Rattle.archive_form.specs.Encode.{encodeModel};
+ghost use Rattle.rules.specs.Calls.AbandonAttempt.{abandonAttempt};
+ghost use Rattle.rules.specs.Calls.AbsentOutputsForIds.{absentOutputsForIds};
+ghost use Rattle.rules.specs.Calls.AcknowledgeAttempt.{acknowledgeAttempt};
+ghost use Rattle.rules.specs.Calls.ActiveIds.{activeIds};
+ghost use Rattle.rules.specs.Calls.Attempt.{attempt};
+ghost use Rattle.rules.specs.Calls.CausallyRolledBackIds.{causallyRolledBackIds};
+ghost use Rattle.rules.specs.Calls.ClearLocalArtifacts.{clearLocalArtifacts};
+ghost use Rattle.rules.specs.Calls.CollectRollbackReplayIds.{collectRollbackReplayIds};
+ghost use Rattle.rules.specs.Calls.Drain.{drain};
+ghost use Rattle.rules.specs.Calls.DrainRetirements.{drainRetirements};
+ghost use Rattle.rules.specs.Calls.EmitRetirement.{emitRetirement};
+ghost use Rattle.rules.specs.Calls.FeeIntentForAttempt.{feeIntentForAttempt};
+ghost use Rattle.rules.specs.Calls.FinalizeAttempt.{finalizeAttempt};
+ghost use Rattle.rules.specs.Calls.Queue.{queue};
+ghost use Rattle.rules.specs.Calls.QueueFeeReadiness.{queueFeeReadiness};
+ghost use Rattle.rules.specs.Calls.QueueRebroadcastEpoch.{queueRebroadcastEpoch};
+ghost use Rattle.rules.specs.Calls.QueueRetainedDelivery.{queueRetainedDelivery};
+ghost use Rattle.rules.specs.Calls.ReconcileChainTerminality.{reconcileChainTerminality};
+ghost use Rattle.rules.specs.Calls.ReconciliationInputCoins.{reconciliationInputCoins};
+ghost use Rattle.rules.specs.Calls.RelinquishCompletedAttempt.{relinquishCompletedAttempt};
+ghost use Rattle.rules.specs.Calls.Replay.{beginReplay, finishReplayIfAdvanced, replayRollbackHeight};
+ghost use Rattle.rules.specs.Calls.RestoreRuntime.{restoreRuntime};
+ghost use Rattle.rules.specs.Calls.RetainSubmitted.{retainSubmitted};
+ghost use Rattle.rules.specs.Calls.StopAttempt.{stopAttempt};
+ghost use Rattle.rules.specs.Calls.WriteArchive.{writeArchive};
 ghost use Rattle.rules.specs.Opened.{opened};
 ghost use Rattle.submission.specs.Book.{bookOf, bufferAfter};
 ghost use Rattle.submission.specs.Door.{doorNumber};
@@ -273,7 +298,7 @@ impl SubmissionBook {
     }
 
     pub fn queue(self, d: PendingDelivery) -> DoneAnswer
-        ensures { λ r. ⌜ r ≡ doneAnswer self (Queue d) ⌝ }
+        ensures { λ r. ⌜ r ≡ doneAnswer self (queue d) ⌝ }
     {
         let refusal = door(self.parts);
         if refusal != 0 {
@@ -284,7 +309,7 @@ impl SubmissionBook {
     }
 
     pub fn queue_rebroadcast_epoch(self, ids: &[u64], trigger: DeliveryTrigger) -> DoneAnswer
-        ensures { λ r. ⌜ r ≡ doneAnswer self (QueueRebroadcastEpoch (now (ids .entry)) trigger) ⌝ }
+        ensures { λ r. ⌜ r ≡ doneAnswer self (queueRebroadcastEpoch (now (ids .entry)) trigger) ⌝ }
     {
         let refusal = door(self.parts);
         if refusal != 0 {
@@ -299,7 +324,7 @@ impl SubmissionBook {
     }
 
     pub fn queue_fee_readiness(self) -> DoneAnswer
-        ensures { λ r. ⌜ r ≡ doneAnswer self QueueFeeReadiness ⌝ }
+        ensures { λ r. ⌜ r ≡ doneAnswer self queueFeeReadiness ⌝ }
     {
         let refusal = door(self.parts);
         if refusal != 0 {
@@ -315,7 +340,7 @@ impl SubmissionBook {
         trigger: DeliveryTrigger,
         goal: SubmissionDeliveryGoal,
     ) -> DoneAnswer
-        ensures { λ r. ⌜ r ≡ doneAnswer self (QueueRetainedDelivery (id .0) trigger goal) ⌝ }
+        ensures { λ r. ⌜ r ≡ doneAnswer self (queueRetainedDelivery (id .0) trigger goal) ⌝ }
     {
         let refusal = door(self.parts);
         if refusal != 0 {
@@ -331,7 +356,7 @@ impl SubmissionBook {
     }
 
     pub fn drain(self) -> DrainAnswer
-        ensures { λ r. ⌜ r ≡ drainAnswer self Drain ⌝ }
+        ensures { λ r. ⌜ r ≡ drainAnswer self drain ⌝ }
     {
         let refusal = door(self.parts);
         if refusal != 0 {
@@ -347,7 +372,7 @@ impl SubmissionBook {
         source: SubmissionFeeSource,
         joined: SpendBundle,
     ) -> FinalizeAnswer
-        ensures { λ r. ⌜ r ≡ finalizeAnswer self (FinalizeAttempt (token .0) source joined) ⌝ }
+        ensures { λ r. ⌜ r ≡ finalizeAnswer self (finalizeAttempt (token .0) source joined) ⌝ }
     {
         let refusal = door(self.parts);
         if refusal != 0 {
@@ -358,7 +383,7 @@ impl SubmissionBook {
     }
 
     pub fn fee_intent_for_attempt(self, token: Token) -> FeeIntentAnswer
-        ensures { λ r. ⌜ r ≡ feeIntentAnswer self (FeeIntentForAttempt (token .0)) ⌝ }
+        ensures { λ r. ⌜ r ≡ feeIntentAnswer self (feeIntentForAttempt (token .0)) ⌝ }
     {
         let refusal = door(self.parts);
         if refusal != 0 {
@@ -369,7 +394,7 @@ impl SubmissionBook {
     }
 
     pub fn acknowledge_attempt(self, token: Token) -> StatusAnswer
-        ensures { λ r. ⌜ r ≡ statusAnswer self (AcknowledgeAttempt (token .0)) ⌝ }
+        ensures { λ r. ⌜ r ≡ statusAnswer self (acknowledgeAttempt (token .0)) ⌝ }
     {
         let refusal = door(self.parts);
         if refusal != 0 {
@@ -380,7 +405,7 @@ impl SubmissionBook {
     }
 
     pub fn stop_attempt(self, token: Token) -> StatusAnswer
-        ensures { λ r. ⌜ r ≡ statusAnswer self (StopAttempt (token .0)) ⌝ }
+        ensures { λ r. ⌜ r ≡ statusAnswer self (stopAttempt (token .0)) ⌝ }
     {
         let refusal = door(self.parts);
         if refusal != 0 {
@@ -391,7 +416,7 @@ impl SubmissionBook {
     }
 
     pub fn abandon_attempt(self, token: Token) -> StatusAnswer
-        ensures { λ r. ⌜ r ≡ statusAnswer self (AbandonAttempt (token .0)) ⌝ }
+        ensures { λ r. ⌜ r ≡ statusAnswer self (abandonAttempt (token .0)) ⌝ }
     {
         let refusal = door(self.parts);
         if refusal != 0 {
@@ -402,7 +427,7 @@ impl SubmissionBook {
     }
 
     pub fn relinquish_completed_attempt(self, token: Token) -> StatusAnswer
-        ensures { λ r. ⌜ r ≡ statusAnswer self (RelinquishCompletedAttempt (token .0)) ⌝ }
+        ensures { λ r. ⌜ r ≡ statusAnswer self (relinquishCompletedAttempt (token .0)) ⌝ }
     {
         let refusal = door(self.parts);
         if refusal != 0 {
@@ -416,7 +441,7 @@ impl SubmissionBook {
     }
 
     pub fn attempt(self, token: Token) -> AttemptAnswer
-        ensures { λ r. ⌜ r ≡ attemptAnswer self (Attempt (token .0)) ⌝ }
+        ensures { λ r. ⌜ r ≡ attemptAnswer self (attempt (token .0)) ⌝ }
     {
         let refusal = door(self.parts);
         if refusal != 0 {
@@ -427,7 +452,7 @@ impl SubmissionBook {
     }
 
     pub fn retain_submitted(self, ids: &[u64]) -> IdsAnswer
-        ensures { λ r. ⌜ r ≡ idsAnswer self (RetainSubmitted (now (ids .entry))) ⌝ }
+        ensures { λ r. ⌜ r ≡ idsAnswer self (retainSubmitted (now (ids .entry))) ⌝ }
     {
         let refusal = door(self.parts);
         if refusal != 0 {
@@ -438,7 +463,7 @@ impl SubmissionBook {
     }
 
     pub fn emit_retirement(self, id: SubmissionId) -> DoneAnswer
-        ensures { λ r. ⌜ r ≡ doneAnswer self (EmitRetirement (id .0)) ⌝ }
+        ensures { λ r. ⌜ r ≡ doneAnswer self (emitRetirement (id .0)) ⌝ }
     {
         let refusal = door(self.parts);
         if refusal != 0 {
@@ -449,7 +474,7 @@ impl SubmissionBook {
     }
 
     pub fn drain_retirements(self) -> IdsAnswer
-        ensures { λ r. ⌜ r ≡ idsAnswer self DrainRetirements ⌝ }
+        ensures { λ r. ⌜ r ≡ idsAnswer self drainRetirements ⌝ }
     {
         let refusal = door(self.parts);
         if refusal != 0 {
@@ -460,7 +485,7 @@ impl SubmissionBook {
     }
 
     pub fn active_ids(self) -> IdsAnswer
-        ensures { λ r. ⌜ r ≡ idsAnswer self ActiveIds ⌝ }
+        ensures { λ r. ⌜ r ≡ idsAnswer self activeIds ⌝ }
     {
         let refusal = door(self.parts);
         if refusal != 0 {
@@ -471,7 +496,7 @@ impl SubmissionBook {
     }
 
     pub fn begin_replay(self, height: Height) -> FlagAnswer
-        ensures { λ r. ⌜ r ≡ flagAnswer self (BeginReplay height) ⌝ }
+        ensures { λ r. ⌜ r ≡ flagAnswer self (beginReplay height) ⌝ }
     {
         let refusal = door(self.parts);
         if refusal != 0 {
@@ -482,7 +507,7 @@ impl SubmissionBook {
     }
 
     pub fn finish_replay_if_advanced(self, height: Height) -> DoneAnswer
-        ensures { λ r. ⌜ r ≡ doneAnswer self (FinishReplayIfAdvanced height) ⌝ }
+        ensures { λ r. ⌜ r ≡ doneAnswer self (finishReplayIfAdvanced height) ⌝ }
     {
         let refusal = door(self.parts);
         if refusal != 0 {
@@ -493,7 +518,7 @@ impl SubmissionBook {
     }
 
     pub fn replay_rollback_height(self) -> HeightAnswer
-        ensures { λ r. ⌜ r ≡ heightAnswer self ReplayRollbackHeight ⌝ }
+        ensures { λ r. ⌜ r ≡ heightAnswer self replayRollbackHeight ⌝ }
     {
         let refusal = door(self.parts);
         if refusal != 0 {
@@ -510,7 +535,7 @@ impl SubmissionBook {
         reorg: bool,
         rolled_back: &[u64],
     ) -> DoneAnswer
-        ensures { λ r. ⌜ r ≡ doneAnswer self (ReconcileChainTerminality (now (observed .entry)) (now (spent .entry)) reorg (now («rolled_back» .entry))) ⌝ }
+        ensures { λ r. ⌜ r ≡ doneAnswer self (reconcileChainTerminality (now (observed .entry)) (now (spent .entry)) reorg (now («rolled_back» .entry))) ⌝ }
     {
         let refusal = door(self.parts);
         if refusal != 0 {
@@ -527,7 +552,7 @@ impl SubmissionBook {
     }
 
     pub fn causally_rolled_back_ids(self, absent: &[u8], inputs: &[u8]) -> IdsAnswer
-        ensures { λ r. ⌜ r ≡ idsAnswer self (CausallyRolledBackIds (now (absent .entry)) (now (inputs .entry))) ⌝ }
+        ensures { λ r. ⌜ r ≡ idsAnswer self (causallyRolledBackIds (now (absent .entry)) (now (inputs .entry))) ⌝ }
     {
         let refusal = door(self.parts);
         if refusal != 0 {
@@ -542,7 +567,7 @@ impl SubmissionBook {
     }
 
     pub fn collect_rollback_replay_ids(self, ids: &[u64]) -> DoneAnswer
-        ensures { λ r. ⌜ r ≡ doneAnswer self (CollectRollbackReplayIds (now (ids .entry))) ⌝ }
+        ensures { λ r. ⌜ r ≡ doneAnswer self (collectRollbackReplayIds (now (ids .entry))) ⌝ }
     {
         let refusal = door(self.parts);
         if refusal != 0 {
@@ -556,7 +581,7 @@ impl SubmissionBook {
     }
 
     pub fn clear_local_artifacts(self) -> DoneAnswer
-        ensures { λ r. ⌜ r ≡ doneAnswer self ClearLocalArtifacts ⌝ }
+        ensures { λ r. ⌜ r ≡ doneAnswer self clearLocalArtifacts ⌝ }
     {
         let refusal = door(self.parts);
         if refusal != 0 {
@@ -567,7 +592,7 @@ impl SubmissionBook {
     }
 
     pub fn restore_runtime(self) -> DoneAnswer
-        ensures { λ r. ⌜ r ≡ doneAnswer self RestoreRuntime ⌝ }
+        ensures { λ r. ⌜ r ≡ doneAnswer self restoreRuntime ⌝ }
     {
         let refusal = door(self.parts);
         if refusal != 0 {
@@ -578,7 +603,7 @@ impl SubmissionBook {
     }
 
     pub fn reconciliation_input_coins(self, outputs: &[u8], out: &mut [u8]) -> WrittenAnswer
-        ensures { λ r. ⌜ (r ≡ writtenAnswer self (ReconciliationInputCoins (now (outputs .entry)) (length (now (out .entry))))) × (now (out .exit) ≡ bufferAfter self (ReconciliationInputCoins (now (outputs .entry)) (length (now (out .entry)))) (now (out .entry))) ⌝ }
+        ensures { λ r. ⌜ (r ≡ writtenAnswer self (reconciliationInputCoins (now (outputs .entry)) (length (now (out .entry))))) × (now (out .exit) ≡ bufferAfter self (reconciliationInputCoins (now (outputs .entry)) (length (now (out .entry)))) (now (out .entry))) ⌝ }
     {
         let refusal = door(self.parts);
         if refusal != 0 {
@@ -593,7 +618,7 @@ impl SubmissionBook {
     }
 
     pub fn absent_outputs_for_ids(self, ids: &[u64], absent: &[u8], out: &mut [u8]) -> WrittenAnswer
-        ensures { λ r. ⌜ (r ≡ writtenAnswer self (AbsentOutputsForIds (now (ids .entry)) (now (absent .entry)) (length (now (out .entry))))) × (now (out .exit) ≡ bufferAfter self (AbsentOutputsForIds (now (ids .entry)) (now (absent .entry)) (length (now (out .entry)))) (now (out .entry))) ⌝ }
+        ensures { λ r. ⌜ (r ≡ writtenAnswer self (absentOutputsForIds (now (ids .entry)) (now (absent .entry)) (length (now (out .entry))))) × (now (out .exit) ≡ bufferAfter self (absentOutputsForIds (now (ids .entry)) (now (absent .entry)) (length (now (out .entry)))) (now (out .entry))) ⌝ }
     {
         let refusal = door(self.parts);
         if refusal != 0 {
@@ -609,7 +634,7 @@ impl SubmissionBook {
     }
 
     pub fn write_archive(self, out: &mut [u8]) -> WrittenAnswer
-        ensures { λ r. ⌜ (r ≡ writtenAnswer self (WriteArchive (length (now (out .entry))))) × (now (out .exit) ≡ bufferAfter self (WriteArchive (length (now (out .entry)))) (now (out .entry))) ⌝ }
+        ensures { λ r. ⌜ (r ≡ writtenAnswer self (writeArchive encodeModel (length (now (out .entry))))) × (now (out .exit) ≡ bufferAfter self (writeArchive encodeModel (length (now (out .entry)))) (now (out .entry))) ⌝ }
     {
         let refusal = door(self.parts);
         if refusal != 0 {

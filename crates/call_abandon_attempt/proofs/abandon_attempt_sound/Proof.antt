@@ -3,7 +3,6 @@ use borrow.Author.Needs.{needs}
 use mathlib.Core.Path.{ap, _∙_}
 use Rattle.book.specs.Model.{view}
 use Rattle.book_answers.specs.declared.SubmissionAttemptStatus.the-variants.{Stale}
-use Rattle.rules.specs.Call.{statusIs}
 use Rattle.rules.specs.Calls.AbandonAttempt.{abandonLive, abandonAttempt}
 use Rattle.part_replies.specs.Reply.{statusReply}
 use Rattle.part_lookup.specs.Normal.{sound-normal}
@@ -19,14 +18,14 @@ status-inactive-requires c κs = sound-normal (c .before .before .before .before
 
 returns : tie.Need-returns
 unfolding abandonAttempt
-returns c = c .status-inactive .ensures ∙ ap (statusReply (c .before .before .before .before .before .args .b)) (with-inactive (c .before .before .before .before .before .args .t .0) (view (c .before .before .before .before .before .args .b)) (c .before .before .before .before .find-attempt .ensures) (c .before .before .before .live-place .ensures) (statusIs Stale) abandonLive (c .before .enum-told .given .1))
+returns c = c .status-inactive .ensures ∙ ap (statusReply (c .before .before .before .before .before .args .b)) (with-inactive (c .before .before .before .before .before .args .t .0) (view (c .before .before .before .before .before .args .b)) (c .before .before .before .before .find-attempt .ensures) (c .before .before .before .live-place .ensures) Stale abandonLive (c .before .enum-told .given .1))
 
 abandon-live-requires : tie.Need-abandon-live-requires
 abandon-live-requires c κs = (c .before .before .before .before .before .pre, live-within (c .before .before .before .before .before .args .t .0) (view (c .before .before .before .before .before .args .b)) (c .before .before .before .before .find-attempt .ensures) (c .before .before .before .live-place .ensures) (c .before .live .given .1))
 
 returns-2 : tie.Need-returns-2
 unfolding abandonAttempt
-returns-2 c = c .abandon-live .ensures ∙ ap (statusReply (c .before .before .before .before .before .before .args .b)) (with-live (c .before .before .before .before .before .before .args .t .0) (view (c .before .before .before .before .before .before .args .b)) (c .before .before .before .before .before .find-attempt .ensures) (c .before .before .before .before .live-place .ensures) (statusIs Stale) abandonLive (c .before .before .live .given .1))
+returns-2 c = c .abandon-live .ensures ∙ ap (statusReply (c .before .before .before .before .before .before .args .b)) (with-live (c .before .before .before .before .before .before .args .t .0) (view (c .before .before .before .before .before .before .args .b)) (c .before .before .before .before .before .find-attempt .ensures) (c .before .before .before .before .live-place .ensures) Stale abandonLive (c .before .before .live .given .1))
 
 pub abandon-attempt-sound-spec : {M : Type 1} → statement M
 abandon-attempt-sound-spec =

@@ -6,7 +6,6 @@ use mathlib.Core.Path.{_≡_}
 use lib.ListN.{length, take, drop}
 use Rattle.base_lists.specs.Laws.{counted-step, counted-end}
 use Rattle.book.specs.Model.{view, list16}
-use Rattle.rules.specs.Call.{noValue}
 use Rattle.rules.specs.Steps.{runBook}
 use Rattle.rules.specs.Calls.CollectRollbackReplayIds.{offerAgain}
 use Rattle.part_offer.specs.Ends.{full-ends}
@@ -28,7 +27,7 @@ offer-requires : tie.Need-offer-requires Inv-loop μ-loop
 offer-requires c κs = c .before .loop .inv .3 .sound
 
 returns : tie.Need-returns Inv-loop μ-loop
-returns c = full-ends noValue (c .before .offer .result .book) (runBook (offerAgain (list16 (c .before .before .before .before .before .args .named))) (view (c .before .before .before .before .before .args .b))) (c .if1 .taken)
+returns c = full-ends tt (c .before .offer .result .book) (runBook (offerAgain (list16 (c .before .before .before .before .before .args .named))) (view (c .before .before .before .before .before .args .b))) (c .if1 .taken)
     (each-full offer-each (c .before .offer .result .book) (c .before .before .before .loop .inv .3) (counted-step (c .before .before .before .before .before .args .named .items) (c .before .before .before .before .before .args .named .count) (c .before .before .before .loop .i) 0 (c .before .before .loop-test .taken) (omega (arith, c .before .before .before .loop .inv .1, c .before .before .before .loop .inv .2))) (c .if1 .taken) (c .before .offer .ensures))
 
 loop-again : tie.Need-loop-again Inv-loop μ-loop

@@ -4,7 +4,6 @@ use mathlib.Core.Option.{none, some}
 use mathlib.Core.Path.{ap, _∙_}
 use Rattle.book.specs.Model.{view}
 use Rattle.book.specs.declared.SubmittedTx.{SubmittedTx}
-use Rattle.rules.specs.Call.{feeIntentIs}
 use Rattle.rules.specs.Parts.{openFeeIntent}
 use Rattle.rules.specs.Rule.{done, run}
 use Rattle.rules.specs.Calls.FeeIntentForAttempt.{feeIntentForAttempt}
@@ -23,14 +22,14 @@ fee-intent-inactive-requires c κs = sound-normal (c .before .before .before .be
 
 returns : tie.Need-returns
 unfolding feeIntentForAttempt
-returns c = c .fee-intent-inactive .ensures ∙ ap (feeIntentReply (c .before .before .before .before .before .args .b)) (with-inactive (c .before .before .before .before .before .args .t .0) (view (c .before .before .before .before .before .args .b)) (c .before .before .before .before .find-attempt .ensures) (c .before .before .before .live-place .ensures) (feeIntentIs none) (λ s. done (feeIntentIs (some (openFeeIntent (s .entry))))) (c .before .enum-told .given .1))
+returns c = c .fee-intent-inactive .ensures ∙ ap (feeIntentReply (c .before .before .before .before .before .args .b)) (with-inactive (c .before .before .before .before .before .args .t .0) (view (c .before .before .before .before .before .args .b)) (c .before .before .before .before .find-attempt .ensures) (c .before .before .before .live-place .ensures) none (λ s. done (some (openFeeIntent (s .entry)))) (c .before .enum-told .given .1))
 
 submitted-at-requires : tie.Need-submitted-at-requires
 submitted-at-requires c κs = (sound-normal (c .before .before .before .before .before .args .b) (c .before .before .before .before .before .pre), live-within (c .before .before .before .before .before .args .t .0) (view (c .before .before .before .before .before .args .b)) (c .before .before .before .before .find-attempt .ensures) (c .before .before .before .live-place .ensures) (c .before .live .given .1))
 
 returns-2 : tie.Need-returns-2
 unfolding feeIntentForAttempt run
-returns-2 c = fee-intent-ended (c .before .before .before .before .before .before .before .before .args .b) (sound-normal (c .before .before .before .before .before .before .before .before .args .b) (c .before .before .before .before .before .before .before .before .pre)) (some (openFeeIntent (at (view (c .before .before .before .before .before .before .before .before .args .b)) (c .before .before .before .before .live .given .0 .0) .entry))) (c .open-fee-intent .ensures ∙ ap (λ (s : SubmittedTx). openFeeIntent (s .entry)) (c .before .before .submitted-at .ensures)) (with-live (c .before .before .before .before .before .before .before .before .args .t .0) (view (c .before .before .before .before .before .before .before .before .args .b)) (c .before .before .before .before .before .before .before .find-attempt .ensures) (c .before .before .before .before .before .before .live-place .ensures) (feeIntentIs none) (λ s. done (feeIntentIs (some (openFeeIntent (s .entry))))) (c .before .before .before .before .live .given .1))
+returns-2 c = fee-intent-ended (c .before .before .before .before .before .before .before .before .args .b) (sound-normal (c .before .before .before .before .before .before .before .before .args .b) (c .before .before .before .before .before .before .before .before .pre)) (some (openFeeIntent (at (view (c .before .before .before .before .before .before .before .before .args .b)) (c .before .before .before .before .live .given .0 .0) .entry))) (c .open-fee-intent .ensures ∙ ap (λ (s : SubmittedTx). openFeeIntent (s .entry)) (c .before .before .submitted-at .ensures)) (with-live (c .before .before .before .before .before .before .before .before .args .t .0) (view (c .before .before .before .before .before .before .before .before .args .b)) (c .before .before .before .before .before .before .before .find-attempt .ensures) (c .before .before .before .before .before .before .live-place .ensures) none (λ s. done (some (openFeeIntent (s .entry)))) (c .before .before .before .before .live .given .1))
 
 pub fee-intent-for-attempt-sound-spec : {M : Type 1} → statement M
 fee-intent-for-attempt-sound-spec =

@@ -4,7 +4,6 @@ use mathlib.Core.Option.{none}
 use mathlib.Core.Path.{sym, ap, _∙_}
 use borrow.Author.Tests.{not-true, not-false}
 use Rattle.book.specs.Model.{view}
-use Rattle.rules.specs.Call.{finalized}
 use Rattle.rules.specs.Calls.FinalizeAttempt.{finalizeLive}
 use Rattle.part_replies.specs.Reply.{finalizeReply}
 use Rattle.part_lookup.specs.Normal.{sound-normal}
@@ -23,13 +22,13 @@ finalize-inactive-requires : tie.Need-finalize-inactive-requires
 finalize-inactive-requires c κs = sound-normal (c .before .before .before .before .before .before .args .b) (c .before .before .before .before .before .before .pre)
 
 returns-2 : tie.Need-returns-2
-returns-2 c = c .finalize-inactive .ensures ∙ ap (finalizeReply (c .before .before .before .before .before .before .before .args .b)) (with-inactive (c .before .before .before .before .before .before .before .args .t .0) (view (c .before .before .before .before .before .before .before .args .b)) (c .before .before .before .before .find-attempt .ensures) (c .before .before .before .live-place .ensures) (finalized none) (finalizeLive (c .before .before .before .before .before .before .before .args .source) (c .before .before .before .before .before .before .before .args .joined)) (c .before .enum-told .given .1) ∙ source-sound (c .before .before .before .before .before .before .before .args .source) (c .before .before .before .before .before .before .before .args .joined) (c .before .before .before .before .before .before .before .args .t .0) (view (c .before .before .before .before .before .before .before .args .b)) (sym (c .before .before .before .before .before .before .is-sound-source .ensures) ∙ not-false _ (c .before .before .before .before .before .if1 .left)))
+returns-2 c = c .finalize-inactive .ensures ∙ ap (finalizeReply (c .before .before .before .before .before .before .before .args .b)) (with-inactive (c .before .before .before .before .before .before .before .args .t .0) (view (c .before .before .before .before .before .before .before .args .b)) (c .before .before .before .before .find-attempt .ensures) (c .before .before .before .live-place .ensures) none (finalizeLive (c .before .before .before .before .before .before .before .args .source) (c .before .before .before .before .before .before .before .args .joined)) (c .before .enum-told .given .1) ∙ source-sound (c .before .before .before .before .before .before .before .args .source) (c .before .before .before .before .before .before .before .args .joined) (c .before .before .before .before .before .before .before .args .t .0) (view (c .before .before .before .before .before .before .before .args .b)) (sym (c .before .before .before .before .before .before .is-sound-source .ensures) ∙ not-false _ (c .before .before .before .before .before .if1 .left)))
 
 finalize-live-requires : tie.Need-finalize-live-requires
 finalize-live-requires c κs = (c .before .before .before .before .before .before .before .pre, live-within (c .before .before .before .before .before .before .before .args .t .0) (view (c .before .before .before .before .before .before .before .args .b)) (c .before .before .before .before .find-attempt .ensures) (c .before .before .before .live-place .ensures) (c .before .live .given .1), sym (c .before .before .before .before .before .before .is-sound-source .ensures) ∙ not-false _ (c .before .before .before .before .before .if1 .left))
 
 returns-3 : tie.Need-returns-3
-returns-3 c = c .finalize-live .ensures ∙ ap (finalizeReply (c .before .before .before .before .before .before .before .before .args .b)) (with-live (c .before .before .before .before .before .before .before .before .args .t .0) (view (c .before .before .before .before .before .before .before .before .args .b)) (c .before .before .before .before .before .find-attempt .ensures) (c .before .before .before .before .live-place .ensures) (finalized none) (finalizeLive (c .before .before .before .before .before .before .before .before .args .source) (c .before .before .before .before .before .before .before .before .args .joined)) (c .before .before .live .given .1) ∙ source-sound (c .before .before .before .before .before .before .before .before .args .source) (c .before .before .before .before .before .before .before .before .args .joined) (c .before .before .before .before .before .before .before .before .args .t .0) (view (c .before .before .before .before .before .before .before .before .args .b)) (sym (c .before .before .before .before .before .before .before .is-sound-source .ensures) ∙ not-false _ (c .before .before .before .before .before .before .if1 .left)))
+returns-3 c = c .finalize-live .ensures ∙ ap (finalizeReply (c .before .before .before .before .before .before .before .before .args .b)) (with-live (c .before .before .before .before .before .before .before .before .args .t .0) (view (c .before .before .before .before .before .before .before .before .args .b)) (c .before .before .before .before .before .find-attempt .ensures) (c .before .before .before .before .live-place .ensures) none (finalizeLive (c .before .before .before .before .before .before .before .before .args .source) (c .before .before .before .before .before .before .before .before .args .joined)) (c .before .before .live .given .1) ∙ source-sound (c .before .before .before .before .before .before .before .before .args .source) (c .before .before .before .before .before .before .before .before .args .joined) (c .before .before .before .before .before .before .before .before .args .t .0) (view (c .before .before .before .before .before .before .before .before .args .b)) (sym (c .before .before .before .before .before .before .before .is-sound-source .ensures) ∙ not-false _ (c .before .before .before .before .before .before .if1 .left)))
 
 pub finalize-attempt-sound-spec : {M : Type 1} → statement M
 finalize-attempt-sound-spec =

@@ -3,7 +3,6 @@ use borrow.Author.Needs.{needs}
 use mathlib.Core.Option.{none}
 use mathlib.Core.Path.{ap, _∙_}
 use Rattle.book.specs.Model.{view}
-use Rattle.rules.specs.Call.{finalized}
 use Rattle.part_replies.specs.Reply.{finalizeReply}
 use Rattle.part_attempt_answers.specs.Live.{inactive-never, inactive-issued}
 use Rattle.call_finalize_attempt.specs.Finalizing.{none-ended}
@@ -11,10 +10,10 @@ use Rattle.call_finalize_attempt.proofs.finalize_inactive.Statement.{st
 use Rattle.call_finalize_attempt.proofs.finalize_inactive.Tie as tie
 
 returns : tie.Need-returns
-returns c = c .finalize-refused .ensures ∙ ap (finalizeReply (c .before .before .before .args .b)) (inactive-never (view (c .before .before .before .args .b)) (finalized none) (c .before .before .before .args .place) (c .before .before .is-never-issued .ensures) (c .before .if1 .taken))
+returns c = c .finalize-refused .ensures ∙ ap (finalizeReply (c .before .before .before .args .b)) (inactive-never (view (c .before .before .before .args .b)) none (c .before .before .before .args .place) (c .before .before .is-never-issued .ensures) (c .before .if1 .taken))
 
 returns-2 : tie.Need-returns-2
-returns-2 c = none-ended (c .before .before .before .args .b) (c .before .before .before .pre) (c .zero .ensures) (inactive-issued (view (c .before .before .before .args .b)) (finalized none) (c .before .before .before .args .place) (c .before .before .is-never-issued .ensures) (c .before .if1 .left))
+returns-2 c = none-ended (c .before .before .before .args .b) (c .before .before .before .pre) (c .zero .ensures) (inactive-issued (view (c .before .before .before .args .b)) none (c .before .before .before .args .place) (c .before .before .is-never-issued .ensures) (c .before .if1 .left))
 
 pub finalize-inactive-spec : {M : Type 1} → statement M
 finalize-inactive-spec =

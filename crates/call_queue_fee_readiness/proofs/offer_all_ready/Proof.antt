@@ -9,7 +9,6 @@ use Rattle.base_lists.specs.Laws.{rest-step}
 use Rattle.book.specs.declared.SubmittedTx.{SubmittedTx}
 use Rattle.book.specs.Model.{view}
 use Rattle.book.specs.Zero.{zeroSubmitted}
-use Rattle.rules.specs.Call.{noValue}
 use Rattle.rules.specs.Steps.{runBook}
 use Rattle.rules.specs.Calls.QueueFeeReadiness.{queueFeeReadiness}
 use Rattle.part_lookup.specs.Normal.{sound-normal, submitted-are}
@@ -35,7 +34,7 @@ offer-ready-requires : tie.Need-offer-ready-requires Inv-loop μ-loop
 offer-ready-requires c κs = c .before .before .loop .inv .2 .sound
 
 returns : tie.Need-returns Inv-loop μ-loop
-returns c = full-ends noValue (c .before .offer-ready .result .book) (runBook queueFeeReadiness (view (c .before .before .before .before .before .args .b))) (c .if1 .taken)
+returns c = full-ends tt (c .before .offer-ready .result .book) (runBook queueFeeReadiness (view (c .before .before .before .before .before .args .b))) (c .if1 .taken)
     (each-full ready-each (c .before .offer-ready .result .book) (c .before .before .before .before .loop .inv .2)
     (rest-step (view (c .before .before .before .before .before .args .b) .submitted) (c .before .before .before .before .loop .i) zeroSubmitted (omega (arith, c .before .before .before .before .loop .inv .1, c .before .before .before .loop-test .taken)) ∙ ap (λ (t : SubmittedTx). t ∷ drop (c .before .before .before .before .loop .i + 1) (view (c .before .before .before .before .before .args .b) .submitted)) (sym (c .before .before .submitted-at .ensures)))
     (c .if1 .taken) (c .before .offer-ready .ensures))

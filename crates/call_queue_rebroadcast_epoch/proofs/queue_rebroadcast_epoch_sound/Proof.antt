@@ -1,7 +1,6 @@
 -- More than 64 ids the rules refuse with 2; else the call is the rebroadcast of the list, whose end `settled` turns into the reply.
 use mathlib.Core.Path.{_∙_}
 use Rattle.book.specs.Model.{view}
-use Rattle.rules.specs.Call.{noValue}
 use Rattle.rules.specs.Steps.{runBook}
 use Rattle.rules.specs.Calls.QueueRebroadcastEpoch as rules
 use Rattle.part_offer.specs.Ends.{refused-is, ends-as, settled-is}
@@ -18,7 +17,7 @@ rebroadcast-requires c κs = c .before .before .pre
 
 returns-2 : tie.Need-returns-2
 returns-2 c = c .settled .ensures ∙ settled-is (c .before .before .before .before .args .b) (c .before .rebroadcast .result .full) (c .before .rebroadcast .result .book) (runBook (rules.queueRebroadcastEpoch (c .before .before .before .before .args .ids .now) (c .before .before .before .before .args .trigger)) (view (c .before .before .before .before .args .b)))
-    (ends-as noValue (c .before .rebroadcast .result .book) (runBook (rules.rebroadcast (c .before .before .before .before .args .trigger) (c .before .before .before .before .args .ids .now)) (view (c .before .before .before .before .args .b))) (c .before .rebroadcast .result .full) (epoch-taken (c .before .before .before .before .args .ids .now) (c .before .before .before .before .args .trigger) (view (c .before .before .before .before .args .b)) (c .before .before .if1 .left)) (c .before .rebroadcast .ensures))
+    (ends-as tt (c .before .rebroadcast .result .book) (runBook (rules.rebroadcast (c .before .before .before .before .args .trigger) (c .before .before .before .before .args .ids .now)) (view (c .before .before .before .before .args .b))) (c .before .rebroadcast .result .full) (epoch-taken (c .before .before .before .before .args .ids .now) (c .before .before .before .before .args .trigger) (view (c .before .before .before .before .args .b)) (c .before .before .if1 .left)) (c .before .rebroadcast .ensures))
 
 pub queue-rebroadcast-epoch-sound-spec : {M : Type 1} → statement M
 queue-rebroadcast-epoch-sound-spec =

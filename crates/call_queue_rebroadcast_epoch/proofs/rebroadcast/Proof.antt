@@ -4,7 +4,6 @@ use Prim.Native.Nat.{_-_, _≤_}
 use lib.ListN.{length, drop, drop-of-length-le}
 use Rattle.base_lists.specs.Laws.{rest-step}
 use Rattle.book.specs.Model.{view}
-use Rattle.rules.specs.Call.{noValue}
 use Rattle.rules.specs.Steps.{runBook}
 use Rattle.rules.specs.Calls.QueueRebroadcastEpoch as rules
 use Rattle.part_offer.specs.Ends.{full-ends}
@@ -26,7 +25,7 @@ rebroadcast-one-requires : tie.Need-rebroadcast-one-requires Inv-loop μ-loop
 rebroadcast-one-requires c κs = c .before .before .loop .inv .1 .sound
 
 returns : tie.Need-returns Inv-loop μ-loop
-returns c = full-ends noValue (c .before .rebroadcast-one .result .book) (runBook (rules.rebroadcast (c .before .before .before .before .before .before .args .trigger) (c .before .before .before .before .before .before .args .ids .now)) (view (c .before .before .before .before .before .before .args .b))) (c .if1 .taken)
+returns c = full-ends tt (c .before .rebroadcast-one .result .book) (runBook (rules.rebroadcast (c .before .before .before .before .before .before .args .trigger) (c .before .before .before .before .before .before .args .ids .now)) (view (c .before .before .before .before .before .before .args .b))) (c .if1 .taken)
     (each-full (rebroadcast-each (c .before .before .before .before .before .before .args .trigger)) (c .before .rebroadcast-one .result .book) (c .before .before .before .before .loop .inv .1) (rest-step (c .before .before .before .before .before .before .args .ids .now) (c .before .before .before .before .loop .i) 0 (c .before .before .before .loop-test .taken)) (c .if1 .taken) (c .before .rebroadcast-one .ensures))
 
 loop-again : tie.Need-loop-again Inv-loop μ-loop

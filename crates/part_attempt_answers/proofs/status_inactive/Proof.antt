@@ -3,7 +3,6 @@ use borrow.Author.Needs.{needs}
 use mathlib.Core.Path.{ap, _∙_}
 use Rattle.book.specs.Model.{view}
 use Rattle.book_answers.specs.declared.SubmissionAttemptStatus.the-variants.{Stale}
-use Rattle.rules.specs.Call.{statusIs}
 use Rattle.part_replies.specs.Reply.{statusReply}
 use Rattle.part_attempt_answers.specs.Live.{inactive-never, inactive-issued}
 use Rattle.part_attempt_answers.specs.Answers.{status-ended}
@@ -11,10 +10,10 @@ use Rattle.part_attempt_answers.proofs.status_inactive.Statement.{state
 use Rattle.part_attempt_answers.proofs.status_inactive.Tie as tie
 
 returns : tie.Need-returns
-returns c = c .status-refused .ensures ∙ ap (statusReply (c .before .before .before .args .b)) (inactive-never (view (c .before .before .before .args .b)) (statusIs Stale) (c .before .before .before .args .place) (c .before .before .is-never-issued .ensures) (c .before .if1 .taken))
+returns c = c .status-refused .ensures ∙ ap (statusReply (c .before .before .before .args .b)) (inactive-never (view (c .before .before .before .args .b)) Stale (c .before .before .before .args .place) (c .before .before .is-never-issued .ensures) (c .before .if1 .taken))
 
 returns-2 : tie.Need-returns-2
-returns-2 c = c .status-done .ensures ∙ status-ended (c .before .before .before .args .b) Stale ((c .before .before .before .pre) .held) (inactive-issued (view (c .before .before .before .args .b)) (statusIs Stale) (c .before .before .before .args .place) (c .before .before .is-never-issued .ensures) (c .before .if1 .left))
+returns-2 c = c .status-done .ensures ∙ status-ended (c .before .before .before .args .b) Stale ((c .before .before .before .pre) .held) (inactive-issued (view (c .before .before .before .args .b)) Stale (c .before .before .before .args .place) (c .before .before .is-never-issued .ensures) (c .before .if1 .left))
 
 pub status-inactive-spec : {M : Type 1} → statement M
 status-inactive-spec =

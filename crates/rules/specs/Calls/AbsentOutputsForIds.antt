@@ -7,7 +7,6 @@ use Rattle.base_coin_string.specs.CoinList.{coinsIn, coinListb}
 use Rattle.book.specs.declared.SubmittedEntry.{SubmittedEntry}
 use Rattle.book.specs.Sound.{idOf}
 use Rattle.book_coins.specs.Coins.{expectedOutputCoins}
-use Rattle.rules.specs.Call.{Value}
 use Rattle.rules.specs.Calls.Common.{writing}
 use Rattle.rules.specs.CoinLists.{encodeCoins}
 use Rattle.rules.specs.Doors.{idsOk, among}
@@ -17,7 +16,7 @@ unfoldable pub absentOutputs : List (List ℕ) → SubmittedEntry → List (List
 unfolding among expectedOutputCoins
 absentOutputs absent e = filterb (among absent) (expectedOutputCoins (e .«base_bundle»))
 
-unfoldable pub absentOutputsForIds : List ℕ → List ℕ → ℕ → Rule Value
+unfoldable pub absentOutputsForIds : List ℕ → List ℕ → ℕ → Rule (List ℕ)
 unfolding idsOk absentOutputs encodeCoins writing
 absentOutputsForIds is absent room = cond (idsOk is && coinListb absent)
     (do

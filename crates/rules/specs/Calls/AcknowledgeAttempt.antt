@@ -4,14 +4,14 @@ use mathlib.Core.Bool.{cond, not}
 use Rattle.base_lists.specs.Bytes.{eqs}
 use Rattle.book.specs.declared.SubmittedTx.{SubmittedTx}
 use Rattle.book.specs.Sound.{idOf}
+use Rattle.book_answers.specs.declared.SubmissionAttemptStatus.{SubmissionAttemptStatus}
 use Rattle.book_answers.specs.declared.SubmissionAttemptStatus.the-variants.{Applied, Stale}
-use Rattle.rules.specs.Call.{Value, statusIs}
 use Rattle.rules.specs.Calls.Common.{withLive}
 use Rattle.rules.specs.Parts.{currentFingerprint}
 use Rattle.rules.specs.Rule.{done, acknowledge, unqueue, note, revise, setAside, Rule, undo, _>>=_, _>>_, step}
 use Rattle.rules.specs.Steps.Slots.{resolved}
 
-unfoldable pub acknowledgeLive : SubmittedTx → Rule Value
+unfoldable pub acknowledgeLive : SubmittedTx → Rule SubmissionAttemptStatus
 unfolding currentFingerprint resolved
 acknowledgeLive s =
     cond (not (s .slots .«active_attempt» .attempt .«finalized_variant_fingerprint» .present)) (undo 6)
@@ -20,9 +20,9 @@ acknowledgeLive s =
       step (revise (idOf s) (acknowledge (resolved (s .slots .«active_attempt» .attempt))))
       step (setAside (idOf s))
       step (note (unqueue (idOf s)))
-      done (statusIs Applied))
+      done Applied)
     (undo 8))
 
-unfoldable pub acknowledgeAttempt : ℕ → Rule Value
+unfoldable pub acknowledgeAttempt : ℕ → Rule SubmissionAttemptStatus
 unfolding withLive acknowledgeLive
-acknowledgeAttempt t = withLive t (statusIs Stale) acknowledgeLive
+acknowledgeAttempt t = withLive t Stale acknowledgeLive

@@ -2,7 +2,6 @@
 use Prim.Native.Nat.{ℕ}
 use mathlib.Core.Option.{Option, none, some}
 use Rattle.book.specs.declared.DeliveryAttempt.{DeliveryAttempt}
-use Rattle.rules.specs.Call.{Value, attemptIs}
 use Rattle.rules.specs.Calls.Common.{Found, live, aside, gone, neverIssued, find}
 use Rattle.rules.specs.Rule.{done, Rule, _>>=_, _>>_, book}
 
@@ -12,8 +11,8 @@ attemptBy aside = none
 attemptBy gone = none
 attemptBy neverIssued = none
 
-unfoldable pub attempt : ℕ → Rule Value
+unfoldable pub attempt : ℕ → Rule (Option DeliveryAttempt)
 unfolding find
 attempt t = do
   b ← book
-  done (attemptIs (attemptBy (find t b)))
+  done (attemptBy (find t b))

@@ -10,7 +10,6 @@ use Rattle.book.specs.declared.SpendBundle.{SpendBundle}
 use Rattle.book.specs.declared.SubmittedEntry.{SubmittedEntry}
 use Rattle.book.specs.Sound.{idOf}
 use Rattle.book_coins.specs.Coins.{inputCoinIds, expectedOutputCoins}
-use Rattle.rules.specs.Call.{Value, idsAre}
 use Rattle.rules.specs.Doors.{among}
 use Rattle.rules.specs.Parts.{activeEntry, isInputSpent}
 use Rattle.rules.specs.Rule.{done, Rule, undo, _>>=_, _>>_, book}
@@ -26,10 +25,10 @@ rolledBack absent inputs e =
     not (activeEntry e) && (isInputSpent (e .status .«chain_terminality») || anyb (among absent) (expectedOutputCoins (e .«base_bundle»)))
     && allb (among inputs) (outerInputIds (e .«base_bundle»))
 
-unfoldable pub causallyRolledBackIds : List ℕ → List ℕ → Rule Value
+unfoldable pub causallyRolledBackIds : List ℕ → List ℕ → Rule (List ℕ)
 unfolding rolledBack
 causallyRolledBackIds absent inputs = cond (coinListb absent && idListb inputs)
     (do
       b ← book
-      done (idsAre (rising (map idOf (filterb (λ t. rolledBack (coinsIn absent) (idsIn inputs) (t .entry)) (b .submitted))))))
+      done (rising (map idOf (filterb (λ t. rolledBack (coinsIn absent) (idsIn inputs) (t .entry)) (b .submitted)))))
     (undo 2)

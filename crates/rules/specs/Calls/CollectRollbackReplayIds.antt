@@ -7,7 +7,6 @@ use Rattle.book.specs.declared.SubmissionDeliveryGoal.the-variants.{EnsureBroad
 use Rattle.book.specs.declared.DeliveryTrigger.the-variants.{Rollback}
 use Rattle.book.specs.Model.{Book}
 use Rattle.book.specs.Sound.{idOf}
-use Rattle.rules.specs.Call.{Value, noValue}
 use Rattle.rules.specs.Calls.Offer.{offer}
 use Rattle.rules.specs.Doors.{idsOk}
 use Rattle.rules.specs.Rule.{done, reopen, revise, replay, Rule, undo, _>>=_, _>>_, book, step, endTurn}
@@ -20,15 +19,15 @@ markEach b (i ∷ is) = do
     step (revise i reopen))
   markEach b is
 
-unfoldable pub offerAgain : List ℕ → Rule Value
+unfoldable pub offerAgain : List ℕ → Rule (Unit {0})
 unfolding offer
-offerAgain [] = done noValue
+offerAgain [] = done tt
 offerAgain (i ∷ is) = do
   offer i Rollback EnsureBroadcast
   endTurn
   offerAgain is
 
-unfoldable pub collectRollbackReplayIds : List ℕ → Rule Value
+unfoldable pub collectRollbackReplayIds : List ℕ → Rule (Unit {0})
 unfolding idsOk markEach offerAgain
 collectRollbackReplayIds is = cond (idsOk is)
     (do

@@ -8,7 +8,6 @@ use Rattle.base_lists.specs.Lists.{anyb, filterb}
 use Rattle.book.specs.declared.OptionalAttempt.{OptionalAttempt}
 use Rattle.book.specs.declared.SubmittedTx.{SubmittedTx}
 use Rattle.book.specs.Model.{Book}
-use Rattle.rules.specs.Call.{Value, written}
 use Rattle.rules.specs.Rule.{done, retire, note, remove, Rule, undo, _>>=_, _>>_, book, step, endTurn}
 
 -- ---- finding a token
@@ -38,13 +37,13 @@ unfolding liveAt isAside
 find t b = foundBy (ltb t (b .nextToken .0)) (isAside t b) (liveAt t b)
 
 -- refusal 4: "not live and not below next token"
-abbrev pub byLive : Value → (SubmittedTx → Rule Value) → Found → Rule Value
+abbrev pub byLive : {A : Type 0} → A → (SubmittedTx → Rule A) → Found → Rule A
 byLive inactive k (live s) = k s
 byLive inactive k aside = done inactive
 byLive inactive k gone = done inactive
 byLive inactive k neverIssued = undo 4
 
-unfoldable pub withLive : ℕ → Value → (SubmittedTx → Rule Value) → Rule Value
+unfoldable pub withLive : {A : Type 0} → ℕ → A → (SubmittedTx → Rule A) → Rule A
 unfolding find
 withLive t inactive k = do
   b ← book
@@ -66,5 +65,5 @@ withdrawEach (i ∷ is) = do
 
 -- ---- writing into a lent buffer
 -- refusal 12: "buffer shorter than needed"
-unfoldable pub writing : ℕ → List ℕ → Rule Value
-writing room s = cond (leb (length s) room) (done (written s)) (undo 12)
+unfoldable pub writing : ℕ → List ℕ → Rule (List ℕ)
+writing room s = cond (leb (length s) room) (done s) (undo 12)

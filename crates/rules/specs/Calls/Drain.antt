@@ -6,7 +6,7 @@ use Rattle.base_lists.specs.Lists.{elemb}
 use Rattle.book.specs.declared.PendingDelivery.{PendingDelivery}
 use Rattle.book.specs.declared.OptionalId.{OptionalId}
 use Rattle.book.specs.declared.OptionalId.the-variants.{NoId, Of}
-use Rattle.rules.specs.Call.{Value, failures}
+use Rattle.book_answers.specs.declared.SubmissionDrainFailure.{SubmissionDrainFailure}
 use Rattle.rules.specs.Calls.Candidate.{candidate}
 use Rattle.rules.specs.Calls.Plan.{Memory, blank}
 use Rattle.rules.specs.Rule.{done, unqueueAll, note, Rule, _>>=_, _>>_, book, step, endTurn}
@@ -20,15 +20,15 @@ unfoldable pub oneCandidate : ℕ → PendingDelivery → Memory → Rule Memory
 unfolding candidate
 oneCandidate n c a = cond (isOneOf (c .intent .id) (a .removed)) (done a) (candidate n c a)
 
-unfoldable pub candidates : ℕ → List PendingDelivery → Memory → Rule Value
+unfoldable pub candidates : ℕ → List PendingDelivery → Memory → Rule (List SubmissionDrainFailure)
 unfolding oneCandidate
-candidates n [] a = done (failures (a .failed))
+candidates n [] a = done (a .failed)
 candidates n (c ∷ cs) a = do
   a′ ← oneCandidate n c a
   endTurn
   candidates (suc n) cs a′
 
-unfoldable pub drain : Rule Value
+unfoldable pub drain : Rule (List SubmissionDrainFailure)
 unfolding candidates
 drain = do
   b ← book

@@ -1,7 +1,7 @@
 -- `finalize_attempt`. Refusals 3 (the joined bundle), 4, 5, 7, 8, 9 in this order.
 use Prim.Native.Nat.{ℕ}
 use mathlib.Core.Bool.{Bool, true, false, cond, not}
-use mathlib.Core.Option.{none, some}
+use mathlib.Core.Option.{Option, none, some}
 use Rattle.base_lists.specs.Bytes.{eqs}
 use Rattle.book.specs.declared.SpendBundle.{SpendBundle}
 use Rattle.book.specs.declared.SubmittedTx.{SubmittedTx}
@@ -10,7 +10,6 @@ use Rattle.book.specs.Zero.{isZeroBundle}
 use Rattle.book_answers.specs.declared.FinalizedSubmission.{FinalizedSubmission}
 use Rattle.book_answers.specs.declared.SubmissionFeeSource.{SubmissionFeeSource}
 use Rattle.book_answers.specs.declared.SubmissionFeeSource.the-variants.{NotRequested, Joined, JoinFailed, Failed}
-use Rattle.rules.specs.Call.{Value, finalized}
 use Rattle.rules.specs.Calls.Common.{withLive}
 use Rattle.rules.specs.Calls.Finalized.{unusedFee, currentFinal, attachedFinal}
 use Rattle.rules.specs.Parts.{currentFingerprint, feeUnresolved, validate}
@@ -28,12 +27,12 @@ isNotRequested Joined = false
 isNotRequested JoinFailed = false
 isNotRequested Failed = false
 
-unfoldable pub finalizeAs : ℕ → FinalizedSubmission → Rule Value
+unfoldable pub finalizeAs : ℕ → FinalizedSubmission → Rule (Option FinalizedSubmission)
 finalizeAs i r = do
   step (finalise i (r .«variant_fingerprint»))
-  done (finalized (some r))
+  done (some r)
 
-unfoldable pub finalizeWith : SubmissionFeeSource → SpendBundle → SubmittedTx → Rule Value
+unfoldable pub finalizeWith : SubmissionFeeSource → SpendBundle → SubmittedTx → Rule (Option FinalizedSubmission)
 unfolding finalizeAs unusedFee currentFinal attachedFinal
 finalizeWith source j t =
     cond (feeUnresolved (t .entry))
@@ -44,7 +43,7 @@ finalizeWith source j t =
     (finalizeAs (idOf t) (unusedFee (t .slots .«active_attempt» .attempt .goal) (t .entry))))
     (cond (isNotRequested source) (finalizeAs (idOf t) (currentFinal (t .slots .«active_attempt» .attempt .goal) (t .entry))) (undo 9))
 
-unfoldable pub finalizeLive : SubmissionFeeSource → SpendBundle → SubmittedTx → Rule Value
+unfoldable pub finalizeLive : SubmissionFeeSource → SpendBundle → SubmittedTx → Rule (Option FinalizedSubmission)
 unfolding validate currentFingerprint finalizeWith
 finalizeLive source j t =
     cond (t .slots .«active_attempt» .attempt .«finalized_variant_fingerprint» .present) (undo 5)
@@ -56,6 +55,6 @@ unfoldable pub soundSource : SubmissionFeeSource → SpendBundle → Bool
 unfolding soundBundle isZeroBundle
 soundSource source j = cond (isJoined source) (soundBundle j) (isZeroBundle j)
 
-unfoldable pub finalizeAttempt : ℕ → SubmissionFeeSource → SpendBundle → Rule Value
+unfoldable pub finalizeAttempt : ℕ → SubmissionFeeSource → SpendBundle → Rule (Option FinalizedSubmission)
 unfolding soundSource withLive finalizeLive
-finalizeAttempt t source j = cond (soundSource source j) (withLive t (finalized none) (finalizeLive source j)) (undo 3)
+finalizeAttempt t source j = cond (soundSource source j) (withLive t none (finalizeLive source j)) (undo 3)

@@ -2,14 +2,12 @@
 use mathlib.Core.Bool.{cond}
 use Rattle.book.specs.declared.PendingDelivery.{PendingDelivery}
 use Rattle.book.specs.Sound.{soundDelivery}
-use Rattle.rules.specs.Call.{Value, noValue}
-use Rattle.rules.specs.Rule.{done, enqueue, note, Rule, undo, _>>=_, _>>_, step, endTurn}
+use Rattle.rules.specs.Rule.{enqueue, note, Rule, undo, _>>=_, _>>_, step, endTurn}
 
-unfoldable pub queue : PendingDelivery → Rule Value
+unfoldable pub queue : PendingDelivery → Rule (Unit {0})
 unfolding soundDelivery
 queue d = cond (soundDelivery d)
     (do
       step (note (enqueue d))
-      endTurn
-      done noValue)
+      endTurn)
     (undo 3)

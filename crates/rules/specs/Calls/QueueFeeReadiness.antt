@@ -6,20 +6,19 @@ use Rattle.book.specs.declared.SubmittedTx.{SubmittedTx}
 use Rattle.book.specs.declared.DeliveryTrigger.{DeliveryTrigger}
 use Rattle.book.specs.declared.DeliveryTrigger.the-variants.{ProviderReadiness}
 use Rattle.book.specs.Sound.{idOf}
-use Rattle.rules.specs.Call.{Value, noValue}
 use Rattle.rules.specs.Calls.Offer.{offer, goalFor}
 use Rattle.rules.specs.Parts.{feeUnresolved, activeEntry}
 use Rattle.rules.specs.Rule.{done, Rule, _>>=_, _>>_, book, endTurn}
 
-unfoldable pub offerEach : DeliveryTrigger → List SubmittedTx → Rule Value
+unfoldable pub offerEach : DeliveryTrigger → List SubmittedTx → Rule (Unit {0})
 unfolding offer goalFor
-offerEach trigger [] = done noValue
+offerEach trigger [] = done tt
 offerEach trigger (t ∷ ts) = do
   offer (idOf t) trigger (goalFor (t .entry))
   endTurn
   offerEach trigger ts
 
-unfoldable pub queueFeeReadiness : Rule Value
+unfoldable pub queueFeeReadiness : Rule (Unit {0})
 unfolding offerEach
 queueFeeReadiness = do
   b ← book

@@ -5,7 +5,6 @@ use mathlib.Core.List.{List, [], _∷_}
 use Rattle.book.specs.declared.SubmittedTx.{SubmittedTx}
 use Rattle.book.specs.declared.DeliveryTrigger.{DeliveryTrigger}
 use Rattle.book.specs.Sound.{idOf}
-use Rattle.rules.specs.Call.{Value, noValue}
 use Rattle.rules.specs.Calls.Offer.{offer, goalFor}
 use Rattle.rules.specs.Doors.{idsOk}
 use Rattle.rules.specs.Keyed.{pick}
@@ -15,15 +14,15 @@ abbrev pub rebroadcastOf : DeliveryTrigger → List SubmittedTx → Rule (Unit {
 rebroadcastOf trigger [] = done tt
 rebroadcastOf trigger (t ∷ ts) = offer (idOf t) trigger (goalFor (t .entry))
 
-unfoldable pub rebroadcast : DeliveryTrigger → List ℕ → Rule Value
+unfoldable pub rebroadcast : DeliveryTrigger → List ℕ → Rule (Unit {0})
 unfolding pick offer goalFor
-rebroadcast trigger [] = done noValue
+rebroadcast trigger [] = done tt
 rebroadcast trigger (i ∷ is) = do
   b ← book
   rebroadcastOf trigger (pick idOf i (b .submitted))
   endTurn
   rebroadcast trigger is
 
-unfoldable pub queueRebroadcastEpoch : List ℕ → DeliveryTrigger → Rule Value
+unfoldable pub queueRebroadcastEpoch : List ℕ → DeliveryTrigger → Rule (Unit {0})
 unfolding idsOk rebroadcast
 queueRebroadcastEpoch is trigger = cond (idsOk is) (rebroadcast trigger is) (undo 2)

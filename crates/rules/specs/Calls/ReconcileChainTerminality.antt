@@ -12,7 +12,6 @@ use Rattle.book.specs.declared.SubmissionChainTerminality.the-variants.{Active,
 use Rattle.book.specs.Model.{back}
 use Rattle.book.specs.Sound.{idOf}
 use Rattle.book_coins.specs.Coins.{inputCoinIds, expectedOutputCoins}
-use Rattle.rules.specs.Call.{Value, noValue}
 use Rattle.rules.specs.Doors.{idsOk, among}
 use Rattle.rules.specs.Parts.{isLanded}
 use Rattle.rules.specs.Rule.{done, terminality, unqueue, retire, unreplay, note, revise, setAside, Rule, undo, _>>=_, _>>_, book, step, endTurn}
@@ -46,15 +45,15 @@ judge observed spent reorg back t =
     (cond (inputSpent spent (t .entry)) (halt (idOf t) (spentAs reorg (t .entry .status .«chain_terminality»)))
     (cond (elemb (idOf t) back) (step (revise (idOf t) (terminality Active))) (done tt)))
 
-unfoldable pub judgeEach : List (List ℕ) → List (List ℕ) → Bool → List ℕ → List SubmittedTx → Rule Value
+unfoldable pub judgeEach : List (List ℕ) → List (List ℕ) → Bool → List ℕ → List SubmittedTx → Rule (Unit {0})
 unfolding judge
-judgeEach observed spent reorg back [] = done noValue
+judgeEach observed spent reorg back [] = done tt
 judgeEach observed spent reorg back (t ∷ ts) = do
   judge observed spent reorg back t
   endTurn
   judgeEach observed spent reorg back ts
 
-unfoldable pub reconcileChainTerminality : List ℕ → List ℕ → Bool → List ℕ → Rule Value
+unfoldable pub reconcileChainTerminality : List ℕ → List ℕ → Bool → List ℕ → Rule (Unit {0})
 unfolding idsOk judgeEach
 reconcileChainTerminality observed spent reorg back = cond (coinListb observed && idListb spent && idsOk back)
     (do

@@ -8,7 +8,6 @@ use Rattle.base_coin_string.specs.CoinList.{coinsIn, coinListb}
 use Rattle.book.specs.declared.SubmittedEntry.{SubmittedEntry}
 use Rattle.book.specs.Model.{Book}
 use Rattle.book_coins.specs.Coins.{inputCoins, expectedOutputCoins}
-use Rattle.rules.specs.Call.{Value}
 use Rattle.rules.specs.Calls.Common.{writing}
 use Rattle.rules.specs.CoinLists.{risingCoins, encodeCoins}
 use Rattle.rules.specs.Doors.{among}
@@ -23,7 +22,7 @@ unfoldable pub inputCoinsToReconcile : List (List ℕ) → Book → List (List �
 unfolding isReconciled risingCoins
 inputCoinsToReconcile outputs b = risingCoins (flatMap (λ t. inputCoins (t .entry .«base_bundle»)) (filterb (λ t. isReconciled outputs (t .entry)) (b .submitted)))
 
-unfoldable pub reconciliationInputCoins : List ℕ → ℕ → Rule Value
+unfoldable pub reconciliationInputCoins : List ℕ → ℕ → Rule (List ℕ)
 unfolding inputCoinsToReconcile encodeCoins writing
 reconciliationInputCoins outputs room = cond (coinListb outputs)
     (do

@@ -1,17 +1,17 @@
 -- `relinquish_completed_attempt` "changes nothing; a live token gets Stale"; a set-aside one Applied; refusal 4: not set aside and not below next token.
 use Prim.Native.Nat.{ℕ}
+use Rattle.book_answers.specs.declared.SubmissionAttemptStatus.{SubmissionAttemptStatus}
 use Rattle.book_answers.specs.declared.SubmissionAttemptStatus.the-variants.{Applied, Stale}
-use Rattle.rules.specs.Call.{Value, statusIs}
 use Rattle.rules.specs.Calls.Common.{Found, live, aside, gone, neverIssued, find}
 use Rattle.rules.specs.Rule.{done, Rule, undo, _>>=_, _>>_, book}
 
-abbrev pub relinquishBy : Found → Rule Value
-relinquishBy (live s) = done (statusIs Stale)
-relinquishBy aside = done (statusIs Applied)
-relinquishBy gone = done (statusIs Stale)
+abbrev pub relinquishBy : Found → Rule SubmissionAttemptStatus
+relinquishBy (live s) = done Stale
+relinquishBy aside = done Applied
+relinquishBy gone = done Stale
 relinquishBy neverIssued = undo 4
 
-unfoldable pub relinquishCompletedAttempt : ℕ → Rule Value
+unfoldable pub relinquishCompletedAttempt : ℕ → Rule SubmissionAttemptStatus
 unfolding find
 relinquishCompletedAttempt t = do
   b ← book

@@ -5,7 +5,6 @@ use lib.Dec.{eqb, ltb}
 use Rattle.book.specs.declared.Height.{Height}
 use Rattle.book.specs.declared.OptionalHeight.{OptionalHeight}
 use Rattle.book.specs.declared.OptionalHeight.the-variants.{NoHeight, At}
-use Rattle.rules.specs.Call.{Value, noValue, flag, heightIs}
 use Rattle.rules.specs.Rule.{done, beginEpoch, endEpoch, note, Rule, _>>=_, _>>_, book, step}
 
 abbrev pub isAt : OptionalHeight → ℕ → Bool
@@ -17,23 +16,20 @@ isBefore NoHeight n = false
 isBefore (At h) n = ltb (h .0) n
 
 -- "`begin` at the held height is false and changes nothing, else sets it, empties the replayed ids, true"
-unfoldable pub beginReplay : Height → Rule Value
+unfoldable pub beginReplay : Height → Rule Bool
 beginReplay h = do
   b ← book
-  cond (isAt (b .rollback) (h .0)) (done (flag false)) (do
+  cond (isAt (b .rollback) (h .0)) (done false) (do
     step (note (beginEpoch h))
-    done (flag true))
+    done true)
 
 -- "`finish_if_advanced` clears only when height > rollback height"
-unfoldable pub finishReplayIfAdvanced : Height → Rule Value
+unfoldable pub finishReplayIfAdvanced : Height → Rule (Unit {0})
 finishReplayIfAdvanced h = do
   b ← book
-  cond (isBefore (b .rollback) (h .0)) (do
-    step (note endEpoch)
-    done noValue)
-      (done noValue)
+  cond (isBefore (b .rollback) (h .0)) (step (note endEpoch)) (done tt)
 
-unfoldable pub replayRollbackHeight : Rule Value
+unfoldable pub replayRollbackHeight : Rule OptionalHeight
 replayRollbackHeight = do
   b ← book
-  done (heightIs (b .rollback))
+  done (b .rollback)

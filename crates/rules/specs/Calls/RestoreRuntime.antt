@@ -2,16 +2,15 @@
 use Prim.Native.Nat.{ℕ}
 use mathlib.Core.List.{List, [], _∷_, map}
 use Rattle.book.specs.Sound.{idOf}
-use Rattle.rules.specs.Call.{Value, noValue}
 use Rattle.rules.specs.Rule.{done, setAside, Rule, _>>=_, _>>_, book, step}
 
-unfoldable pub setAsideEach : List ℕ → Rule Value
-setAsideEach [] = done noValue
+unfoldable pub setAsideEach : List ℕ → Rule (Unit {0})
+setAsideEach [] = done tt
 setAsideEach (i ∷ is) = do
   step (setAside i)
   setAsideEach is
 
-unfoldable pub restoreRuntime : Rule Value
+unfoldable pub restoreRuntime : Rule (Unit {0})
 unfolding setAsideEach
 restoreRuntime = do
   b ← book

@@ -28,16 +28,16 @@ use Rattle.book.specs.Model.{Book}
 use Rattle.book.specs.Sound.{readableBundle, soundDelivery, idOf, soundBundle, soundEntry, soundSubmitted, soundIntent}
 use Rattle.book_answers.specs.declared.DrainFailureCause.{DrainFailureCause}
 use Rattle.book_answers.specs.declared.SubmissionFeeSource.{SubmissionFeeSource}
-use Rattle.rules.specs.Call.{Call, Value, written}
-use Rattle.rules.specs.Calls.{rules}
+use Rattle.rules.specs.Call.{Call, Value, noValue, failures, finalized, feeIntentIs, statusIs, idsAre, flag, heightIs, attemptIs, written}
+use Rattle.rules.specs.Calls.{rules, nothing}
 use Rattle.rules.specs.CoinLists.{encodeCoins}
 use Rattle.rules.specs.Doors.{idsOk}
 use Rattle.rules.specs.Keyed.{pick}
 use Rattle.rules.specs.Parts.{currentFingerprint, feeUnresolved, activeEntry, intentOf, validate}
-use Rattle.rules.specs.Rule.{done, reopen, revise, replay, Rule, undo, turn, _>>=_, _>>_, step, Outcome, ended, undone, stopped, refused, answered, left}
+use Rattle.rules.specs.Rule.{done, reopen, revise, replay, Rule, undo, turn, _>>=_, _>>_, step, Outcome, ended, undone, stopped, refused, answered, left, _<$>_}
 use Rattle.rules.specs.Steps.Slots.{resolved}
 use Rattle.rules.specs.Calls.AbandonAttempt.{abandonLive, abandonAttempt}
-use Rattle.rules.specs.Calls.AbsentOutputsForIds.{absentOutputs}
+use Rattle.rules.specs.Calls.AbsentOutputsForIds.{absentOutputs, absentOutputsForIds}
 use Rattle.rules.specs.Calls.AcknowledgeAttempt.{acknowledgeLive, acknowledgeAttempt}
 use Rattle.rules.specs.Calls.Candidate.{deliver, met, knownBy, known, unknown, named, unnamed, plannedBy, candidate}
 use Rattle.rules.specs.Calls.ClearLocalArtifacts.{clearLocalArtifacts}
@@ -53,10 +53,10 @@ use Rattle.rules.specs.Calls.QueueFeeReadiness.{offerEach, queueFeeReadiness}
 use Rattle.rules.specs.Calls.QueueRebroadcastEpoch.{rebroadcastOf, rebroadcast, queueRebroadcastEpoch}
 use Rattle.rules.specs.Calls.QueueRetainedDelivery.{queueRetainedDelivery}
 use Rattle.rules.specs.Calls.ReconcileChainTerminality.{outputObserved, inputSpent, spentAs, halt, judge, judgeEach, reconcileChainTerminality}
-use Rattle.rules.specs.Calls.ReconciliationInputCoins.{inputCoinsToReconcile}
+use Rattle.rules.specs.Calls.ReconciliationInputCoins.{inputCoinsToReconcile, reconciliationInputCoins}
 use Rattle.rules.specs.Calls.RelinquishCompletedAttempt.{relinquishBy, relinquishCompletedAttempt}
-use Rattle.rules.specs.Calls.Replay.{isAt, isBefore, beginReplay, finishReplayIfAdvanced}
-use Rattle.rules.specs.Calls.RestoreRuntime.{setAsideEach}
+use Rattle.rules.specs.Calls.Replay.{isAt, isBefore, beginReplay, finishReplayIfAdvanced, replayRollbackHeight}
+use Rattle.rules.specs.Calls.RestoreRuntime.{setAsideEach, restoreRuntime}
 use Rattle.rules.specs.Calls.RetainSubmitted.{toRemove, retainSubmitted}
 use Rattle.rules.specs.Calls.StopAttempt.{stopLive, stopAttempt}
 use Rattle.base_lists.specs.Laws.{and-split, and-both}
@@ -66,7 +66,13 @@ use Rattle.book.specs.SoundLaws.{sound-entry, sound-submitted, SoundLists, soun
 use Rattle.book.specs.Zero.{isZeroBundle}
 use Rattle.rules.specs.Books.{callBook, answerBook}
 use Rattle.rules.specs.Steps.{retainable, runBook}
-use Rattle.rules_laws.specs.Held.{Then, Leaves, held-bind, held-cond, held-run}
+use Rattle.rules.specs.Calls.EmitRetirement.{emitRetirement}
+use Rattle.rules.specs.Calls.DrainRetirements.{drainRetirements}
+use Rattle.rules.specs.Calls.ActiveIds.{activeIds}
+use Rattle.rules.specs.Calls.CausallyRolledBackIds.{causallyRolledBackIds}
+use Rattle.rules.specs.Calls.Attempt.{attempt}
+use Rattle.rules.specs.Calls.WriteArchive.{writeArchive}
+use Rattle.rules_laws.specs.Held.{Then, Leaves, held-bind, held-map, held-cond, held-run}
 use Rattle.rules_laws.specs.Guards.Bare.{runBare, Taken, AtLast, TakenTo, bare-run}
 use Rattle.rules_laws.specs.Sound.Run.{SoundBook}
 use Rattle.rules_laws.specs.Sound.Steps.{sound-step}
@@ -74,10 +80,10 @@ use Rattle.rules_laws.specs.StepRule.Free.{undoes}
 use Rattle.rules_laws.specs.StepRule.Calls.{Numbered, numbered-call}
 
 -- no demand where the rules end
-abbrev Ends : Value → Type 0
+abbrev Ends : {A : Type 0} → A → Type 0
 Ends v = Unit {0}
 
-abbrev pub AllTaken : Rule Value → Type 0
+abbrev pub AllTaken : {A : Type 0} → Rule A → Type 0
 AllTaken r = (b : Book) → SoundLists b → TakenTo Ends b r
 
 taken-cond : {A : Type 0} (P : A → Type 0) (b : Book) (t : Bool) (x y : Rule A) → (t ≡ true → TakenTo P b x) → (t ≡ false → TakenTo P b y) → TakenTo P b (cond t x y)
@@ -89,8 +95,12 @@ After = Then SoundLists Taken AtLast
 taken-bind : {A B : Type 0} (P : B → Type 0) (m : Rule A) (f : A → Rule B) (b : Book) → SoundLists b → TakenTo (After P f) b m → TakenTo P b (m >>= f)
 taken-bind = held-bind SoundLists Taken AtLast
 
+-- the same rules with their answer made into another
+taken-map : {A B : Type 0} (f : A → B) (r : Rule A) → AllTaken r → AllTaken (f <$> r)
+taken-map f r h b s = held-map SoundLists Taken AtLast Ends f r b (h b s)
+
 -- ---- shared parts
-taken-withdraws : (r : Rule Value) → AllTaken r → (is : List ℕ) → AllTaken (withdrawEach is >> r)
+taken-withdraws : {A : Type 0} (r : Rule A) → AllTaken r → (is : List ℕ) → AllTaken (withdrawEach is >> r)
 unfolding withdrawEach withdraw
 taken-withdraws r h [] b s = h b s
 taken-withdraws r h (i ∷ is) b s = (refl, λ c x. (refl, λ d y. taken-withdraws r h is d y))
@@ -107,25 +117,25 @@ taken-offerTo P h w g q (t ∷ ts) k b =
     taken-cond P b (not q && deliverable w g t) _ _ (λ e. (redelivery-sound w g (t .entry) (sound-submitted t (u .0) .entry), λ c x. h)) (λ e. h)
 
 -- the rules behind an offer
-taken-offered : (i : ℕ) (w : DeliveryTrigger) (g : SubmissionDeliveryGoal) (r : Unit {0} → Rule Value) → AllTaken (r tt) → AllTaken (offer i w g >>= r)
+taken-offered : (i : ℕ) (w : DeliveryTrigger) (g : SubmissionDeliveryGoal) (r : Unit {0} → Rule (Unit {0})) → AllTaken (r tt) → AllTaken (offer i w g >>= r)
 unfolding offer pick
 taken-offered i w g r h b s =
     taken-bind Ends (offerTo w g (isQueued i b) (pick idOf i (b .submitted))) r b s
     (taken-offerTo (After Ends r) h w g (isQueued i b) (pick idOf i (b .submitted)) (all-sub soundSubmitted (filter-sub (λ t. eqb (idOf t) i) (b .submitted)) (s .submitted)) b)
 
-taken-byLive : (v : Value) (k : SubmittedTx → Rule Value) (b : Book) → ((t : SubmittedTx) → TakenTo Ends b (k t)) → (f : Found) → TakenTo Ends b (byLive v k f)
+taken-byLive : {A : Type 0} (v : A) (k : SubmittedTx → Rule A) (b : Book) → ((t : SubmittedTx) → TakenTo Ends b (k t)) → (f : Found) → TakenTo Ends b (byLive v k f)
 taken-byLive v k b h (live t) = h t
 taken-byLive v k b h aside = tt
 taken-byLive v k b h gone = tt
 taken-byLive v k b h neverIssued = tt
 
-taken-live : (t : ℕ) (v : Value) (k : SubmittedTx → Rule Value) → ((s : SubmittedTx) → AllTaken (k s)) → AllTaken (withLive t v k)
+taken-live : {A : Type 0} (t : ℕ) (v : A) (k : SubmittedTx → Rule A) → ((s : SubmittedTx) → AllTaken (k s)) → AllTaken (withLive t v k)
 unfolding withLive
 taken-live t v k h b s = taken-byLive v k b (λ u. h u b s) (find t b)
 
 taken-writing : (room : ℕ) (s : List ℕ) → AllTaken (writing room s)
 unfolding writing
-taken-writing room s b k = taken-cond Ends b (leb (length s) room) (done (written s)) (undo 12) (λ e. tt) (λ e. tt)
+taken-writing room s b k = taken-cond Ends b (leb (length s) room) (done s) (undo 12) (λ e. tt) (λ e. tt)
 
 -- ---- queue
 taken-queue : (d : PendingDelivery) → AllTaken (queue d)
@@ -295,7 +305,7 @@ unfolding offerAgain
 taken-offerAgain [] b s = tt
 taken-offerAgain (i ∷ is) b s = taken-offered i Rollback EnsureBroadcast (λ _. turn (offerAgain is)) (taken-offerAgain is) b s
 
-taken-marks : (b0 : Book) (r : Rule Value) → AllTaken r → (is : List ℕ) → AllTaken (markEach b0 is >> r)
+taken-marks : {A : Type 0} (b0 : Book) (r : Rule A) → AllTaken r → (is : List ℕ) → AllTaken (markEach b0 is >> r)
 unfolding markEach
 taken-marks b0 r h [] b s = h b s
 taken-marks b0 r h (i ∷ is) b s = go (elemb i (b0 .replayed)) (taken-marks b0 r h is)
@@ -325,34 +335,34 @@ taken-finish h b s = taken-cond Ends b (isBefore (b .rollback) (h .0)) _ _ (λ e
 -- ---- every call
 pub all-taken : (encode : Book → List ℕ) (c : Call) → AllTaken (rules encode c)
 unfolding rules
-all-taken encode (Call.Queue d) = taken-queue d
-all-taken encode (Call.QueueRebroadcastEpoch is w) = taken-epoch is w
-all-taken encode Call.QueueFeeReadiness = taken-readiness
-all-taken encode (Call.QueueRetainedDelivery i w g) = taken-retained-delivery i w g
-all-taken encode Call.Drain = taken-drain
-all-taken encode (Call.FinalizeAttempt t source j) = taken-finalize t source j
-all-taken encode (Call.FeeIntentForAttempt t) = taken-fee t
-all-taken encode (Call.AcknowledgeAttempt t) = taken-acknowledge t
-all-taken encode (Call.StopAttempt t) = taken-stop t
-all-taken encode (Call.AbandonAttempt t) = taken-abandon t
-all-taken encode (Call.RelinquishCompletedAttempt t) = taken-relinquish t
-all-taken encode (Call.RetainSubmitted is) = taken-retain-submitted is
-all-taken encode (Call.EmitRetirement i) = λ b s. (refl, λ c x. tt)
-all-taken encode Call.DrainRetirements = λ b s. (refl, λ c x. tt)
-all-taken encode (Call.ReconciliationInputCoins outputs room) = λ b s. taken-cond Ends b (coinListb outputs) _ _ (λ e. taken-writing room (encodeCoins (inputCoinsToReconcile (coinsIn outputs) b)) b s) (λ e. tt)
-all-taken encode Call.ActiveIds = λ b s. tt
-all-taken encode (Call.BeginReplay k) = taken-begin k
-all-taken encode (Call.FinishReplayIfAdvanced k) = taken-finish k
-all-taken encode Call.ReplayRollbackHeight = λ b s. tt
-all-taken encode (Call.ReconcileChainTerminality observed spent reorg ids) = taken-reconcile observed spent reorg ids
-all-taken encode (Call.CausallyRolledBackIds absent inputs) = λ b s. taken-cond Ends b (coinListb absent && idListb inputs) _ _ (λ e. tt) (λ e. tt)
-all-taken encode (Call.AbsentOutputsForIds is absent room) = λ b s. taken-cond Ends b (idsOk is && coinListb absent) _ _
-    (λ e. taken-writing room (encodeCoins (flatMap (λ t. absentOutputs (coinsIn absent) (t .entry)) (filterb (λ t. elemb (idOf t) is) (b .submitted)))) b s) (λ e. tt)
-all-taken encode (Call.CollectRollbackReplayIds is) = taken-collect is
-all-taken encode Call.ClearLocalArtifacts = taken-clear
-all-taken encode Call.RestoreRuntime = λ b s. taken-setAsides (map idOf (b .submitted)) b s
-all-taken encode (Call.Attempt t) = λ b s. tt
-all-taken encode (Call.WriteArchive room) = λ b s. taken-writing room (encode b) b s
+all-taken encode (Call.Queue d) = taken-map nothing (queue d) (taken-queue d)
+all-taken encode (Call.QueueRebroadcastEpoch is w) = taken-map nothing (queueRebroadcastEpoch is w) (taken-epoch is w)
+all-taken encode Call.QueueFeeReadiness = taken-map nothing queueFeeReadiness taken-readiness
+all-taken encode (Call.QueueRetainedDelivery i w g) = taken-map nothing (queueRetainedDelivery i w g) (taken-retained-delivery i w g)
+all-taken encode Call.Drain = taken-map failures drain taken-drain
+all-taken encode (Call.FinalizeAttempt t source j) = taken-map finalized (finalizeAttempt t source j) (taken-finalize t source j)
+all-taken encode (Call.FeeIntentForAttempt t) = taken-map feeIntentIs (feeIntentForAttempt t) (taken-fee t)
+all-taken encode (Call.AcknowledgeAttempt t) = taken-map statusIs (acknowledgeAttempt t) (taken-acknowledge t)
+all-taken encode (Call.StopAttempt t) = taken-map statusIs (stopAttempt t) (taken-stop t)
+all-taken encode (Call.AbandonAttempt t) = taken-map statusIs (abandonAttempt t) (taken-abandon t)
+all-taken encode (Call.RelinquishCompletedAttempt t) = taken-map statusIs (relinquishCompletedAttempt t) (taken-relinquish t)
+all-taken encode (Call.RetainSubmitted is) = taken-map idsAre (retainSubmitted is) (taken-retain-submitted is)
+all-taken encode (Call.EmitRetirement i) = taken-map nothing (emitRetirement i) (λ b s. (refl, λ c x. tt))
+all-taken encode Call.DrainRetirements = taken-map idsAre drainRetirements (λ b s. (refl, λ c x. tt))
+all-taken encode (Call.ReconciliationInputCoins outputs room) = taken-map written (reconciliationInputCoins outputs room) (λ b s. taken-cond Ends b (coinListb outputs) _ _ (λ e. taken-writing room (encodeCoins (inputCoinsToReconcile (coinsIn outputs) b)) b s) (λ e. tt))
+all-taken encode Call.ActiveIds = taken-map idsAre activeIds (λ b s. tt)
+all-taken encode (Call.BeginReplay k) = taken-map flag (beginReplay k) (taken-begin k)
+all-taken encode (Call.FinishReplayIfAdvanced k) = taken-map nothing (finishReplayIfAdvanced k) (taken-finish k)
+all-taken encode Call.ReplayRollbackHeight = taken-map heightIs replayRollbackHeight (λ b s. tt)
+all-taken encode (Call.ReconcileChainTerminality observed spent reorg ids) = taken-map nothing (reconcileChainTerminality observed spent reorg ids) (taken-reconcile observed spent reorg ids)
+all-taken encode (Call.CausallyRolledBackIds absent inputs) = taken-map idsAre (causallyRolledBackIds absent inputs) (λ b s. taken-cond Ends b (coinListb absent && idListb inputs) _ _ (λ e. tt) (λ e. tt))
+all-taken encode (Call.AbsentOutputsForIds is absent room) = taken-map written (absentOutputsForIds is absent room) (λ b s. taken-cond Ends b (idsOk is && coinListb absent) _ _
+    (λ e. taken-writing room (encodeCoins (flatMap (λ t. absentOutputs (coinsIn absent) (t .entry)) (filterb (λ t. elemb (idOf t) is) (b .submitted)))) b s) (λ e. tt))
+all-taken encode (Call.CollectRollbackReplayIds is) = taken-map nothing (collectRollbackReplayIds is) (taken-collect is)
+all-taken encode Call.ClearLocalArtifacts = taken-map nothing clearLocalArtifacts taken-clear
+all-taken encode Call.RestoreRuntime = taken-map nothing restoreRuntime (λ b s. taken-setAsides (map idOf (b .submitted)) b s)
+all-taken encode (Call.Attempt t) = taken-map attemptIs (attempt t) (λ b s. tt)
+all-taken encode (Call.WriteArchive room) = taken-map written (writeArchive encode room) (λ b s. taken-writing room (encode b) b s)
 
 -- on a sound book every call comes to the same with steps that take whatever they are handed: the guards never turn anything away
 pub guards-idle : (encode : Book → List ℕ) (c : Call) (b : Book) → SoundBook b → runBare (rules encode c) b ≡ runBook (rules encode c) b

@@ -31,17 +31,17 @@ use Rattle.rules.specs.Books.{callBook, answerBook}
 use Rattle.book_answers.specs.declared.DrainFailureCause.{DrainFailureCause}
 use Rattle.book_answers.specs.declared.DrainedSubmission.{DrainedSubmission}
 use Rattle.book_answers.specs.declared.SubmissionFeeSource.{SubmissionFeeSource}
-use Rattle.rules.specs.Call.{Call, Value}
-use Rattle.rules.specs.Calls.{rules}
+use Rattle.rules.specs.Call.{Call, Value, noValue, failures, finalized, feeIntentIs, statusIs, idsAre, flag, heightIs, attemptIs, written}
+use Rattle.rules.specs.Calls.{rules, nothing}
 use Rattle.rules.specs.CoinLists.{encodeCoins}
 use Rattle.rules.specs.Doors.{idsOk}
 use Rattle.rules.specs.Keyed.{pick}
 use Rattle.rules.specs.Parts.{currentFingerprint, feeUnresolved, activeEntry, intentOf, validate}
-use Rattle.rules.specs.Rule.{done, reopen, revise, replay, Rule, undo, stop, look, act, turn, _>>=_, _>>_, step, Outcome, ended, undone, stopped, logged, guarded, grows, full, run, Answer, answer, refused, answered, left}
+use Rattle.rules.specs.Rule.{done, reopen, revise, replay, Rule, undo, stop, look, act, turn, _>>=_, _>>_, step, Outcome, ended, undone, stopped, logged, guarded, grows, full, run, Answer, answer, refused, answered, left, _<$>_}
 use Rattle.rules.specs.Steps.{onBook, runBook}
 use Rattle.rules.specs.Steps.Slots.{resolved}
 use Rattle.rules.specs.Calls.AbandonAttempt.{abandonLive, abandonAttempt}
-use Rattle.rules.specs.Calls.AbsentOutputsForIds.{absentOutputs}
+use Rattle.rules.specs.Calls.AbsentOutputsForIds.{absentOutputs, absentOutputsForIds}
 use Rattle.rules.specs.Calls.AcknowledgeAttempt.{acknowledgeLive, acknowledgeAttempt}
 use Rattle.rules.specs.Calls.Candidate.{deliver, met, knownBy, known, unknown, named, unnamed, plannedBy, candidate}
 use Rattle.rules.specs.Calls.ClearLocalArtifacts.{clearLocalArtifacts}
@@ -57,12 +57,18 @@ use Rattle.rules.specs.Calls.QueueFeeReadiness.{offerEach, queueFeeReadiness}
 use Rattle.rules.specs.Calls.QueueRebroadcastEpoch.{rebroadcastOf, rebroadcast, queueRebroadcastEpoch}
 use Rattle.rules.specs.Calls.QueueRetainedDelivery.{queueRetainedDelivery}
 use Rattle.rules.specs.Calls.ReconcileChainTerminality.{outputObserved, inputSpent, spentAs, halt, judge, judgeEach, reconcileChainTerminality}
-use Rattle.rules.specs.Calls.ReconciliationInputCoins.{inputCoinsToReconcile}
+use Rattle.rules.specs.Calls.ReconciliationInputCoins.{inputCoinsToReconcile, reconciliationInputCoins}
 use Rattle.rules.specs.Calls.RelinquishCompletedAttempt.{relinquishBy, relinquishCompletedAttempt}
-use Rattle.rules.specs.Calls.Replay.{isAt, isBefore, beginReplay, finishReplayIfAdvanced}
-use Rattle.rules.specs.Calls.RestoreRuntime.{setAsideEach}
+use Rattle.rules.specs.Calls.Replay.{isAt, isBefore, beginReplay, finishReplayIfAdvanced, replayRollbackHeight}
+use Rattle.rules.specs.Calls.RestoreRuntime.{setAsideEach, restoreRuntime}
 use Rattle.rules.specs.Calls.RetainSubmitted.{toRemove, retainSubmitted}
 use Rattle.rules.specs.Calls.StopAttempt.{stopLive, stopAttempt}
+use Rattle.rules.specs.Calls.EmitRetirement.{emitRetirement}
+use Rattle.rules.specs.Calls.DrainRetirements.{drainRetirements}
+use Rattle.rules.specs.Calls.ActiveIds.{activeIds}
+use Rattle.rules.specs.Calls.CausallyRolledBackIds.{causallyRolledBackIds}
+use Rattle.rules.specs.Calls.Attempt.{attempt}
+use Rattle.rules.specs.Calls.WriteArchive.{writeArchive}
 use Rattle.rules_laws.specs.Sound.Facts.{short-of}
 use Rattle.rules_laws.specs.Sound.Run.{SoundBook}
 use Rattle.rules_laws.specs.StepRule.Free.{runFree, booksAfter, isRefusal, undoes, turnsAway, PacedTo, Settled}
@@ -84,8 +90,12 @@ paced-cond : {A : Type 0} (P : Bool → A → Type 0) (g : Bool) (t : Bool) (x y
 paced-cond P g true x y p q = p
 paced-cond P g false x y p q = q
 
-abbrev pub Paced : Rule Value → Type 0
+abbrev pub Paced : {A : Type 0} → Rule A → Type 0
 Paced r = PacedTo Settled false r
+
+-- the same rules with their answer made into another
+paced-map : {A B : Type 0} (f : A → B) (r : Rule A) → Paced r → Paced (f <$> r)
+paced-map f r p = paced-bind Settled false r (λ a. done (f a)) p
 
 -- ---- shared parts
 paced-withdraw : (P : Bool → Unit {0} → Type 0) → ((g : Bool) → P g tt) → (i : ℕ) → PacedTo P false (withdraw i)
@@ -105,13 +115,13 @@ paced-offer : (P : Bool → Unit {0} → Type 0) → ((g : Bool) → P g tt) →
 unfolding offer
 paced-offer P h i w goal g = λ b. paced-offerTo P h w goal g (isQueued i b) (pick idOf i (b .submitted))
 
-paced-byLive : (v : Value) (k : SubmittedTx → Rule Value) → ((s : SubmittedTx) → Paced (k s)) → (f : Found) → Paced (byLive v k f)
+paced-byLive : {A : Type 0} (v : A) (k : SubmittedTx → Rule A) → ((s : SubmittedTx) → Paced (k s)) → (f : Found) → Paced (byLive v k f)
 paced-byLive v k h (live s) = h s
 paced-byLive v k h aside = refl
 paced-byLive v k h gone = refl
 paced-byLive v k h neverIssued = (refl, refl)
 
-paced-live : (t : ℕ) (v : Value) (k : SubmittedTx → Rule Value) → ((s : SubmittedTx) → Paced (k s)) → Paced (withLive t v k)
+paced-live : {A : Type 0} (t : ℕ) (v : A) (k : SubmittedTx → Rule A) → ((s : SubmittedTx) → Paced (k s)) → Paced (withLive t v k)
 unfolding withLive
 paced-live t v k h = λ b. paced-byLive v k h (find t b)
 
@@ -287,7 +297,7 @@ unfolding offerAgain
 paced-offerAgain [] = refl
 paced-offerAgain (i ∷ is) = paced-bind Settled false (offer i Rollback EnsureBroadcast) _ (paced-offer (λ g a. Paced (offerAgain is)) (λ g. paced-offerAgain is) i Rollback EnsureBroadcast false)
 
-paced-marks : (b : Book) (r : Rule Value) → Paced r → (is : List ℕ) → Paced (markEach b is >> r)
+paced-marks : {A : Type 0} (b : Book) (r : Rule A) → Paced r → (is : List ℕ) → Paced (markEach b is >> r)
 unfolding markEach
 paced-marks b r h [] = h
 paced-marks b r h (i ∷ is) = go (elemb i (b .replayed)) (paced-marks b r h is)
@@ -317,33 +327,33 @@ paced-finish h = λ b. paced-cond Settled false (isBefore (b .rollback) (h .0)) 
 -- ---- every call
 pub paced : (encode : Book → List ℕ) (c : Call) → Paced (rules encode c)
 unfolding rules
-paced encode (Call.Queue d) = paced-queue d
-paced encode (Call.QueueRebroadcastEpoch is w) = paced-epoch is w
-paced encode Call.QueueFeeReadiness = paced-readiness
-paced encode (Call.QueueRetainedDelivery i w g) = paced-retained-delivery i w g
-paced encode Call.Drain = paced-drain
-paced encode (Call.FinalizeAttempt t source j) = paced-finalize t source j
-paced encode (Call.FeeIntentForAttempt t) = paced-fee t
-paced encode (Call.AcknowledgeAttempt t) = paced-acknowledge t
-paced encode (Call.StopAttempt t) = paced-stop t
-paced encode (Call.AbandonAttempt t) = paced-abandon t
-paced encode (Call.RelinquishCompletedAttempt t) = paced-relinquish t
-paced encode (Call.RetainSubmitted is) = paced-retain-submitted is
-paced encode (Call.EmitRetirement i) = (refl, refl)
-paced encode Call.DrainRetirements = λ b. (refl, refl)
-paced encode (Call.ReconciliationInputCoins outputs room) = paced-cond Settled false (coinListb outputs) _ _ (λ b. paced-writing room (encodeCoins (inputCoinsToReconcile (coinsIn outputs) b))) (refl, refl)
-paced encode Call.ActiveIds = λ b. refl
-paced encode (Call.BeginReplay h) = paced-begin h
-paced encode (Call.FinishReplayIfAdvanced h) = paced-finish h
-paced encode Call.ReplayRollbackHeight = λ b. refl
-paced encode (Call.ReconcileChainTerminality observed spent reorg ids) = paced-reconcile observed spent reorg ids
-paced encode (Call.CausallyRolledBackIds absent inputs) = paced-cond Settled false (coinListb absent && idListb inputs) _ _ (λ b. refl) (refl, refl)
-paced encode (Call.AbsentOutputsForIds is absent room) = paced-cond Settled false (idsOk is && coinListb absent) _ _ (λ b. paced-writing room (encodeCoins (flatMap (λ t. absentOutputs (coinsIn absent) (t .entry)) (filterb (λ t. elemb (idOf t) is) (b .submitted))))) (refl, refl)
-paced encode (Call.CollectRollbackReplayIds is) = paced-collect is
-paced encode Call.ClearLocalArtifacts = paced-clear
-paced encode Call.RestoreRuntime = λ b. paced-setAsides (map idOf (b .submitted))
-paced encode (Call.Attempt t) = λ b. refl
-paced encode (Call.WriteArchive room) = λ b. paced-writing room (encode b)
+paced encode (Call.Queue d) = paced-map nothing (queue d) (paced-queue d)
+paced encode (Call.QueueRebroadcastEpoch is w) = paced-map nothing (queueRebroadcastEpoch is w) (paced-epoch is w)
+paced encode Call.QueueFeeReadiness = paced-map nothing queueFeeReadiness paced-readiness
+paced encode (Call.QueueRetainedDelivery i w g) = paced-map nothing (queueRetainedDelivery i w g) (paced-retained-delivery i w g)
+paced encode Call.Drain = paced-map failures drain paced-drain
+paced encode (Call.FinalizeAttempt t source j) = paced-map finalized (finalizeAttempt t source j) (paced-finalize t source j)
+paced encode (Call.FeeIntentForAttempt t) = paced-map feeIntentIs (feeIntentForAttempt t) (paced-fee t)
+paced encode (Call.AcknowledgeAttempt t) = paced-map statusIs (acknowledgeAttempt t) (paced-acknowledge t)
+paced encode (Call.StopAttempt t) = paced-map statusIs (stopAttempt t) (paced-stop t)
+paced encode (Call.AbandonAttempt t) = paced-map statusIs (abandonAttempt t) (paced-abandon t)
+paced encode (Call.RelinquishCompletedAttempt t) = paced-map statusIs (relinquishCompletedAttempt t) (paced-relinquish t)
+paced encode (Call.RetainSubmitted is) = paced-map idsAre (retainSubmitted is) (paced-retain-submitted is)
+paced encode (Call.EmitRetirement i) = paced-map nothing (emitRetirement i) (refl, refl)
+paced encode Call.DrainRetirements = paced-map idsAre drainRetirements (λ b. (refl, refl))
+paced encode (Call.ReconciliationInputCoins outputs room) = paced-map written (reconciliationInputCoins outputs room) (paced-cond Settled false (coinListb outputs) _ _ (λ b. paced-writing room (encodeCoins (inputCoinsToReconcile (coinsIn outputs) b))) (refl, refl))
+paced encode Call.ActiveIds = paced-map idsAre activeIds (λ b. refl)
+paced encode (Call.BeginReplay h) = paced-map flag (beginReplay h) (paced-begin h)
+paced encode (Call.FinishReplayIfAdvanced h) = paced-map nothing (finishReplayIfAdvanced h) (paced-finish h)
+paced encode Call.ReplayRollbackHeight = paced-map heightIs replayRollbackHeight (λ b. refl)
+paced encode (Call.ReconcileChainTerminality observed spent reorg ids) = paced-map nothing (reconcileChainTerminality observed spent reorg ids) (paced-reconcile observed spent reorg ids)
+paced encode (Call.CausallyRolledBackIds absent inputs) = paced-map idsAre (causallyRolledBackIds absent inputs) (paced-cond Settled false (coinListb absent && idListb inputs) _ _ (λ b. refl) (refl, refl))
+paced encode (Call.AbsentOutputsForIds is absent room) = paced-map written (absentOutputsForIds is absent room) (paced-cond Settled false (idsOk is && coinListb absent) _ _ (λ b. paced-writing room (encodeCoins (flatMap (λ t. absentOutputs (coinsIn absent) (t .entry)) (filterb (λ t. elemb (idOf t) is) (b .submitted))))) (refl, refl))
+paced encode (Call.CollectRollbackReplayIds is) = paced-map nothing (collectRollbackReplayIds is) (paced-collect is)
+paced encode Call.ClearLocalArtifacts = paced-map nothing clearLocalArtifacts paced-clear
+paced encode Call.RestoreRuntime = paced-map nothing restoreRuntime (λ b. paced-setAsides (map idOf (b .submitted)))
+paced encode (Call.Attempt t) = paced-map attemptIs (attempt t) (λ b. refl)
+paced encode (Call.WriteArchive room) = paced-map written (writeArchive encode room) (λ b. paced-writing room (encode b))
 
 -- "A call is refused as full exactly if, after some step of the unlimited rules, retained, queue or retirements exceed their limit":
 -- otherwise it comes to what the unlimited rules come to

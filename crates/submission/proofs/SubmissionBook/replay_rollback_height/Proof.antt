@@ -1,7 +1,6 @@
 -- The door's number tells which: the refusal by it, or what the call for a sound book answers.
 use borrow.Author.Needs.{needs}
 use mathlib.Core.Path.{sym, ap, _∙_}
-use Rattle.rules.specs.Calls.{rules}
 use Rattle.submission.specs.Answers.{heightFrom, heightGiven}
 use Rattle.submission.specs.Door.{open-sound, refused, passed}
 use Rattle.submission.proofs.SubmissionBook.replay_rollback_height.Statement.{statement}
@@ -14,7 +13,6 @@ replay-rollback-height-sound-requires : tie.Need-replay-rollback-height-sound-re
 replay-rollback-height-sound-requires c κs = open-sound (c .before .before .args .self .parts) (sym (c .before .door .ensures) ∙ c .if1 .left)
 
 returns-2 : tie.Need-returns-2
-unfolding rules
 returns-2 c = let a = c .before .before .before .before .args in
     passed (a .self) _ (c .before .before .before .door .ensures) (heightGiven (a .self)) (c .before .before .if1 .left) (c .height-answer .ensures ∙ ap heightFrom (c .before .replay-rollback-height-sound .ensures))
 
