@@ -4,7 +4,7 @@ use Prim.Native.Nat.{ℕ, _≤_, _<_}
 use mathlib.Core.Path.{_≡_, sym, ap, _∙_}
 use mathlib.Core.Bool.{Bool, true, false, _&&_}
 use mathlib.Core.List.{List, []}
-use mathlib.Core.Option.{none, some}
+use mathlib.Core.Option.{Option, none, some}
 use lib.Dec.{eqb, leb}
 use lib.ListN.{length}
 use borrow.Author.Tests.{le-leb, lt-leb}
@@ -17,7 +17,6 @@ use Rattle.book.specs.declared.PendingDelivery.{PendingDelivery}
 use Rattle.book.specs.declared.SpendBundle.{SpendBundle}
 use Rattle.book.specs.declared.SubmissionDeliveryGoal.{SubmissionDeliveryGoal}
 use Rattle.archive_form.specs.Parse.{parseDelivery, parseTrigger, parseGoal}
-use Rattle.rules.specs.Call.{Value}
 use Rattle.rules.specs.Calls.FinalizeAttempt.{finalizeAttempt}
 use Rattle.rules.specs.Calls.Queue.{queue}
 use Rattle.rules.specs.Calls.QueueRebroadcastEpoch.{queueRebroadcastEpoch}
@@ -27,10 +26,9 @@ use Rattle.rules.specs.Doors.{idsOk}
 use Rattle.rules.specs.Rule.{Rule}
 use Rattle.rules.specs.Steps.{runBook}
 use Rattle.part_replies.specs.Reply.{doneReply, finalizeReply}
-use Rattle.part_replies.specs.Values.{sourceOf}
 use Rattle.part_replies.specs.declared.DoneReply.{DoneReply}
 use Rattle.part_replies.specs.declared.FinalizeReply.{FinalizeReply}
-use Rattle.part_replies.specs.declared.SubmissionFeeSource.{SubmissionFeeSource}
+use Rattle.book_answers.specs.declared.SubmissionFeeSource.{SubmissionFeeSource}
 use Rattle.c_boundary.specs.Arguments.{given, listed, byteAs, bytesAs, flagIn, gives-undo, gives-book-undo, given-none, given-some, listed-not, listed-well}
 use Rattle.c_boundary.specs.Forms.{noForm, finalForm, gives-absent, gives-book-absent, done-given, final-given}
 use Rattle.c_boundary.specs.Held.{heldIn, Holding}
@@ -39,6 +37,7 @@ use Rattle.codec_forms.specs.Wire.{encOpt}
 use Rattle.codec_answers.specs.Forms.{encodeFinal}
 use Rattle.c_api.specs.Functions.{CCall, Did, back, answered, queue-did, retained-delivery-did, finalize-did, rebroadcast-did, reconcile-did}
 use Rattle.c_api.specs.Laws.{done-as, final-as, flag-over, flag-in, sourceFrom, sourceIn, source-over, source-in, joinedIn}
+use Rattle.book_answers.specs.declared.FinalizedSubmission.{FinalizedSubmission}
 
 -- ---- queue
 module _ (d delivery : List ℕ) where
@@ -56,10 +55,10 @@ module _ (d delivery : List ℕ) where
 
 -- ---- queue_retained_delivery
 module _ (d : List ℕ) (id trigger goal : ℕ) where
-  abbrev offered : DeliveryTrigger → Rule Value
+  abbrev offered : DeliveryTrigger → Rule (Unit {0})
   offered t = given (byteAs parseGoal goal) (λ g. queueRetainedDelivery id t g)
 
-  abbrev delivered : Rule Value
+  abbrev delivered : Rule (Unit {0})
   delivered = given (byteAs parseTrigger trigger) offered
 
   pub delivery-absent : heldIn d ≡ none → Did d (CCall.QueueRetainedDelivery id trigger goal) (back 1 d)
@@ -84,10 +83,10 @@ module _ (d : List ℕ) (id trigger goal : ℕ) where
 
 -- ---- finalize_attempt
 module _ (d : List ℕ) (token source : ℕ) (joined a : List ℕ) where
-  abbrev joining : SubmissionFeeSource → Rule Value
-  joining s = given (joinedIn source joined) (λ j. finalizeAttempt token (sourceOf s) j)
+  abbrev joining : SubmissionFeeSource → Rule (Option FinalizedSubmission)
+  joining s = given (joinedIn source joined) (λ j. finalizeAttempt token s j)
 
-  abbrev finalizing : Rule Value
+  abbrev finalizing : Rule (Option FinalizedSubmission)
   finalizing = given (sourceIn source) joining
 
   pub finalize-absent : heldIn d ≡ none → Did d (CCall.FinalizeAttempt token source joined a) (answered 1 d a)
@@ -102,20 +101,20 @@ module _ (d : List ℕ) (token source : ℕ) (joined a : List ℕ) where
       joined-bad f =
           finalize-did token source joined
           (gives-undo 3 finalForm d a b h finalizing
-          (given-some joining (source-in source e) ∙ given-none (λ (j : SpendBundle). finalizeAttempt token (sourceOf (sourceFrom source)) j) f))
+          (given-some joining (source-in source e) ∙ given-none (λ (j : SpendBundle). finalizeAttempt token (sourceFrom source) j) f))
 
       pub finalize-done : {s : SubmissionFeeSource} {j : SpendBundle} {n : ℕ} {d′ a′ : List ℕ} (r : FinalizeReply) → s ≡ sourceFrom source
-          → joinedIn source joined ≡ some j → r ≡ finalizeReply b (runBook (finalizeAttempt token (sourceOf s) j) (view b))
+          → joinedIn source joined ≡ some j → r ≡ finalizeReply b (runBook (finalizeAttempt token s j) (view b))
           → Gives (finish (r .answer) (r .book) (encOpt (r .present) (encodeFinal (r .finalized))) d a) n d′ a′
           → Did d (CCall.FinalizeAttempt token source joined a) (answered n d′ a′)
       finalize-done {s} {j} r k f q g =
-          let y = given-some joining (source-in source e) ∙ given-some (λ (j : SpendBundle). finalizeAttempt token (sourceOf (sourceFrom source)) j) f in
-          let z = q ∙ ap (λ (x : SubmissionFeeSource). finalizeReply b (runBook (finalizeAttempt token (sourceOf x) j) (view b))) k in
+          let y = given-some joining (source-in source e) ∙ given-some (λ (j : SpendBundle). finalizeAttempt token (sourceFrom source) j) f in
+          let z = q ∙ ap (λ (x : SubmissionFeeSource). finalizeReply b (runBook (finalizeAttempt token x j) (view b))) k in
           finalize-did token source joined (final-given d a b h finalizing r (final-as b (sym y) z) g)
 
 -- ---- queue_rebroadcast_epoch
 module _ (d ids : List ℕ) (trigger : ℕ) where
-  abbrev epoch : Rule Value
+  abbrev epoch : Rule (Unit {0})
   epoch = given (byteAs parseTrigger trigger) (λ t. queueRebroadcastEpoch ids t)
 
   pub epoch-absent : heldIn d ≡ none → Did d (CCall.QueueRebroadcastEpoch ids trigger) (back 1 d)
@@ -155,7 +154,7 @@ module _ (d observed spent : List ℕ) (reorg : ℕ) (ids : List ℕ) where
   abbrev lists : Bool
   lists = coinListb observed && idListb spent && idsOk ids
 
-  abbrev report : Rule Value
+  abbrev report : Rule (Unit {0})
   report = given (flagIn reorg) (λ f. reconcileChainTerminality observed spent f ids)
 
   pub report-absent : heldIn d ≡ none → Did d (CCall.ReconcileChainTerminality observed spent reorg ids) (back 1 d)

@@ -33,13 +33,12 @@ use Rattle.rules.specs.Calls.RetainSubmitted.{retainSubmitted}
 use Rattle.rules.specs.Calls.StopAttempt.{stopAttempt}
 use Rattle.rules.specs.Doors.{idsOk}
 use Rattle.rules.specs.Opened.{opened}
-use Rattle.part_replies.specs.Values.{sourceOf}
 use Rattle.c_boundary.specs.Held.{heldIn}
 use Rattle.c_boundary.specs.Settle.{written, boundary, Gives, GivesBook}
-use Rattle.c_boundary.specs.Forms.{noForm, statusForm, flagForm, heightForm, idsForm, attemptForm, feeIntentForm, finalForm, drainForm}
+use Rattle.c_boundary.specs.Forms.{noForm, statusForm, flagForm, heightForm, idsForm, attemptForm, feeIntentForm, finalForm, drainForm, bytesForm}
 use Rattle.c_boundary.specs.Arguments.{given, listed, byteAs, bytesAs, flagIn}
 use Rattle.c_api.specs.Laws.{sourceIn, joinedIn}
-use Rattle.c_api.specs.Quiet.{GivesBytes, bytesForm, lengthOf}
+use Rattle.c_api.specs.Quiet.{GivesBytes, lengthOf}
 use Rattle.c_whole.specs.Whole.{GivesLength, writeFrom, GivesPlace, readInto}
 
 -- a call of the library, `submission_book_…`. Runs of bytes and of ids are lists of numbers; `answer` and `archive` are the bytes lent for
@@ -113,7 +112,7 @@ pub data Did (d : List ℕ) : CCall → Returned → Type 0 where
   attempt-did : {a : List ℕ} (token : ℕ) {n : ℕ} {d′ a′ : List ℕ} → Gives (boundary attemptForm (attempt token) d a) n d′ a′
       → Did d (Attempt token a) (answered n d′ a′)
   finalize-did : {a : List ℕ} (token source : ℕ) (joined : List ℕ) {n : ℕ} {d′ a′ : List ℕ}
-      → Gives (boundary finalForm (given (sourceIn source) (λ s. given (joinedIn source joined) (λ j. finalizeAttempt token (sourceOf s) j))) d a) n d′ a′
+      → Gives (boundary finalForm (given (sourceIn source) (λ s. given (joinedIn source joined) (λ j. finalizeAttempt token s j))) d a) n d′ a′
       → Did d (FinalizeAttempt token source joined a) (answered n d′ a′)
   retain-did : {a : List ℕ} (removed : List ℕ) {n : ℕ} {d′ a′ : List ℕ} → Gives (boundary idsForm (retainSubmitted removed) d a) n d′ a′
       → Did d (RetainSubmitted removed a) (answered n d′ a′)

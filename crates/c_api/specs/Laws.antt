@@ -15,23 +15,23 @@ use Rattle.book.specs.Zero.{zeroBundle}
 use Rattle.book.specs.declared.BookData.{BookData}
 use Rattle.book.specs.declared.SpendBundle.{SpendBundle}
 use Rattle.archive_form.specs.Parse.{parseBundle}
-use Rattle.rules.specs.Call.{Value}
 use Rattle.rules.specs.Rule.{Rule}
 use Rattle.rules.specs.Steps.{runBook}
 use Rattle.part_replies.specs.Reply.{doneReply, finalizeReply}
 use Rattle.part_replies.specs.declared.DoneReply.{DoneReply}
 use Rattle.part_replies.specs.declared.FinalizeReply.{FinalizeReply}
-use Rattle.part_replies.specs.declared.SubmissionFeeSource.{SubmissionFeeSource}
-use Rattle.part_replies.specs.declared.SubmissionFeeSource.the-variants.{NotRequested, Joined, JoinFailed, Failed}
+use Rattle.book_answers.specs.declared.SubmissionFeeSource.{SubmissionFeeSource}
+use Rattle.book_answers.specs.declared.SubmissionFeeSource.the-variants.{NotRequested, Joined, JoinFailed, Failed}
 use Rattle.c_boundary.specs.Arguments.{given, flagIn, takenWhole, bytesAs}
 use Rattle.c_api.specs.declared.JoinedBundle.{JoinedBundle}
+use Rattle.book_answers.specs.declared.FinalizedSubmission.{FinalizedSubmission}
 
 -- a reply by rules that are given in another form
-pub done-as : (b : BookData) {r : DoneReply} {x y : Rule Value} → x ≡ y → r ≡ doneReply b (runBook x (view b)) → r ≡ doneReply b (runBook y (view b))
-done-as b e h = h ∙ ap (λ (z : Rule Value). doneReply b (runBook z (view b))) e
+pub done-as : (b : BookData) {r : DoneReply} {x y : Rule (Unit {0})} → x ≡ y → r ≡ doneReply b (runBook x (view b)) → r ≡ doneReply b (runBook y (view b))
+done-as b e h = h ∙ ap (λ (z : Rule (Unit {0})). doneReply b (runBook z (view b))) e
 
-pub final-as : (b : BookData) {r : FinalizeReply} {x y : Rule Value} → x ≡ y → r ≡ finalizeReply b (runBook x (view b)) → r ≡ finalizeReply b (runBook y (view b))
-final-as b e h = h ∙ ap (λ (z : Rule Value). finalizeReply b (runBook z (view b))) e
+pub final-as : (b : BookData) {r : FinalizeReply} {x y : Rule (Option FinalizedSubmission)} → x ≡ y → r ≡ finalizeReply b (runBook x (view b)) → r ≡ finalizeReply b (runBook y (view b))
+final-as b e h = h ∙ ap (λ (z : Rule (Option FinalizedSubmission)). finalizeReply b (runBook z (view b))) e
 
 -- ---- a flag
 pub flag-over : (n : ℕ) → 1 < n → flagIn n ≡ none

@@ -11,18 +11,17 @@ use Rattle.codec_forms.specs.Wire.{Ans, got, bad, Parser}
 use native.Mathlib.Omega.{arith}
 use Rattle.codec_cursor.specs.Cursor.{far, Reads, reads-got, reads-bad}
 use Rattle.book.specs.declared.BookData.{BookData}
-use Rattle.rules.specs.Call.{Value}
 use Rattle.rules.specs.Rule.{Rule, undo, run}
 use Rattle.c_boundary.specs.Held.{Holding}
 use Rattle.c_boundary.specs.Settle.{Form, boundary, settled, Gives, GivesBook, gives-as, gives-book-as, boundary-held}
 
 -- a call whose argument must stand for a value
-abbrev pub given : {A : Type 0} → Option A → (A → Rule Value) → Rule Value
+abbrev pub given : {A B : Type 0} → Option A → (A → Rule B) → Rule B
 given none f = undo 3
 given (some x) f = f x
 
 -- a call with lists, which are refused 2 before any byte argument is looked at
-abbrev pub listed : Bool → Rule Value → Rule Value
+abbrev pub listed : {B : Type 0} → Bool → Rule B → Rule B
 listed ok r = cond ok r (undo 2)
 
 abbrev pub taken : {A : Type 0} → Ans A → Option A
@@ -64,23 +63,23 @@ module _ {A : Type 0} {v : A} {e : ℕ} where
   bytes-got p s r q h = ap (takenWhole (length s)) (reads-got r q) ∙ ap (λ (t : Bool). cond t (some v) none) (le-leb (length s) e h)
 
 -- ---- refused at the boundary: n is 2 or 3
-pub gives-undo : (n : ℕ) (form : Form) (d a : List ℕ) (b : BookData) (h : Holding d b) (r : Rule Value) → r ≡ undo n → Gives (boundary form r d a) n d a
+pub gives-undo : {B : Type 0} (n : ℕ) (form : Form B) (d a : List ℕ) (b : BookData) (h : Holding d b) (r : Rule B) → r ≡ undo n → Gives (boundary form r d a) n d a
 unfolding settled run
-gives-undo n form d a b h r e =
-    gives-as (sym (ap (λ (x : Rule Value). boundary form x d a) e ∙ boundary-held form d a b h (undo n)))
+gives-undo {B} n form d a b h r e =
+    gives-as (sym (ap (λ (x : Rule B). boundary form x d a) e ∙ boundary-held form d a b h (undo n)))
     (record { number = refl; book = refl; answer = refl })
 
-pub gives-book-undo : (n : ℕ) (form : Form) (d : List ℕ) (b : BookData) (h : Holding d b) (r : Rule Value) → r ≡ undo n → GivesBook (boundary form r d []) n d
+pub gives-book-undo : {B : Type 0} (n : ℕ) (form : Form B) (d : List ℕ) (b : BookData) (h : Holding d b) (r : Rule B) → r ≡ undo n → GivesBook (boundary form r d []) n d
 gives-book-undo n form d b h r e = let g = gives-undo n form d [] b h r e in record { number = g .number; book = g .book }
 
-pub given-none : {A : Type 0} (f : A → Rule Value) {x : Option A} → x ≡ none → given x f ≡ undo 3
+pub given-none : {A B : Type 0} (f : A → Rule B) {x : Option A} → x ≡ none → given x f ≡ undo 3
 given-none {A} f e = ap (λ (y : Option A). given y f) e
 
-pub given-some : {A : Type 0} (f : A → Rule Value) {x : Option A} {v : A} → x ≡ some v → given x f ≡ f v
+pub given-some : {A B : Type 0} (f : A → Rule B) {x : Option A} {v : A} → x ≡ some v → given x f ≡ f v
 given-some {A} f e = ap (λ (y : Option A). given y f) e
 
-pub listed-not : (r : Rule Value) {ok : Bool} → ok ≡ false → listed ok r ≡ undo 2
+pub listed-not : {B : Type 0} (r : Rule B) {ok : Bool} → ok ≡ false → listed ok r ≡ undo 2
 listed-not r e = ap (λ (t : Bool). listed t r) e
 
-pub listed-well : (r : Rule Value) {ok : Bool} → ok ≡ true → listed ok r ≡ r
+pub listed-well : {B : Type 0} (r : Rule B) {ok : Bool} → ok ≡ true → listed ok r ≡ r
 listed-well r e = ap (λ (t : Bool). listed t r) e

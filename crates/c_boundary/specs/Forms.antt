@@ -2,11 +2,11 @@
 use Prim.Native.Nat.{ℕ, zero, suc, _+_, _-_, _≤_, _<_, zero-le, min}
 use mathlib.Core.Path.{_≡_, refl, sym, ap, _∙_, subst}
 use mathlib.Core.Bool.{Bool, true, false}
-use mathlib.Core.List.{List, [], _∷_, _++_, map}
-use mathlib.Core.Option.{none}
+use mathlib.Core.List.{List, [], _∷_, _++_}
+use mathlib.Core.Option.{Option, none, some}
 use native.Mathlib.Omega.{arith}
 use native.Mathlib.Nat.{sub-zero}
-use lib.ListN.{length, take, drop, replicate, length-append, length-take, length-map}
+use lib.ListN.{length, take, drop, replicate, length-append, length-take}
 use lib.Seq.{take-at}
 use Rattle.base_lists.specs.Lists.{cells}
 use Rattle.codec_forms.specs.Wire.{be, encMany, encOpt, overlay}
@@ -16,10 +16,8 @@ use Rattle.archive_bundle_form.specs.Forms.{encodeBundle, encodeHeight, encodeF
 use Rattle.archive_form.specs.Encode.{encodeHash, encodeAttempt, encodeSlot, goalNumber}
 use Rattle.codec_append.specs.Fits.{Fits}
 use Rattle.codec_answers.specs.Forms.{flagNumber, statusNumber, dispositionNumber, encodeIds, encodeFinal, encodeDrained}
-use Rattle.codec_answers.specs.Drain.{encodeFailure, encodeFailed, encodeSubmissions, encodeFailures}
-use Rattle.part_submitted.specs.Drained.{drainedBack, zeroDrained}
-use Rattle.part_drain_answers.specs.Failures.{failureBack, failure-of, zeroFailure}
-use Rattle.part_drain_answers.specs.DrainReply.{failuresBy, drainReply}
+use Rattle.codec_answers.specs.Drain.{encodeFailure, encodeSubmissions, encodeFailures}
+use Rattle.part_drain_answers.specs.DrainReply.{drainReply}
 use Rattle.part_drain_answers.specs.declared.DrainReply.{DrainReply}
 use Rattle.book.specs.Model.{Book, view, ids64}
 use Rattle.book.specs.Zero.{zeroFeeIntent, noAttempt}
@@ -29,13 +27,12 @@ use Rattle.book.specs.declared.OptionalHash.{OptionalHash}
 use Rattle.book.specs.declared.DeliveryAttempt.{DeliveryAttempt}
 use Rattle.book.specs.declared.OptionalAttempt.{OptionalAttempt}
 use Rattle.book.specs.declared.OptionalHeight.the-variants.{NoHeight}
-use Rattle.rules.specs.Call.{Value, Failure}
-use Rattle.rules.specs.Rule.{Rule, DrainedSubmission, Outcome, ended, undone, stopped}
+use Rattle.book_answers.specs.declared.DrainedSubmission.{DrainedSubmission}
+use Rattle.rules.specs.Rule.{Rule, Outcome, ended, undone, stopped}
 use Rattle.rules.specs.Steps.{runBook}
-use Rattle.part_replies.specs.Values.{statusBy, idsBy, flagBy, heightBy, attemptBy, hasFeeIntent, feeIntentBy, hasFinal, finalBy, zeroFinal}
-use Rattle.part_replies.specs.Reply.{valueOf, doneReply, statusReply, idsReply, flagReply, heightReply, attemptReply, feeIntentReply, finalizeReply}
-use Rattle.part_replies.specs.declared.SubmissionAttemptStatus.the-variants.{Stale}
-use Rattle.part_replies.specs.declared.FinalizedSubmission.{FinalizedSubmission}
+use Rattle.part_replies.specs.Reply.{valueOf, doneReply, statusReply, idsReply, flagReply, heightReply, attemptReply, feeIntentReply, finalizeReply, isSome, orElse, attemptIn}
+use Rattle.book_answers.specs.declared.SubmissionAttemptStatus.the-variants.{Stale}
+use Rattle.book_answers.specs.declared.FinalizedSubmission.{FinalizedSubmission}
 use Rattle.part_replies.specs.declared.DoneReply.{DoneReply}
 use Rattle.part_replies.specs.declared.StatusReply.{StatusReply}
 use Rattle.part_replies.specs.declared.IdsReply.{IdsReply}
@@ -46,41 +43,102 @@ use Rattle.part_replies.specs.declared.FeeIntentReply.{FeeIntentReply}
 use Rattle.part_replies.specs.declared.FinalizeReply.{FinalizeReply}
 use Rattle.c_boundary.specs.Held.{heldIn, Holding}
 use Rattle.c_boundary.specs.Settle.{Left, Form, refusal, boundary, Gives, GivesBook, gives-as, gives-book-as, finish, Tells, boundary-reply, boundary-absent}
+use Rattle.rules.specs.Call.{Value, noValue, failures, finalized, feeIntentIs, statusIs, idsAre, flag, heightIs, attemptIs, written}
+use Rattle.rules.specs.Calls.{nothing}
+use Rattle.book_answers.specs.Zero.{zeroDrained, zeroFailure, zeroFinal}
+use Rattle.book.specs.declared.OptionalHeight.{OptionalHeight}
+use Rattle.book.specs.declared.SubmissionFeeIntent.{SubmissionFeeIntent}
+use Rattle.book_answers.specs.declared.SubmissionAttemptStatus.{SubmissionAttemptStatus}
+use Rattle.book_answers.specs.declared.SubmissionDrainFailure.{SubmissionDrainFailure}
+use Rattle.base_lists.specs.Laws.{take-cells}
 
 -- ---- forms
-abbrev pub noForm : Form
+abbrev pub noForm : {A : Type 0} → Form A
 noForm xs v = []
 
-abbrev pub statusForm : Form
-statusForm xs v = be 1 (statusNumber (statusBy v))
+abbrev pub statusForm : Form SubmissionAttemptStatus
+statusForm xs v = be 1 (statusNumber v)
 
-unfoldable pub idsForm : Form
+unfoldable pub idsForm : Form (List ℕ)
 unfolding encodeIds
-idsForm xs v = encodeIds (idsBy v)
+idsForm xs is = encodeIds (ids64 is)
 
-abbrev pub flagForm : Form
-flagForm xs v = be 1 (flagNumber (flagBy v))
+abbrev pub flagForm : Form Bool
+flagForm xs v = be 1 (flagNumber v)
 
-unfoldable pub heightForm : Form
+unfoldable pub heightForm : Form OptionalHeight
 unfolding encodeHeight
-heightForm xs v = encodeHeight (heightBy v)
+heightForm xs v = encodeHeight v
 
-unfoldable pub attemptForm : Form
+unfoldable pub attemptForm : Form (Option DeliveryAttempt)
 unfolding encodeSlot
-attemptForm xs v = encodeSlot (attemptBy v)
+attemptForm xs v = encodeSlot (attemptIn v)
 
-unfoldable pub feeIntentForm : Form
+unfoldable pub feeIntentForm : Form (Option SubmissionFeeIntent)
 unfolding encOpt encodeFeeIntent
-feeIntentForm xs v = encOpt (hasFeeIntent v) (encodeFeeIntent (feeIntentBy v))
+feeIntentForm xs v = encOpt (isSome v) (encodeFeeIntent (orElse zeroFeeIntent v))
 
-unfoldable pub finalForm : Form
+unfoldable pub finalForm : Form (Option FinalizedSubmission)
 unfolding encOpt encodeFinal
-finalForm xs v = encOpt (hasFinal v) (encodeFinal (finalBy v))
+finalForm xs v = encOpt (isSome v) (encodeFinal (orElse zeroFinal v))
 
 -- what a drain hands out, then its failures
-unfoldable pub drainForm : Form
+unfoldable pub drainForm : Form (List SubmissionDrainFailure)
 unfolding be encMany encodeDrained encodeFailure
-drainForm xs v = (be 1 (length xs) ++ encMany encodeDrained (map drainedBack xs)) ++ (be 1 (length (failuresBy v)) ++ encMany encodeFailure (failuresBy v))
+drainForm xs fs = (be 1 (length xs) ++ encMany encodeDrained xs) ++ (be 1 (length fs) ++ encMany encodeFailure fs)
+
+-- a coin list or an archive: the bytes themselves
+abbrev pub bytesForm : Form (List ℕ)
+bytesForm xs s = s
+
+-- the value of a call in a list: in the form of its own type
+abbrev pub valueForm : Form Value
+valueForm xs noValue = []
+valueForm xs (failures fs) = drainForm xs fs
+valueForm xs (finalized f) = finalForm xs f
+valueForm xs (feeIntentIs f) = feeIntentForm xs f
+valueForm xs (statusIs s) = statusForm xs s
+valueForm xs (idsAre is) = idsForm xs is
+valueForm xs (flag t) = flagForm xs t
+valueForm xs (heightIs h) = heightForm xs h
+valueForm xs (attemptIs a) = attemptForm xs a
+valueForm xs (written s) = bytesForm xs s
+
+-- how the answers of one type stand among the values, and in which form
+pub record ToldAs (A : Type 0) : Type 0 where
+  pub value : A → Value
+  pub form : Form A
+  pub same : (xs : List DrainedSubmission) (v : A) → valueForm xs (value v) ≡ form xs v
+
+abbrev pub asNothing : ToldAs (Unit {0})
+asNothing = record { value = nothing; form = noForm; same = λ xs v. refl }
+
+abbrev pub asStatus : ToldAs SubmissionAttemptStatus
+asStatus = record { value = statusIs; form = statusForm; same = λ xs v. refl }
+
+abbrev pub asIds : ToldAs (List ℕ)
+asIds = record { value = idsAre; form = idsForm; same = λ xs v. refl }
+
+abbrev pub asFlag : ToldAs Bool
+asFlag = record { value = flag; form = flagForm; same = λ xs v. refl }
+
+abbrev pub asHeight : ToldAs OptionalHeight
+asHeight = record { value = heightIs; form = heightForm; same = λ xs v. refl }
+
+abbrev pub asAttempt : ToldAs (Option DeliveryAttempt)
+asAttempt = record { value = attemptIs; form = attemptForm; same = λ xs v. refl }
+
+abbrev pub asFeeIntent : ToldAs (Option SubmissionFeeIntent)
+asFeeIntent = record { value = feeIntentIs; form = feeIntentForm; same = λ xs v. refl }
+
+abbrev pub asFinal : ToldAs (Option FinalizedSubmission)
+asFinal = record { value = finalized; form = finalForm; same = λ xs v. refl }
+
+abbrev pub asDrained : ToldAs (List SubmissionDrainFailure)
+asDrained = record { value = failures; form = drainForm; same = λ xs v. refl }
+
+abbrev pub asBytes : ToldAs (List ℕ)
+asBytes = record { value = written; form = bytesForm; same = λ xs v. refl }
 
 -- the same, of the reply's cells
 unfoldable pub encodeDrain : DrainReply → List ℕ
@@ -88,127 +146,107 @@ unfolding encodeSubmissions encodeFailures
 encodeDrain r = encodeSubmissions (r .«submission_count») (r .submissions) ++ encodeFailures (r .«failure_count») (r .failures)
 
 -- ---- a call on bytes that hold no book
-pub gives-absent : (form : Form) (r : Rule Value) (d a : List ℕ) → heldIn d ≡ none → Gives (boundary form r d a) 1 d a
+pub gives-absent : {A : Type 0} (form : Form A) (r : Rule A) (d a : List ℕ) → heldIn d ≡ none → Gives (boundary form r d a) 1 d a
 gives-absent form r d a e = gives-as (sym (boundary-absent form r d a e)) (record { number = refl; book = refl; answer = refl })
 
-pub gives-book-absent : (form : Form) (r : Rule Value) (d : List ℕ) → heldIn d ≡ none → GivesBook (boundary form r d []) 1 d
+pub gives-book-absent : {A : Type 0} (form : Form A) (r : Rule A) (d : List ℕ) → heldIn d ≡ none → GivesBook (boundary form r d []) 1 d
 gives-book-absent form r d e = gives-book-as (sym (boundary-absent form r d [] e)) (record { number = refl; book = refl })
 
 -- ---- a call's reply, told in its form
-module _ (d a : List ℕ) (b : BookData) (h : Holding d b) (rule : Rule Value) {n : ℕ} {d′ a′ : List ℕ} where
-  pub flag-given : (r : FlagReply) → r ≡ flagReply b (runBook rule (view b)) → Gives (finish (r .answer) (r .book) (be 1 (flagNumber (r .flag))) d a) n d′ a′ → Gives (boundary flagForm rule d a) n d′ a′
-  flag-given r e g =
+module _ (d a : List ℕ) (b : BookData) (h : Holding d b) where
+  pub flag-given : (rule : Rule Bool) {n : ℕ} {d′ a′ : List ℕ} (r : FlagReply) → r ≡ flagReply b (runBook rule (view b)) → Gives (finish (r .answer) (r .book) (be 1 (flagNumber (r .flag))) d a) n d′ a′ → Gives (boundary flagForm rule d a) n d′ a′
+  flag-given rule r e g =
       gives-as (ap (λ (x : FlagReply). finish (x .answer) (x .book) (be 1 (flagNumber (x .flag))) d a) e ∙ boundary-reply flagForm d a b h rule _ (go (runBook rule (view b)))) g
     where
-      go : (o : Outcome Book Value) → Tells flagForm o (be 1 (flagNumber (valueOf false flagBy o)))
+      go : (o : Outcome Book Bool) → Tells flagForm o (be 1 (flagNumber (valueOf false o)))
       go (ended m xs v) = refl
       go (undone k) = tt
       go (stopped m xs k) = tt
 
-  pub status-given : (r : StatusReply) → r ≡ statusReply b (runBook rule (view b)) → Gives (finish (r .answer) (r .book) (be 1 (statusNumber (r .status))) d a) n d′ a′ → Gives (boundary statusForm rule d a) n d′ a′
-  status-given r e g =
+  pub status-given : (rule : Rule SubmissionAttemptStatus) {n : ℕ} {d′ a′ : List ℕ} (r : StatusReply) → r ≡ statusReply b (runBook rule (view b)) → Gives (finish (r .answer) (r .book) (be 1 (statusNumber (r .status))) d a) n d′ a′ → Gives (boundary statusForm rule d a) n d′ a′
+  status-given rule r e g =
       gives-as (ap (λ (x : StatusReply). finish (x .answer) (x .book) (be 1 (statusNumber (x .status))) d a) e ∙ boundary-reply statusForm d a b h rule _ (go (runBook rule (view b)))) g
     where
-      go : (o : Outcome Book Value) → Tells statusForm o (be 1 (statusNumber (valueOf Stale statusBy o)))
+      go : (o : Outcome Book SubmissionAttemptStatus) → Tells statusForm o (be 1 (statusNumber (valueOf Stale o)))
       go (ended m xs v) = refl
       go (undone k) = tt
       go (stopped m xs k) = tt
 
-tells-ids : (o : Outcome Book Value) → Tells idsForm o (encodeIds (valueOf (ids64 []) idsBy o))
+tells-ids : (o : Outcome Book (List ℕ)) → Tells idsForm o (encodeIds (ids64 (valueOf [] o)))
 unfolding idsForm
 tells-ids (ended m xs v) = refl
 tells-ids (undone k) = tt
 tells-ids (stopped m xs k) = tt
 
-tells-height : (o : Outcome Book Value) → Tells heightForm o (encodeHeight (valueOf NoHeight heightBy o))
+tells-height : (o : Outcome Book OptionalHeight) → Tells heightForm o (encodeHeight (valueOf NoHeight o))
 unfolding heightForm
 tells-height (ended m xs v) = refl
 tells-height (undone k) = tt
 tells-height (stopped m xs k) = tt
 
-tells-attempt : (o : Outcome Book Value) → Tells attemptForm o (encodeSlot (valueOf noAttempt attemptBy o))
+tells-attempt : (o : Outcome Book (Option DeliveryAttempt)) → Tells attemptForm o (encodeSlot (attemptIn (valueOf none o)))
 unfolding attemptForm
 tells-attempt (ended m xs v) = refl
 tells-attempt (undone k) = tt
 tells-attempt (stopped m xs k) = tt
 
-tells-fee-intent : (o : Outcome Book Value) → Tells feeIntentForm o (encOpt (valueOf false hasFeeIntent o) (encodeFeeIntent (valueOf zeroFeeIntent feeIntentBy o)))
+tells-fee-intent : (o : Outcome Book (Option SubmissionFeeIntent)) → Tells feeIntentForm o (encOpt (isSome (valueOf none o)) (encodeFeeIntent (orElse zeroFeeIntent (valueOf none o))))
 unfolding feeIntentForm
 tells-fee-intent (ended m xs v) = refl
 tells-fee-intent (undone k) = tt
 tells-fee-intent (stopped m xs k) = tt
 
-tells-final : (o : Outcome Book Value) → Tells finalForm o (encOpt (valueOf false hasFinal o) (encodeFinal (valueOf zeroFinal finalBy o)))
+tells-final : (o : Outcome Book (Option FinalizedSubmission)) → Tells finalForm o (encOpt (isSome (valueOf none o)) (encodeFinal (orElse zeroFinal (valueOf none o))))
 unfolding finalForm
 tells-final (ended m xs v) = refl
 tells-final (undone k) = tt
 tells-final (stopped m xs k) = tt
 
-tells-none : (o : Outcome Book Value) → Tells noForm o []
+tells-none : {A : Type 0} (o : Outcome Book A) → Tells noForm o []
 tells-none (ended m xs v) = refl
 tells-none (undone k) = tt
 tells-none (stopped m xs k) = tt
 
-module _ (d a : List ℕ) (b : BookData) (h : Holding d b) (rule : Rule Value) {n : ℕ} {d′ a′ : List ℕ} where
-  pub ids-given : (r : IdsReply) → r ≡ idsReply b (runBook rule (view b)) → Gives (finish (r .answer) (r .book) (encodeIds (r .ids)) d a) n d′ a′ → Gives (boundary idsForm rule d a) n d′ a′
-  ids-given r e g =
+module _ (d a : List ℕ) (b : BookData) (h : Holding d b) where
+  pub ids-given : (rule : Rule (List ℕ)) {n : ℕ} {d′ a′ : List ℕ} (r : IdsReply) → r ≡ idsReply b (runBook rule (view b)) → Gives (finish (r .answer) (r .book) (encodeIds (r .ids)) d a) n d′ a′ → Gives (boundary idsForm rule d a) n d′ a′
+  ids-given rule r e g =
       gives-as (ap (λ (x : IdsReply). finish (x .answer) (x .book) (encodeIds (x .ids)) d a) e ∙ boundary-reply idsForm d a b h rule _ (tells-ids (runBook rule (view b)))) g
 
-  pub height-given : (r : HeightReply) → r ≡ heightReply b (runBook rule (view b)) → Gives (finish (r .answer) (r .book) (encodeHeight (r .height)) d a) n d′ a′ → Gives (boundary heightForm rule d a) n d′ a′
-  height-given r e g =
+  pub height-given : (rule : Rule OptionalHeight) {n : ℕ} {d′ a′ : List ℕ} (r : HeightReply) → r ≡ heightReply b (runBook rule (view b)) → Gives (finish (r .answer) (r .book) (encodeHeight (r .height)) d a) n d′ a′ → Gives (boundary heightForm rule d a) n d′ a′
+  height-given rule r e g =
       gives-as (ap (λ (x : HeightReply). finish (x .answer) (x .book) (encodeHeight (x .height)) d a) e ∙ boundary-reply heightForm d a b h rule _ (tells-height (runBook rule (view b)))) g
 
-  pub attempt-given : (r : AttemptReply) → r ≡ attemptReply b (runBook rule (view b)) → Gives (finish (r .answer) (r .book) (encodeSlot (r .attempt)) d a) n d′ a′ → Gives (boundary attemptForm rule d a) n d′ a′
-  attempt-given r e g =
+  pub attempt-given : (rule : Rule (Option DeliveryAttempt)) {n : ℕ} {d′ a′ : List ℕ} (r : AttemptReply) → r ≡ attemptReply b (runBook rule (view b)) → Gives (finish (r .answer) (r .book) (encodeSlot (r .attempt)) d a) n d′ a′ → Gives (boundary attemptForm rule d a) n d′ a′
+  attempt-given rule r e g =
       gives-as (ap (λ (x : AttemptReply). finish (x .answer) (x .book) (encodeSlot (x .attempt)) d a) e ∙ boundary-reply attemptForm d a b h rule _ (tells-attempt (runBook rule (view b)))) g
 
-  pub fee-intent-given : (r : FeeIntentReply) → r ≡ feeIntentReply b (runBook rule (view b)) → Gives (finish (r .answer) (r .book) (encOpt (r .present) (encodeFeeIntent (r .«fee_intent»))) d a) n d′ a′ → Gives (boundary feeIntentForm rule d a) n d′ a′
-  fee-intent-given r e g =
+  pub fee-intent-given : (rule : Rule (Option SubmissionFeeIntent)) {n : ℕ} {d′ a′ : List ℕ} (r : FeeIntentReply) → r ≡ feeIntentReply b (runBook rule (view b)) → Gives (finish (r .answer) (r .book) (encOpt (r .present) (encodeFeeIntent (r .«fee_intent»))) d a) n d′ a′ → Gives (boundary feeIntentForm rule d a) n d′ a′
+  fee-intent-given rule r e g =
       gives-as (ap (λ (x : FeeIntentReply). finish (x .answer) (x .book) (encOpt (x .present) (encodeFeeIntent (x .«fee_intent»))) d a) e ∙ boundary-reply feeIntentForm d a b h rule _ (tells-fee-intent (runBook rule (view b)))) g
 
-  pub final-given : (r : FinalizeReply) → r ≡ finalizeReply b (runBook rule (view b)) → Gives (finish (r .answer) (r .book) (encOpt (r .present) (encodeFinal (r .finalized))) d a) n d′ a′ → Gives (boundary finalForm rule d a) n d′ a′
-  final-given r e g =
+  pub final-given : (rule : Rule (Option FinalizedSubmission)) {n : ℕ} {d′ a′ : List ℕ} (r : FinalizeReply) → r ≡ finalizeReply b (runBook rule (view b)) → Gives (finish (r .answer) (r .book) (encOpt (r .present) (encodeFinal (r .finalized))) d a) n d′ a′ → Gives (boundary finalForm rule d a) n d′ a′
+  final-given rule r e g =
       gives-as (ap (λ (x : FinalizeReply). finish (x .answer) (x .book) (encOpt (x .present) (encodeFinal (x .finalized))) d a) e ∙ boundary-reply finalForm d a b h rule _ (tells-final (runBook rule (view b)))) g
 
-pub done-given : (d : List ℕ) (b : BookData) (h : Holding d b) (rule : Rule Value) {n : ℕ} {d′ : List ℕ} (r : DoneReply) → r ≡ doneReply b (runBook rule (view b)) → GivesBook (finish (r .answer) (r .book) [] d []) n d′ → GivesBook (boundary noForm rule d []) n d′
+pub done-given : (d : List ℕ) (b : BookData) (h : Holding d b) (rule : Rule (Unit {0})) {n : ℕ} {d′ : List ℕ} (r : DoneReply) → r ≡ doneReply b (runBook rule (view b)) → GivesBook (finish (r .answer) (r .book) [] d []) n d′ → GivesBook (boundary noForm rule d []) n d′
 done-given d b h rule r e g =
     gives-book-as (ap (λ (x : DoneReply). finish (x .answer) (x .book) [] d []) e ∙ boundary-reply noForm d [] b h rule [] (tells-none (runBook rule (view b)))) g
 
 -- ---- a drain's reply: the cells hold what the rules hand out
-cells-front : {A : Type 0} (z : A) (l : List A) (n : ℕ) → length l ≡ n → take n (cells 16 z l) ≡ l
-cells-front z l n e = take-at l (replicate (16 - length l) z) n e
-
 cells-few : {A : Type 0} (z : A) (l : List A) → length (cells 16 z l) ≡ 16 → length l ≤ 16
 cells-few z l e = omega (arith, length-append l (replicate (16 - length l) z))
 
-submissions-told : (xs : List DrainedSubmission) → length (cells 16 zeroDrained (map drainedBack xs)) ≡ 16 → encodeSubmissions (length xs) (cells 16 zeroDrained (map drainedBack xs)) ≡ be 1 (length xs) ++ encMany encodeDrained (map drainedBack xs)
-unfolding encodeSubmissions
-submissions-told xs h =
-    let q : length (map drainedBack xs) ≡ length xs = length-map xs drainedBack in
-    let m : min (length xs) 16 ≡ length xs = omega (arith, cells-few zeroDrained (map drainedBack xs) h) in
-    ap (λ (n : ℕ). be 1 n ++ encMany encodeDrained (take (length xs) (cells 16 zeroDrained (map drainedBack xs)))) m
-    ∙ ap (λ l. be 1 (length xs) ++ encMany encodeDrained l) (cells-front zeroDrained (map drainedBack xs) (length xs) q)
+cells-told : {A : Type 0} (z : A) (e : A → List ℕ) (xs : List A) → length (cells 16 z xs) ≡ 16
+    → be 1 (min (length xs) 16) ++ encMany e (take (length xs) (cells 16 z xs)) ≡ be 1 (length xs) ++ encMany e xs
+cells-told z e xs h =
+    let m : min (length xs) 16 ≡ length xs = omega (arith, cells-few z xs h) in
+    ap (λ (n : ℕ). be 1 n ++ encMany e (take (length xs) (cells 16 z xs))) m ∙ ap (λ l. be 1 (length xs) ++ encMany e l) (take-cells 16 z xs)
 
-failed-all : (fs : List Failure) → encMany encodeFailed (map failureBack fs) ≡ encMany encodeFailure fs
-unfolding encMany encodeFailed
-failed-all [] = refl
-failed-all (f ∷ fs) =
-    ap (λ (g : Failure). encodeFailure g ++ encMany encodeFailed (map failureBack fs)) (failure-of f) ∙ ap (λ (l : List ℕ). encodeFailure f ++ l) (failed-all fs)
-
-failures-told : (fs : List Failure) → length (cells 16 zeroFailure (map failureBack fs)) ≡ 16 → encodeFailures (length fs) (cells 16 zeroFailure (map failureBack fs)) ≡ be 1 (length fs) ++ encMany encodeFailure fs
-unfolding encodeFailures
-failures-told fs h =
-    let q : length (map failureBack fs) ≡ length fs = length-map fs failureBack in
-    let m : min (length fs) 16 ≡ length fs = omega (arith, cells-few zeroFailure (map failureBack fs) h) in
-    ap (λ (n : ℕ). be 1 n ++ encMany encodeFailed (take (length fs) (cells 16 zeroFailure (map failureBack fs)))) m
-    ∙ ap (λ l. be 1 (length fs) ++ encMany encodeFailed l) (cells-front zeroFailure (map failureBack fs) (length fs) q)
-    ∙ ap (λ (l : List ℕ). be 1 (length fs) ++ l) (failed-all fs)
-
-tells-drain : (b : BookData) (o : Outcome Book Value) → length (drainReply b o .submissions) ≡ 16 → length (drainReply b o .failures) ≡ 16 → Tells drainForm o (encodeDrain (drainReply b o))
-unfolding drainForm encodeDrain
-tells-drain b (ended m xs v) s f =
-    ap (λ (l : List ℕ). l ++ encodeFailures (length (failuresBy v)) (cells 16 zeroFailure (map failureBack (failuresBy v)))) (submissions-told xs s)
-    ∙ ap (λ (l : List ℕ). (be 1 (length xs) ++ encMany encodeDrained (map drainedBack xs)) ++ l) (failures-told (failuresBy v) f)
+tells-drain : (b : BookData) (o : Outcome Book (List SubmissionDrainFailure)) → length (drainReply b o .submissions) ≡ 16 → length (drainReply b o .failures) ≡ 16 → Tells drainForm o (encodeDrain (drainReply b o))
+unfolding drainForm encodeDrain encodeSubmissions encodeFailures
+tells-drain b (ended m xs fs) s f =
+    ap (λ (l : List ℕ). l ++ encodeFailures (length fs) (cells 16 zeroFailure fs)) (cells-told zeroDrained encodeDrained xs s)
+    ∙ ap (λ (l : List ℕ). (be 1 (length xs) ++ encMany encodeDrained xs) ++ l) (cells-told zeroFailure encodeFailure fs f)
 tells-drain b (undone k) s f = tt
 tells-drain b (stopped m xs k) s f = tt
 
@@ -218,7 +256,7 @@ pub record DrainGiven (r : DrainReply) (d a : List ℕ) (n : ℕ) (d′ a′ : L
   pub submissions : length (r .submissions) ≡ 16
   pub failures : length (r .failures) ≡ 16
 
-pub drain-given : (d a : List ℕ) (b : BookData) (h : Holding d b) (rule : Rule Value) {n : ℕ} {d′ a′ : List ℕ} (r : DrainReply) → r ≡ drainReply b (runBook rule (view b)) → DrainGiven r d a n d′ a′ → Gives (boundary drainForm rule d a) n d′ a′
+pub drain-given : (d a : List ℕ) (b : BookData) (h : Holding d b) (rule : Rule (List SubmissionDrainFailure)) {n : ℕ} {d′ a′ : List ℕ} (r : DrainReply) → r ≡ drainReply b (runBook rule (view b)) → DrainGiven r d a n d′ a′ → Gives (boundary drainForm rule d a) n d′ a′
 drain-given d a b h rule r e g =
     let o = runBook rule (view b) in
     let s : length (drainReply b o .submissions) ≡ 16 = ap (λ (x : DrainReply). length (x .submissions)) (sym e) ∙ g .submissions in

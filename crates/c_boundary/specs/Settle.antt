@@ -16,8 +16,8 @@ use Rattle.book.specs.Model.{Book, view, back}
 use Rattle.book.specs.SoundLaws.{view-back}
 use Rattle.book.specs.declared.BookData.{BookData}
 use Rattle.archive_form.specs.Encode.{encodeBook}
-use Rattle.rules.specs.Call.{Value}
-use Rattle.rules.specs.Rule.{Rule, DrainedSubmission, Outcome, ended, undone, stopped, run, full}
+use Rattle.book_answers.specs.declared.DrainedSubmission.{DrainedSubmission}
+use Rattle.rules.specs.Rule.{Rule, Outcome, ended, undone, stopped, run, full, _<$>_, mapped, run-map}
 use Rattle.rules.specs.Steps.{onBook, runBook}
 use Rattle.part_replies.specs.Reply.{answerOf, bookLeft}
 use Rattle.part_replies.specs.declared.CallAnswer.{CallAnswer}
@@ -44,23 +44,39 @@ written n m l d a =
     (refusal 12 d a)
 
 -- how the rules' answer is told in bytes
-abbrev pub Form : Type 0
-Form = List DrainedSubmission → Value → List ℕ
+abbrev pub Form : Type 0 → Type 0
+Form A = List DrainedSubmission → A → List ℕ
 
-unfoldable pub settled : Form → List ℕ → List ℕ → Outcome Book Value → Left
+unfoldable pub settled : {A : Type 0} → Form A → List ℕ → List ℕ → Outcome Book A → Left
 unfolding written
 settled form d a (ended m xs v) = written 0 m (form xs v) d a
 settled form d a (undone n) = refusal n d a
 settled form d a (stopped m xs n) = written n m [] d a
 
-abbrev pub ruled : Form → Rule Value → List ℕ → List ℕ → Option Book → Left
+abbrev pub ruled : {A : Type 0} → Form A → Rule A → List ℕ → List ℕ → Option Book → Left
 ruled form r d a none = refusal 1 d a
 ruled form r d a (some m) = settled form d a (runBook r m)
 
 -- a call by these rules on the book that d holds, with the lent answer a
-unfoldable pub boundary : Form → Rule Value → List ℕ → List ℕ → Left
+unfoldable pub boundary : {A : Type 0} → Form A → Rule A → List ℕ → List ℕ → Left
 unfolding heldIn settled run onBook full
 boundary form r d a = ruled form r d a (heldIn d)
+
+-- rules with their answer made into another, told in a form that gives the same bytes
+module _ {A B : Type 0} (f : A → B) (form : Form A) (form′ : Form B) (same : (xs : List DrainedSubmission) (v : A) → form′ xs (f v) ≡ form xs v) (d a : List ℕ) where
+  pub settled-mapped : (o : Outcome Book A) → settled form′ d a (mapped f o) ≡ settled form d a o
+  unfolding settled
+  settled-mapped (ended m xs v) = ap (λ (l : List ℕ). written 0 m l d a) (same xs v)
+  settled-mapped (undone n) = refl
+  settled-mapped (stopped m xs n) = refl
+
+  pub boundary-mapped : (r : Rule A) → boundary form′ (f <$> r) d a ≡ boundary form r d a
+  unfolding boundary
+  boundary-mapped r = go (heldIn d)
+    where
+      go : (x : Option Book) → ruled form′ (f <$> r) d a x ≡ ruled form r d a x
+      go none = refl
+      go (some m) = ap (settled form′ d a) (run-map (λ b. b) onBook f r m) ∙ settled-mapped (runBook r m)
 
 -- what a function of the boundary leaves
 pub record Gives (l : Left) (n : ℕ) (d a : List ℕ) : Type 0 where
@@ -122,13 +138,13 @@ finish Done b l d a = written 0 (view b) l d a
 finish (Refused n) b l d a = written n (view b) [] d a
 
 -- the bytes l tell the answer
-abbrev pub Tells : Form → Outcome Book Value → List ℕ → Type 0
+abbrev pub Tells : {A : Type 0} → Form A → Outcome Book A → List ℕ → Type 0
 Tells form (ended m xs v) l = l ≡ form xs v
 Tells form (undone n) l = Unit {0}
 Tells form (stopped m xs n) l = Unit {0}
 
-module _ (form : Form) (d a : List ℕ) (b : BookData) (h : Holding d b) where
-  pub finish-settled : (o : Outcome Book Value) (l : List ℕ) → Tells form o l → finish (answerOf o) (bookLeft b o) l d a ≡ settled form d a o
+module _ {A : Type 0} (form : Form A) (d a : List ℕ) (b : BookData) (h : Holding d b) where
+  pub finish-settled : (o : Outcome Book A) (l : List ℕ) → Tells form o l → finish (answerOf o) (bookLeft b o) l d a ≡ settled form d a o
   unfolding settled
   finish-settled (ended m xs v) l t = ap (λ (x : Book). written 0 x l d a) (view-back m) ∙ ap (λ (k : List ℕ). written 0 m k d a) t
   finish-settled (undone n) l t =
@@ -137,15 +153,15 @@ module _ (form : Form) (d a : List ℕ) (b : BookData) (h : Holding d b) where
       ∙ ap (λ (x : List ℕ). record { number = n; book = d; answer = x }) (overlay-none a)
   finish-settled (stopped m xs n) l t = ap (λ (x : Book). written n x [] d a) (view-back m)
 
-  pub boundary-held : (r : Rule Value) → boundary form r d a ≡ settled form d a (runBook r (view b))
+  pub boundary-held : (r : Rule A) → boundary form r d a ≡ settled form d a (runBook r (view b))
   unfolding boundary
   boundary-held r = ap (ruled form r d a) (h .held)
 
   -- a call's reply, put into the buffers
-  pub boundary-reply : (r : Rule Value) (l : List ℕ) → Tells form (runBook r (view b)) l → finish (answerOf (runBook r (view b))) (bookLeft b (runBook r (view b))) l d a ≡ boundary form r d a
+  pub boundary-reply : (r : Rule A) (l : List ℕ) → Tells form (runBook r (view b)) l → finish (answerOf (runBook r (view b))) (bookLeft b (runBook r (view b))) l d a ≡ boundary form r d a
   boundary-reply r l t = finish-settled (runBook r (view b)) l t ∙ sym (boundary-held r)
 
-pub boundary-absent : (form : Form) (r : Rule Value) (d a : List ℕ) → heldIn d ≡ none → boundary form r d a ≡ refusal 1 d a
+pub boundary-absent : {A : Type 0} (form : Form A) (r : Rule A) (d a : List ℕ) → heldIn d ≡ none → boundary form r d a ≡ refusal 1 d a
 unfolding boundary
 boundary-absent form r d a e = ap (ruled form r d a) e
 

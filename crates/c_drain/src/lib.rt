@@ -1,11 +1,11 @@
 // The reply of a drain: the submissions and the failures, in the form of docs/DRIVER.md, into the lent answer. They are laid out first, so
 // that a drain whose answer or book does not fit leaves every lent byte.
+use book_answers::DrainedSubmission;
+use book_answers::SubmissionDrainFailure;
 use c_write::settle;
 use codec_answers::drained::append_failures;
 use codec_answers::drained::append_submissions;
 use part_drain_answers::DrainReply;
-use part_drain_answers::SubmissionDrainFailure;
-use part_submitted::DrainedSubmission;
 ghost use mathlib.Core.Path.{_≡_};
 ghost use lib.ListN.{length};
 ghost use Rattle.c_boundary.specs.Forms.{DrainGiven};

@@ -19,20 +19,20 @@ use Rattle.archive_form.specs.Parse.{readArchive, ArchiveRead, book, broken}
 use Rattle.rules.specs.Call.{Call, Value}
 use Rattle.rules.specs.Calls.{rules}
 use Rattle.rules.specs.Opened.{opened}
-use Rattle.rules.specs.Rule.{DrainedSubmission, Outcome, ended, undone, stopped}
+use Rattle.rules.specs.Rule.{Outcome, ended, undone, stopped}
 use Rattle.rules.specs.Steps.{runBook}
 use Rattle.c_boundary.specs.Held.{bookBytes, heldIn}
 use Rattle.c_boundary.specs.Settle.{Left, settled}
-use Rattle.rules_answers.specs.Kind.{Kind, kindOf, isDrain, asksRoom}
-use Rattle.part_replies.specs.Values.{bytesBy}
+use Rattle.rules_answers.specs.Kind.{kindOf, isDrain, asksRoom}
 use Rattle.rules_answers.specs.Turned.{TurnedAway, turned-away}
-use Rattle.c_boundary_laws.specs.Fits.{formOf}
 use Rattle.c_boundary_laws.specs.Lent.{held-holds, Wrote, wrote, short, written-as}
 use Rattle.c_api.specs.Quiet.{lengthBy}
 use Rattle.c_whole.specs.Whole.{readInto, GivesPlace}
 use Rattle.c_api.specs.Functions.{CCall, Returned, back, counted, OpenDid, ReadDid, Did}
 use Rattle.c_laws.specs.Functions.{Lent, lent, Asked, asks, badList, badValue, callOf}
 use Rattle.c_laws.specs.Told.{told, toldOn, toldIn, Held, no-book, one-book, did-told}
+use Rattle.c_boundary.specs.Forms.{valueForm}
+use Rattle.book_answers.specs.declared.DrainedSubmission.{DrainedSubmission}
 
 -- the functions: 27 calls on a lent book, opening, and reading an archive
 pub data Function : Type 0 where
@@ -57,7 +57,7 @@ pub data Ended (d : List ℕ) : Function → Returned → Type 0 where
 pub data Says (d : List ℕ) : Function → Book → List ℕ → ℕ → Type 0 where
   call-says : (c : CCall) (k : Call) (m : Book) {m′ : Book} {xs : List DrainedSubmission} {v : Value}
       → heldIn d ≡ some m → callOf c ≡ asks k → runBook (rules encodeModel k) m ≡ ended m′ xs v
-      → Says d (OnBook c) m′ (formOf (kindOf k) xs v) (cond (asksRoom (kindOf k)) (length (formOf (kindOf k) xs v)) (lent c .count))
+      → Says d (OnBook c) m′ (valueForm xs v) (cond (asksRoom (kindOf k)) (length (valueForm xs v)) (lent c .count))
   open-says : (token id : ℕ) → Says d (Open token id) (opened token id) [] 0
   read-says : (archive : List ℕ) (place : ℕ) (b : BookData) → readArchive archive ≡ book b → Says d (Read archive place) (view b) [] place
 
@@ -79,28 +79,18 @@ pub data Demand1 (f : Function) (d : List ℕ) (r : Returned) : Type 0 where
   no-archive : (archive : List ℕ) (place : ℕ) → f ≡ Read archive place → readArchive archive ≡ broken (r .count) → r .number ≡ 13 → r .book ≡ d → r .answer ≡ lentTo f .answer → Demand1 f d r
 
 -- ---- calls
-tells : (k : Kind) (xs : List DrainedSubmission) (v : Value) (n : ℕ) → cond (asksRoom k && eqb 0 0) (length (bytesBy v)) n ≡ cond (asksRoom k) (length (formOf k xs v)) n
-tells Kind.nothing xs v n = refl
-tells Kind.status xs v n = refl
-tells Kind.flag xs v n = refl
-tells Kind.height xs v n = refl
-tells Kind.ids xs v n = refl
-tells Kind.attempt xs v n = refl
-tells Kind.feeIntent xs v n = refl
-tells Kind.final xs v n = refl
-tells Kind.drained xs v n = refl
-tells (Kind.inputCoins room) xs v n = refl
-tells (Kind.absentOutputs room) xs v n = refl
-tells (Kind.archive room) xs v n = refl
+tells : (t : Bool) (s : List ℕ) (n : ℕ) → cond (t && eqb 0 0) (length s) n ≡ cond t (length s) n
+tells true s n = refl
+tells false s n = refl
 
 module _ (d : List ℕ) (c : CCall) (k : Call) (m : Book) (e : heldIn d ≡ some m) (q : callOf c ≡ asks k) where
   ended-as : (x : Book) (xs : List DrainedSubmission) (v : Value) → runBook (rules encodeModel k) m ≡ ended x xs v
-      → (t : Bool) (l : Left) → Wrote 0 x (formOf (kindOf k) xs v) d (lent c .answer) t l
-      → Demand1 (OnBook c) d (counted (l .number) (l .book) (l .answer) (cond (asksRoom (kindOf k) && eqb (l .number) 0) (lengthBy (lent c .count) (ended x xs v)) (lent c .count)))
-  ended-as x xs v p true l (wrote h) = new-book x (formOf (kindOf k) xs v) _ (call-says c k m e q p) refl refl refl (tells (kindOf k) xs v (lent c .count))
+      → (t : Bool) (l : Left) → Wrote 0 x (valueForm xs v) d (lent c .answer) t l
+      → Demand1 (OnBook c) d (counted (l .number) (l .book) (l .answer) (cond (asksRoom (kindOf k) && eqb (l .number) 0) (lengthBy valueForm (lent c .count) (ended x xs v)) (lent c .count)))
+  ended-as x xs v p true l (wrote h) = new-book x (valueForm xs v) _ (call-says c k m e q p) refl refl refl (tells (asksRoom (kindOf k)) (valueForm xs v) (lent c .count))
   ended-as x xs v p false l short = old-bytes (λ z. omega arith) refl refl (go (asksRoom (kindOf k)))
     where
-      go : (t : Bool) → cond (t && eqb 12 0) (lengthBy (lent c .count) (ended x xs v)) (lent c .count) ≡ lent c .count
+      go : (t : Bool) → cond (t && eqb 12 0) (lengthBy valueForm (lent c .count) (ended x xs v)) (lent c .count) ≡ lent c .count
       go true = refl
       go false = refl
 
@@ -117,7 +107,7 @@ module _ (d : List ℕ) (c : CCall) (k : Call) (m : Book) (e : heldIn d ≡ some
 
   outcome-as : (o : Outcome Book Value) → runBook (rules encodeModel k) m ≡ o → TurnedAway (isDrain (kindOf k)) (asksRoom (kindOf k)) o → Demand1 (OnBook c) d (told (kindOf k) d (lent c) o)
   unfolding settled
-  outcome-as (ended x xs v) p t = ended-as x xs v p _ _ (written-as 0 x (formOf (kindOf k) xs v) d (lent c .answer))
+  outcome-as (ended x xs v) p t = ended-as x xs v p _ _ (written-as 0 x (valueForm xs v) d (lent c .answer))
   outcome-as (undone n) p t =
       old-bytes (λ z. false≢true (sym (or-false (eqb n 0) _ t .0) ∙ ap (λ (y : ℕ). eqb y 0) z)) refl refl (stays (asksRoom (kindOf k) && eqb n 0))
   outcome-as (stopped x xs n) p t = stopped-as x xs n (t .0) (t .1) p _ _ (written-as n x [] d (lent c .answer))

@@ -14,11 +14,9 @@ use Rattle.archive_form.specs.Encode.{encodeModel}
 use Rattle.rules.specs.Books.{bookAfter}
 use Rattle.rules.specs.Call.{Call, Value, noValue}
 use Rattle.rules.specs.Calls.{rules}
-use Rattle.rules.specs.Rule.{DrainedSubmission, Outcome, ended, undone, stopped, issuedBy}
+use Rattle.rules.specs.Rule.{Outcome, ended, undone, stopped, issuedBy}
 use Rattle.rules.specs.Steps.{runBook}
 use Rattle.c_boundary.specs.Settle.{Left, settled}
-use Rattle.c_boundary.specs.Forms.{drainForm}
-use Rattle.rules_answers.specs.Kind.{drained}
 use Rattle.rules_answers.specs.Turned.{TurnedAway, turned-away}
 use Rattle.c_boundary_laws.specs.Lent.{hasRoom, Wrote, wrote, short, written-as}
 use Rattle.c_api.specs.Functions.{CCall, Returned, Did}
@@ -26,6 +24,8 @@ use Rattle.c_laws.specs.Functions.{lent, callOf, TypedC}
 use Rattle.c_laws.specs.Told.{one-book, did-told}
 use Rattle.c_laws.specs.Listed.{roomFor, heardOf, calls, Ran, no-call, then-call}
 use Rattle.c_laws.specs.Steps.{Good, good-held, Stepped, stepped, Behind, behind, book-append}
+use Rattle.c_boundary.specs.Forms.{valueForm}
+use Rattle.book_answers.specs.declared.DrainedSubmission.{DrainedSubmission}
 
 -- what an outcome says
 abbrev pub valueBy : Outcome Book Value → Value
@@ -35,8 +35,8 @@ valueBy (stopped m xs n) = noValue
 
 -- ---- one drain: with 0 there was room, and the answer has the bytes
 record Wholly (d a : List ℕ) (o : Outcome Book Value) : Type 0 where
-  room : roomFor drained (length d) (length a) o ≡ true
-  bytes : settled drainForm d a o .answer ≡ overlay (drainForm (issuedBy o) (valueBy o)) a
+  room : roomFor (length d) (length a) o ≡ true
+  bytes : settled valueForm d a o .answer ≡ overlay (valueForm (issuedBy o) (valueBy o)) a
 
 module _ (d a : List ℕ) where
   wrote-whole : (m : Book) (s : List ℕ) (t : Bool) (l : Left) → Wrote 0 m s d a t l → l .number ≡ 0 → (t ≡ true) × (l .answer ≡ overlay s a)
@@ -47,16 +47,16 @@ module _ (d a : List ℕ) where
   not-stopped n m true l (wrote q) h e = absurd (omega arith)
   not-stopped n m false l short h e = absurd (omega arith)
 
-  wholly : (o : Outcome Book Value) → TurnedAway true false o → settled drainForm d a o .number ≡ 0 → Wholly d a o
+  wholly : (o : Outcome Book Value) → TurnedAway true false o → settled valueForm d a o .number ≡ 0 → Wholly d a o
   unfolding settled
-  wholly (ended m xs v) t e = let w = wrote-whole m (drainForm xs v) _ _ (written-as 0 m (drainForm xs v) d a) e in record { room = w .0; bytes = w .1 }
+  wholly (ended m xs v) t e = let w = wrote-whole m (valueForm xs v) _ _ (written-as 0 m (valueForm xs v) d a) e in record { room = w .0; bytes = w .1 }
   wholly (undone n) t e = absurd (false≢true (sym (or-false (eqb n 0) (eqb n 12) t .0) ∙ ap (λ (x : ℕ). eqb x 0) e))
   wholly (stopped m xs n) t e = not-stopped n m _ _ (written-as n m [] d a) (t .1) e
 
 -- the drain that is made on d, which holds m
 pub record DrainDone (m : Book) (d a : List ℕ) (r : Returned) : Type 0 where
   pub heard : heardOf (length d) m (CCall.Drain a) ≡ Call.Drain ∷ []
-  pub bytes : r .answer ≡ overlay (drainForm (issuedBy (runBook (rules encodeModel Call.Drain) m)) (valueBy (runBook (rules encodeModel Call.Drain) m))) a
+  pub bytes : r .answer ≡ overlay (valueForm (issuedBy (runBook (rules encodeModel Call.Drain) m)) (valueBy (runBook (rules encodeModel Call.Drain) m))) a
 
 drain-done : {m : Book} {d a : List ℕ} {r : Returned} → Good m d → Did d (CCall.Drain a) r → r .number ≡ 0 → DrainDone m d a r
 drain-done {m} {d} {a} {r} g x e =
@@ -116,7 +116,7 @@ pub record DrainedIn (m : Book) (n : ℕ) (before : List CCall) (cs : List CCall
   pub heard : calls n m cs ≡ calls n m before ++ Call.Drain ∷ rest
   pub bytes :
       let o = runBook (rules encodeModel Call.Drain) (bookAfter encodeModel (calls n m before) m) in
-      r .answer ≡ overlay (drainForm (issuedBy o) (valueBy o)) a
+      r .answer ≡ overlay (valueForm (issuedBy o) (valueBy o)) a
 
 pub drained-in : {m : Book} {d e : List ℕ} {cs : List CCall} {rs : List Returned} → Good m d → Every TypedC cs → Ran d cs rs e
     → (before : List CCall) (a : List ℕ) (rest : List CCall) → cs ≡ before ++ CCall.Drain a ∷ rest

@@ -10,7 +10,6 @@ use Rattle.book.specs.Typed.{Every, U8, U64}
 use Rattle.archive_form.specs.Parse.{parseDelivery, parseTrigger, parseGoal}
 use Rattle.rules.specs.Call.{Call}
 use Rattle.rules.specs.Doors.{idsOk}
-use Rattle.part_replies.specs.Values.{sourceOf}
 use Rattle.c_boundary.specs.Arguments.{byteAs, bytesAs, flagIn}
 use Rattle.c_api.specs.Laws.{sourceIn, joinedIn}
 use Rattle.c_api.specs.Functions.{
@@ -111,7 +110,7 @@ callOf (AbandonAttempt token answer) = asks (Call.AbandonAttempt token)
 callOf (RelinquishCompletedAttempt token answer) = asks (Call.RelinquishCompletedAttempt token)
 callOf (Attempt token answer) = asks (Call.Attempt token)
 callOf (FinalizeAttempt token source joined answer) =
-    value (sourceIn source) (λ s. value (joinedIn source joined) (λ j. asks (Call.FinalizeAttempt token (sourceOf s) j)))
+    value (sourceIn source) (λ s. value (joinedIn source joined) (λ j. asks (Call.FinalizeAttempt token s j)))
 callOf (RetainSubmitted removed answer) = asks (Call.RetainSubmitted removed)
 callOf (ActiveIds answer) = asks Call.ActiveIds
 callOf (DrainRetirements answer) = asks Call.DrainRetirements

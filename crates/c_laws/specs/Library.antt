@@ -30,13 +30,13 @@ use Rattle.submission.specs.Calls.{last-link, outcome-after}
 use Rattle.demands.specs.Demand3.{Demand3, demand-3, programBook, tokensAt, issuedAt}
 use Rattle.c_boundary.specs.Held.{bookBytes, heldIn}
 use Rattle.c_boundary.specs.Settle.{Left, written-fits}
-use Rattle.c_boundary.specs.Forms.{drainForm}
 use Rattle.c_boundary_laws.specs.Lent.{Holds, put-length, put-holds, opened-room}
 use Rattle.c_api.specs.Functions.{CCall, Returned, OpenDid}
 use Rattle.c_laws.specs.Functions.{TypedC}
 use Rattle.c_laws.specs.Listed.{calls, returns, Ran}
 use Rattle.c_laws.specs.Steps.{Good, good-held, good-typed, put-beyond, Behind, behind}
 use Rattle.c_laws.specs.Drains.{valueBy, DrainedIn, drained-in}
+use Rattle.c_boundary.specs.Forms.{valueForm}
 
 -- opened with next token o and next id i in the memory d
 module _ (o i : ℕ) (d : List ℕ) where
@@ -53,7 +53,7 @@ module _ (o i : ℕ) (d : List ℕ) where
     pub rest : List Call
     pub heard : callsFrom cs ≡ callsFrom before ++ Call.Drain ∷ rest
     -- at the front of its answer stand the bytes of what it issued and of its failures
-    pub bytes : r .answer ≡ overlay (drainForm (issuedAt o i (callsFrom before) Call.Drain) (valueBy (outcome (programBook o i (callsFrom before)) Call.Drain))) a
+    pub bytes : r .answer ≡ overlay (valueForm (issuedAt o i (callsFrom before) Call.Drain) (valueBy (outcome (programBook o i (callsFrom before)) Call.Drain))) a
     -- and each submission in them names the last token issued to it before, or none
     pub predecessors : Chained (tokensAt o i (callsFrom before)) (issuedAt o i (callsFrom before) Call.Drain)
 
@@ -120,6 +120,6 @@ library o i to ti d room {n} {d₁} g {cs} {rs} {e} t ran =
         told before a r x = record {
           rest = x .rest;
           heard = x .heard;
-          bytes = x .bytes ∙ ap (λ (w : Outcome Book Value). overlay (drainForm (issuedBy w) (valueBy w)) a) (sym (outcome-after o i (callsFrom o i d before) Call.Drain));
+          bytes = x .bytes ∙ ap (λ (w : Outcome Book Value). overlay (valueForm (issuedBy w) (valueBy w)) a) (sym (outcome-after o i (callsFrom o i d before) Call.Drain));
           predecessors = demand .behind11 (callsFrom o i d before) (x .rest) (x .heard);
         }

@@ -11,23 +11,22 @@ use Rattle.rules.specs.Call.{Call, Value}
 use Rattle.rules.specs.Calls.{rules}
 use Rattle.rules.specs.Rule.{Outcome, ended, undone, stopped}
 use Rattle.rules.specs.Steps.{runBook}
-use Rattle.rules_answers.specs.Kind.{Kind, kindOf}
-use Rattle.c_boundary_laws.specs.Fits.{formOf}
 use Rattle.c_boundary_laws.specs.Lent.{hasRoom}
 use Rattle.c_api.specs.Functions.{CCall, Returned, Did}
 use Rattle.c_laws.specs.Functions.{lent, Asked, asks, badList, badValue, callOf}
 use Rattle.c_laws.specs.Told.{toldOn}
+use Rattle.c_boundary.specs.Forms.{valueForm}
 
 -- the book that the rules leave and the answer have room in so many lent bytes; a refusal needs none
-abbrev pub roomFor : Kind → ℕ → ℕ → Outcome Book Value → Bool
-roomFor k book answer (ended m xs v) = hasRoom m book && leb (length (formOf k xs v)) answer
-roomFor k book answer (undone n) = true
-roomFor k book answer (stopped m xs n) = hasRoom m book
+abbrev pub roomFor : ℕ → ℕ → Outcome Book Value → Bool
+roomFor book answer (ended m xs v) = hasRoom m book && leb (length (valueForm xs v)) answer
+roomFor book answer (undone n) = true
+roomFor book answer (stopped m xs n) = hasRoom m book
 
 -- what the ledger hears of a call, made on the book m in so many lent bytes: nothing where a list is refused 2 before an argument that stands
 -- for no value, where there is such an argument (3), or where room is wanting (12), since such a call changes nothing
 abbrev pub heard : ℕ → Book → ℕ → Asked → List Call
-heard n m a (asks c) = cond (roomFor (kindOf c) n a (runBook (rules encodeModel c) m)) (c ∷ []) []
+heard n m a (asks c) = cond (roomFor n a (runBook (rules encodeModel c) m)) (c ∷ []) []
 heard n m a badList = []
 heard n m a badValue = []
 

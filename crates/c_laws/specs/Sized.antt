@@ -28,9 +28,9 @@ use Rattle.rules_typed.specs.Typing.{Within, TypedCall}
 use Rattle.c_boundary.specs.Arguments.{bytesAs, byteAs, flagIn}
 use Rattle.c_boundary.specs.Held.{bookBytes}
 use Rattle.c_boundary.specs.Settle.{Left, Form, settled, written-fits}
-use Rattle.rules_answers.specs.Kind.{Kind, kindOf, answerBytes, Roomy}
+use Rattle.rules_answers.specs.Kind.{kindOf, answerBytes, Roomy}
 use Rattle.c_boundary_laws.specs.Enough.{AnswerFits, numberBy}
-use Rattle.c_boundary_laws.specs.Fits.{formOf, fits}
+use Rattle.c_boundary_laws.specs.Fits.{fits}
 use Rattle.c_boundary_laws.specs.Lent.{put-length, put-holds, Wrote, wrote, short, written-as, roomy, opened-room}
 use Rattle.c_api.specs.Laws.{sourceIn, joinedIn}
 use Rattle.c_api.specs.Functions.{CCall, Returned, OpenDid}
@@ -39,6 +39,7 @@ use Rattle.c_laws.specs.Told.{toldOn}
 use Rattle.c_laws.specs.Typed.{typed-call}
 use Rattle.c_laws.specs.Listed.{roomFor, heard, heardOf, calls, Ran, no-call, then-call}
 use Rattle.c_laws.specs.Steps.{Good, Stepped, stepped}
+use Rattle.c_boundary.specs.Forms.{valueForm}
 
 -- the answer is lent the header's size
 abbrev pub HeaderSize : CCall → Type 0
@@ -101,29 +102,29 @@ lends (CCall.Write a k) h = h
 
 -- ---- one call
 module _ (m : Book) (d : List ℕ) (h : 57702 ≤ length d) where
-  room-is : (k : Kind) (a : List ℕ) (o : Outcome Book Value) → TypedModel (left m o) → AnswerFits (formOf k) (length a) o → roomFor k (length d) (length a) o ≡ true
-  room-is k a (ended x xs v) t f = rw (roomy x t (length d) h, le-leb (length (formOf k xs v)) (length a) f) refl
-  room-is k a (undone n) t f = refl
-  room-is k a (stopped x xs n) t f = roomy x t (length d) h
+  room-is : (a : List ℕ) (o : Outcome Book Value) → TypedModel (left m o) → AnswerFits valueForm (length a) o → roomFor (length d) (length a) o ≡ true
+  room-is a (ended x xs v) t f = rw (roomy x t (length d) h, le-leb (length (valueForm xs v)) (length a) f) refl
+  room-is a (undone n) t f = refl
+  room-is a (stopped x xs n) t f = roomy x t (length d) h
 
   wrote-number : (n : ℕ) (x : Book) (s a : List ℕ) (t : Bool) (l : Left) → Wrote n x s d a t l → t ≡ true → l .number ≡ n
   wrote-number n x s a true l (wrote q) e = refl
   wrote-number n x s a false l short e = absurd (let z : _≡_ {A = ℕ} 0 1 = cc in omega arith)
 
-  number-is : (k : Kind) (a : List ℕ) (o : Outcome Book Value) → TypedModel (left m o) → AnswerFits (formOf k) (length a) o → settled (formOf k) d a o .number ≡ numberBy o
+  number-is : (a : List ℕ) (o : Outcome Book Value) → TypedModel (left m o) → AnswerFits valueForm (length a) o → settled valueForm d a o .number ≡ numberBy o
   unfolding settled
-  number-is k a (ended x xs v) t f = wrote-number 0 x (formOf k xs v) a _ _ (written-as 0 x (formOf k xs v) d a) (room-is k a (ended x xs v) t f)
-  number-is k a (undone n) t f = refl
-  number-is k a (stopped x xs n) t f = wrote-number n x [] a _ _ (written-as n x [] d a) (rw (roomy x t (length d) h, le-leb 0 (length a) zero-le) refl)
+  number-is a (ended x xs v) t f = wrote-number 0 x (valueForm xs v) a _ _ (written-as 0 x (valueForm xs v) d a) (room-is a (ended x xs v) t f)
+  number-is a (undone n) t f = refl
+  number-is a (stopped x xs n) t f = wrote-number n x [] a _ _ (written-as n x [] d a) (rw (roomy x t (length d) h, le-leb 0 (length a) zero-le) refl)
 
-  more-room : (form : Form) (j k : ℕ) (o : Outcome Book Value) → j ≤ k → AnswerFits form j o → AnswerFits form k o
+  more-room : {A : Type 0} (form : Form A) (j k : ℕ) (o : Outcome Book A) → j ≤ k → AnswerFits form j o → AnswerFits form k o
   more-room form j k (ended x xs v) q f = omega (arith, f)
   more-room form j k (undone n) q f = tt
   more-room form j k (stopped x xs n) q f = tt
 
   module _ (s : SoundBook m) (w : Within m) (l : Lent) where
-    fitting : (c : Call) → TypedCall c → Roomy (kindOf c) → answerBytes (kindOf c) ≤ length (l .answer) → AnswerFits (formOf (kindOf c)) (length (l .answer)) (runBook (rules encodeModel c) m)
-    fitting c t r q = more-room (formOf (kindOf c)) (answerBytes (kindOf c)) (length (l .answer)) (runBook (rules encodeModel c) m) q (fits m s w c t r .answer)
+    fitting : (c : Call) → TypedCall c → Roomy (kindOf c) → answerBytes (kindOf c) ≤ length (l .answer) → AnswerFits valueForm (length (l .answer)) (runBook (rules encodeModel c) m)
+    fitting c t r q = more-room valueForm (answerBytes (kindOf c)) (length (l .answer)) (runBook (rules encodeModel c) m) q (fits m s w c t r .answer)
 
     typed-left : (c : Call) → TypedCall c → TypedModel (left m (runBook (rules encodeModel c) m))
     unfolding callBook
@@ -134,14 +135,14 @@ module _ (m : Book) (d : List ℕ) (h : 57702 ≤ length d) where
     unfolding Lends
     heard-all badList t r q = refl
     heard-all badValue t r q = refl
-    heard-all (asks c) t r q = ap (λ (x : Bool). cond x (c ∷ []) []) (room-is (kindOf c) (l .answer) (runBook (rules encodeModel c) m) (typed-left c t) (fitting c t r q))
+    heard-all (asks c) t r q = ap (λ (x : Bool). cond x (c ∷ []) []) (room-is (l .answer) (runBook (rules encodeModel c) m) (typed-left c t) (fitting c t r q))
 
     not-twelve : (o : Asked) → OnCall TypedCall o → Lends o → OnCall (λ k. answerBytes (kindOf k) ≤ length (l .answer)) o → toldOn m d l o .number ≡ 12 → ⊥
     unfolding Lends
     not-twelve badList t r q e = omega arith
     not-twelve badValue t r q e = omega arith
     not-twelve (asks c) t r q e =
-        fits m s w c t r .number (sym (number-is (kindOf c) (l .answer) (runBook (rules encodeModel c) m) (typed-left c t) (fitting c t r q)) ∙ e)
+        fits m s w c t r .number (sym (number-is (l .answer) (runBook (rules encodeModel c) m) (typed-left c t) (fitting c t r q)) ∙ e)
 
 -- ---- a list of calls
 pub record Sized (n : ℕ) (m : Book) (cs : List CCall) (rs : List Returned) : Type 0 where

@@ -25,15 +25,14 @@ use Rattle.rules_typed.specs.Theorems.{within-after, typed-model}
 use Rattle.rules_typed.specs.Typing.{Within, TypedCall}
 use Rattle.c_boundary.specs.Held.{bookBytes, heldIn}
 use Rattle.c_boundary.specs.Settle.{Left, written, settled}
-use Rattle.rules_answers.specs.Kind.{Kind, kindOf}
 use Rattle.c_boundary_laws.specs.Enough.{enough}
-use Rattle.c_boundary_laws.specs.Fits.{formOf}
 use Rattle.c_boundary_laws.specs.Lent.{hasRoom, Holds, put-length, put-holds, holds-held, Wrote, wrote, short, written-as}
 use Rattle.c_api.specs.Functions.{CCall, Returned, Did}
 use Rattle.c_laws.specs.Functions.{Lent, lent, Asked, asks, badList, badValue, callOf, OnCall, TypedC}
 use Rattle.c_laws.specs.Told.{toldOn, one-book, did-told}
 use Rattle.c_laws.specs.Typed.{typed-call}
 use Rattle.c_laws.specs.Listed.{roomFor, heard, heardOf, calls, returns, Ran, no-call, then-call}
+use Rattle.c_boundary.specs.Forms.{valueForm}
 
 -- d holds m, which is sound and within the types
 pub record Good (m : Book) (d : List ℕ) : Type 0 where
@@ -67,11 +66,11 @@ module _ (m : Book) (d : List ℕ) (h : Holds m d) where
   and-true true y e = e
   and-true false y e = refl
 
-  next-settled : (k : Kind) (a : List ℕ) (o : Outcome Book Value) → Next (cond (roomFor k (length d) (length a) o) (left m o) m) d (settled (formOf k) d a o .book)
+  next-settled : (a : List ℕ) (o : Outcome Book Value) → Next (cond (roomFor (length d) (length a) o) (left m o) m) d (settled valueForm d a o .book)
   unfolding settled
-  next-settled k a (ended x xs v) = next-written 0 x (formOf k xs v) a _ _ (written-as 0 x (formOf k xs v) d a)
-  next-settled k a (undone n) = same
-  next-settled k a (stopped x xs n) =
+  next-settled a (ended x xs v) = next-written 0 x (valueForm xs v) a _ _ (written-as 0 x (valueForm xs v) d a)
+  next-settled a (undone n) = same
+  next-settled a (stopped x xs n) =
       subst (λ (t : Bool). Next (cond t x m) d (written n x [] d a .book)) (and-true (hasRoom x (length d)) (leb 0 (length a)) (le-leb 0 (length a) zero-le))
       (next-written n x [] a _ _ (written-as n x [] d a))
 
@@ -86,13 +85,13 @@ module _ (m : Book) (d : List ℕ) (h : Holds m d) where
   next-told l badValue = same
   next-told l (asks c) =
       let x = runBook (rules encodeModel c) m in
-      subst (λ (b : Book). Next b d (settled (formOf (kindOf c)) d (l .answer) x .book)) (sym (heard-book (roomFor (kindOf c) (length d) (length (l .answer)) x) c))
-      (next-settled (kindOf c) (l .answer) x)
+      subst (λ (b : Book). Next b d (settled valueForm d (l .answer) x .book)) (sym (heard-book (roomFor (length d) (length (l .answer)) x) c))
+      (next-settled (l .answer) x)
 
 heard-typed : (n : ℕ) (m : Book) (a : ℕ) (o : Asked) → OnCall TypedCall o → Every TypedCall (heard n m a o)
 heard-typed n m a badList t = tt
 heard-typed n m a badValue t = tt
-heard-typed n m a (asks c) t = go (roomFor (kindOf c) n a (runBook (rules encodeModel c) m))
+heard-typed n m a (asks c) t = go (roomFor n a (runBook (rules encodeModel c) m))
   where
     go : (x : Bool) → Every TypedCall (cond x (c ∷ []) [])
     go true = (t, tt)

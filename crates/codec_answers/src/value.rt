@@ -5,6 +5,7 @@ ghost use Rattle.codec_forms.specs.Wire.{be, encMany, encOpt};
 ghost use Rattle.archive_bundle_form.specs.Forms.{encodeFeeIntent};
 ghost use Rattle.codec_append.specs.Fits.{Fits};
 ghost use Rattle.codec_answers.specs.Forms.{refusalNumber, statusNumber, dispositionNumber, encodeIds, encodeFinal};
+use crate::part::append_flag;
 use archive_bundle_write::write::append_bundle;
 use archive_bundle_write::write::append_fee_intent;
 use base_lists::at_most;
@@ -16,7 +17,6 @@ use book_answers::SubmissionAttemptStatus;
 use codec_append::append_byte;
 use codec_append::append_bytes;
 use codec_append::append_number;
-use crate::part::append_flag;
 use part_replies::CallAnswer;
 
 // 0, or the refusal's number.

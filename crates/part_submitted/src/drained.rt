@@ -1,4 +1,6 @@
 // What a drain hands out, and what it retains for a new intent.
+use crate::entry::current_bundle;
+use crate::entry::open_fee_intent;
 use book::FeeIntentKind;
 use book::FeeResolution;
 use book::OptionalAttempt;
@@ -13,8 +15,6 @@ use book::SubmittedEntry;
 use book::Token;
 use book_answers::DrainedSubmission;
 use book_answers::OptionalToken;
-use crate::entry::current_bundle;
-use crate::entry::open_fee_intent;
 use part_slots::relationship;
 ghost use mathlib.Core.Bool.{cond};
 ghost use mathlib.Core.Path.{_≡_};

@@ -246,7 +246,7 @@ typed-candidates n (c ∷ cs) k a b w =
     typed-bind Ends (oneCandidate n c a) (λ m. turn (candidates (suc n) cs m)) b w
     (typed-one (Then Ends (λ m. turn (candidates (suc n) cs m))) (λ m. typed-candidates (suc n) cs (k .1) m) n c (k .0) a b w)
 
-typed-drain : Kept drain
+pub typed-drain : Kept drain
 unfolding drain
 typed-drain b w = (tt, λ c x. typed-candidates 0 (b .pending) (w .pending) blank c x)
 

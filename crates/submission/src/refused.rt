@@ -2,14 +2,6 @@
 ghost use mathlib.Core.Path.{_≡_};
 ghost use Rattle.rules.specs.Rule.{undone};
 ghost use Rattle.submission.specs.Answers.{doneGiven, statusGiven, idsGiven, flagGiven, heightGiven, attemptGiven, feeIntentGiven, finalizeGiven, writtenGiven, drainGiven};
-use book::Ids64;
-use book::OptionalAttempt;
-use book::OptionalHeight;
-use book::SubmissionFeeIntent;
-use book_answers::DrainedSubmission;
-use book_answers::FinalizedSubmission;
-use book_answers::SubmissionAttemptStatus;
-use book_answers::SubmissionDrainFailure;
 use crate::AttemptAnswer;
 use crate::DoneAnswer;
 use crate::DrainAnswer;
@@ -21,6 +13,14 @@ use crate::IdsAnswer;
 use crate::StatusAnswer;
 use crate::SubmissionBook;
 use crate::WrittenAnswer;
+use book::Ids64;
+use book::OptionalAttempt;
+use book::OptionalHeight;
+use book::SubmissionFeeIntent;
+use book_answers::DrainedSubmission;
+use book_answers::FinalizedSubmission;
+use book_answers::SubmissionAttemptStatus;
+use book_answers::SubmissionDrainFailure;
 use part_replies::CallAnswer;
 
 pub fn done_refused(book: SubmissionBook, n: u8) -> DoneAnswer

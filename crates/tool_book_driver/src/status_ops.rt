@@ -1,14 +1,14 @@
 // Calls that answer whether a token's attempt took them.
-use book::Token;
-use book_answers::SubmissionAttemptStatus;
-use codec_answers::value::append_status;
-use codec_answers::value::refusal_number;
-use codec_append::append_byte;
 use crate::frame::Step;
 use crate::frame::broken;
 use crate::frame::finish;
 use crate::frame::finish_with;
 use crate::frame::say;
+use book::Token;
+use book_answers::SubmissionAttemptStatus;
+use codec_answers::value::append_status;
+use codec_answers::value::refusal_number;
+use codec_append::append_byte;
 use submission::StatusAnswer;
 use submission::SubmissionBook;
 use tool_script::kind::read_number;

@@ -1,4 +1,9 @@
 // Calls that answer one value of their own: a finalised submission, a fee intent, a flag, a height, an attempt.
+use crate::frame::Step;
+use crate::frame::broken;
+use crate::frame::finish;
+use crate::frame::finish_with;
+use crate::frame::say;
 use archive_bundle_write::write::append_height;
 use archive_entry_write::append_slot;
 use book::Height;
@@ -12,11 +17,6 @@ use codec_answers::value::append_optional_fee_intent;
 use codec_answers::value::append_optional_finalized;
 use codec_answers::value::refusal_number;
 use codec_append::append_byte;
-use crate::frame::Step;
-use crate::frame::broken;
-use crate::frame::finish;
-use crate::frame::finish_with;
-use crate::frame::say;
 use submission::AttemptAnswer;
 use submission::FeeIntentAnswer;
 use submission::FinalizeAnswer;

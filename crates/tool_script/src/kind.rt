@@ -1,11 +1,4 @@
 // Arguments of one byte, numbers, and optional numbers.
-use book::Height;
-use book::OptionalHeight;
-use book::OptionalId;
-use book::SubmissionId;
-use book_answers::SubmissionFeeSource;
-use codec_cursor::FAR;
-use codec_cursor::read_count;
 use crate::ByteArgument;
 use crate::ExpiryArgument;
 use crate::FlagArgument;
@@ -14,6 +7,13 @@ use crate::IdArgument;
 use crate::NumberArgument;
 use crate::SourceArgument;
 use crate::TriggerArgument;
+use book::Height;
+use book::OptionalHeight;
+use book::OptionalId;
+use book::SubmissionId;
+use book_answers::SubmissionFeeSource;
+use codec_cursor::FAR;
+use codec_cursor::read_count;
 ghost use mathlib.Core.Path.{_≡_};
 ghost use Rattle.archive_form.specs.Parse.{parseGoal, parseTrigger};
 ghost use Rattle.tool_script.specs.Onward.{Onward, Argument};

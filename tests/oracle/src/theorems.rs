@@ -306,8 +306,8 @@ fn learn(names: &mut Names, script: &Script) {
     }
 }
 
-/// Modules, and what a list may take from them.
-const USES: [(&str, &str); 17] = [
+/// Modules, and what a list may take from them: names, or the whole `as` a short name.
+const USES: [(&str, &str); 22] = [
     ("mathlib.Core.Bool", "true false"),
     ("mathlib.Core.List", "List [] _∷_ _++_"),
     ("mathlib.Core.Option", "none some"),
@@ -324,12 +324,18 @@ const USES: [(&str, &str); 17] = [
     ("Rattle.book.specs.declared.SubmissionDeliveryGoal.the-variants", "EnsureBroadcast FeeUpgrade"),
     ("Rattle.book.specs.declared.DeliveryTrigger.the-variants", "Protocol FreshChain Rollback ProviderReadiness"),
     (
-        "Rattle.rules.specs.Call",
-        "Call NoSource Joined JoinFailed SourceFailed NoRetainedState FeeIntentDiffers InvalidRetainedState IntentDiffers \
-         IdCollides OutputsUnreadable IdsExhausted FeeAttached FeeUnused FeeNotRequested Applied Stale Value noValue failures \
-         finalized feeIntentIs statusIs idsAre flag heightIs attemptIs written",
+        "Rattle.book_answers.specs.declared.DrainFailureCause.the-variants",
+        "NoRetainedState FeeIntentDiffers InvalidRetainedState IntentDiffers IdCollides OutputsUnreadable IdsExhausted",
     ),
-    ("Rattle.rules.specs.Rule", "Initial Exact NewerFeeBearing Other Answer answer refused"),
+    ("Rattle.book_answers.specs.declared.FeeSourceDisposition.the-variants", "as disposition"),
+    ("Rattle.book_answers.specs.declared.SubmissionAttemptRelationship.the-variants", "Initial Exact NewerFeeBearing Other"),
+    ("Rattle.book_answers.specs.declared.SubmissionAttemptStatus.the-variants", "Applied Stale"),
+    ("Rattle.book_answers.specs.declared.SubmissionFeeSource.the-variants", "as source"),
+    (
+        "Rattle.rules.specs.Call",
+        "Call Value noValue failures finalized feeIntentIs statusIs idsAre flag heightIs attemptIs written",
+    ),
+    ("Rattle.rules.specs.Rule", "Answer answer refused"),
 ];
 
 /// The forms of `Pieces.antt`.
@@ -338,9 +344,15 @@ const PIECES: &str = "num countFrom height at byId output spendCells spend unrea
 
 /// The lines that bring in what a text uses.
 fn uses(text: &str, shared: &str) -> String {
-    let words: BTreeSet<&str> = text.split(|c: char| !c.is_alphanumeric()).collect();
+    let words: BTreeSet<&str> = text.split(|c: char| !c.is_alphanumeric() && c != '.').collect();
     let used = |name: &&str| !name.chars().all(char::is_alphanumeric) || words.contains(*name);
     let line = |(module, names): (&str, &str)| {
+        if let Some(short) = names.strip_prefix("as ") {
+            let taken = words
+                .iter()
+                .any(|word| word.split_once('.').is_some_and(|(front, _)| front == short));
+            return if taken { format!("use {module} as {short}\n") } else { String::new() };
+        }
         let names: Vec<&str> = names.split_whitespace().filter(used).collect();
         match names.is_empty() {
             true => String::new(),

@@ -28,12 +28,14 @@ const CAUSES: [(&str, u8, bool, &str); 7] = [
 
 const TRIGGERS: [&str; 4] = ["Protocol", "FreshChain", "Rollback", "ProviderReadiness"];
 const GOALS: [&str; 2] = ["EnsureBroadcast", "FeeUpgrade"];
-const SOURCES: [&str; 4] = ["NoSource", "Joined", "JoinFailed", "SourceFailed"];
+const SOURCES: [&str; 4] =
+    ["source.NotRequested", "source.Joined", "source.JoinFailed", "source.Failed"];
 const FEE_KINDS: [&str; 3] = ["AlreadyPaid", "NoFeeConfigured", "Attach"];
 const RESOLUTIONS: [&str; 3] = ["Unresolved", "NotRequested", "Attached"];
 const CHAIN: [&str; 3] = ["Active", "InputSpent", "Landed"];
 const RELATIONSHIPS: [&str; 4] = ["Initial", "Exact", "NewerFeeBearing", "Other"];
-const DISPOSITIONS: [&str; 3] = ["FeeAttached", "FeeUnused", "FeeNotRequested"];
+const DISPOSITIONS: [&str; 3] =
+    ["disposition.Attached", "disposition.Unused", "disposition.NotRequested"];
 
 /// A list with one item to a line, for the right side of an equation.
 pub fn lines(items: &[String]) -> String {
