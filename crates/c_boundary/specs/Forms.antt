@@ -154,7 +154,8 @@ gives-book-absent form r d e = gives-book-as (sym (boundary-absent form r d [] e
 
 -- ---- a call's reply, told in its form
 module _ (d a : List ℕ) (b : BookData) (h : Holding d b) where
-  pub flag-given : (rule : Rule Bool) {n : ℕ} {d′ a′ : List ℕ} (r : FlagReply) → r ≡ flagReply b (runBook rule (view b)) → Gives (finish (r .answer) (r .book) (be 1 (flagNumber (r .flag))) d a) n d′ a′ → Gives (boundary flagForm rule d a) n d′ a′
+  pub flag-given : (rule : Rule Bool) {n : ℕ} {d′ a′ : List ℕ} (r : FlagReply) → r ≡ flagReply b (runBook rule (view b))
+      → Gives (finish (r .answer) (r .book) (be 1 (flagNumber (r .flag))) d a) n d′ a′ → Gives (boundary flagForm rule d a) n d′ a′
   flag-given rule r e g =
       gives-as (ap (λ (x : FlagReply). finish (x .answer) (x .book) (be 1 (flagNumber (x .flag))) d a) e ∙ boundary-reply flagForm d a b h rule _ (go (runBook rule (view b)))) g
     where
@@ -163,7 +164,8 @@ module _ (d a : List ℕ) (b : BookData) (h : Holding d b) where
       go (undone k) = tt
       go (stopped m xs k) = tt
 
-  pub status-given : (rule : Rule SubmissionAttemptStatus) {n : ℕ} {d′ a′ : List ℕ} (r : StatusReply) → r ≡ statusReply b (runBook rule (view b)) → Gives (finish (r .answer) (r .book) (be 1 (statusNumber (r .status))) d a) n d′ a′ → Gives (boundary statusForm rule d a) n d′ a′
+  pub status-given : (rule : Rule SubmissionAttemptStatus) {n : ℕ} {d′ a′ : List ℕ} (r : StatusReply) → r ≡ statusReply b (runBook rule (view b))
+      → Gives (finish (r .answer) (r .book) (be 1 (statusNumber (r .status))) d a) n d′ a′ → Gives (boundary statusForm rule d a) n d′ a′
   status-given rule r e g =
       gives-as (ap (λ (x : StatusReply). finish (x .answer) (x .book) (be 1 (statusNumber (x .status))) d a) e ∙ boundary-reply statusForm d a b h rule _ (go (runBook rule (view b)))) g
     where
@@ -208,23 +210,28 @@ tells-none (undone k) = tt
 tells-none (stopped m xs k) = tt
 
 module _ (d a : List ℕ) (b : BookData) (h : Holding d b) where
-  pub ids-given : (rule : Rule (List ℕ)) {n : ℕ} {d′ a′ : List ℕ} (r : IdsReply) → r ≡ idsReply b (runBook rule (view b)) → Gives (finish (r .answer) (r .book) (encodeIds (r .ids)) d a) n d′ a′ → Gives (boundary idsForm rule d a) n d′ a′
+  pub ids-given : (rule : Rule (List ℕ)) {n : ℕ} {d′ a′ : List ℕ} (r : IdsReply) → r ≡ idsReply b (runBook rule (view b))
+      → Gives (finish (r .answer) (r .book) (encodeIds (r .ids)) d a) n d′ a′ → Gives (boundary idsForm rule d a) n d′ a′
   ids-given rule r e g =
       gives-as (ap (λ (x : IdsReply). finish (x .answer) (x .book) (encodeIds (x .ids)) d a) e ∙ boundary-reply idsForm d a b h rule _ (tells-ids (runBook rule (view b)))) g
 
-  pub height-given : (rule : Rule OptionalHeight) {n : ℕ} {d′ a′ : List ℕ} (r : HeightReply) → r ≡ heightReply b (runBook rule (view b)) → Gives (finish (r .answer) (r .book) (encodeHeight (r .height)) d a) n d′ a′ → Gives (boundary heightForm rule d a) n d′ a′
+  pub height-given : (rule : Rule OptionalHeight) {n : ℕ} {d′ a′ : List ℕ} (r : HeightReply) → r ≡ heightReply b (runBook rule (view b))
+      → Gives (finish (r .answer) (r .book) (encodeHeight (r .height)) d a) n d′ a′ → Gives (boundary heightForm rule d a) n d′ a′
   height-given rule r e g =
       gives-as (ap (λ (x : HeightReply). finish (x .answer) (x .book) (encodeHeight (x .height)) d a) e ∙ boundary-reply heightForm d a b h rule _ (tells-height (runBook rule (view b)))) g
 
-  pub attempt-given : (rule : Rule (Option DeliveryAttempt)) {n : ℕ} {d′ a′ : List ℕ} (r : AttemptReply) → r ≡ attemptReply b (runBook rule (view b)) → Gives (finish (r .answer) (r .book) (encodeSlot (r .attempt)) d a) n d′ a′ → Gives (boundary attemptForm rule d a) n d′ a′
+  pub attempt-given : (rule : Rule (Option DeliveryAttempt)) {n : ℕ} {d′ a′ : List ℕ} (r : AttemptReply) → r ≡ attemptReply b (runBook rule (view b))
+      → Gives (finish (r .answer) (r .book) (encodeSlot (r .attempt)) d a) n d′ a′ → Gives (boundary attemptForm rule d a) n d′ a′
   attempt-given rule r e g =
       gives-as (ap (λ (x : AttemptReply). finish (x .answer) (x .book) (encodeSlot (x .attempt)) d a) e ∙ boundary-reply attemptForm d a b h rule _ (tells-attempt (runBook rule (view b)))) g
 
-  pub fee-intent-given : (rule : Rule (Option SubmissionFeeIntent)) {n : ℕ} {d′ a′ : List ℕ} (r : FeeIntentReply) → r ≡ feeIntentReply b (runBook rule (view b)) → Gives (finish (r .answer) (r .book) (encOpt (r .present) (encodeFeeIntent (r .«fee_intent»))) d a) n d′ a′ → Gives (boundary feeIntentForm rule d a) n d′ a′
+  pub fee-intent-given : (rule : Rule (Option SubmissionFeeIntent)) {n : ℕ} {d′ a′ : List ℕ} (r : FeeIntentReply) → r ≡ feeIntentReply b (runBook rule (view b))
+      → Gives (finish (r .answer) (r .book) (encOpt (r .present) (encodeFeeIntent (r .«fee_intent»))) d a) n d′ a′ → Gives (boundary feeIntentForm rule d a) n d′ a′
   fee-intent-given rule r e g =
       gives-as (ap (λ (x : FeeIntentReply). finish (x .answer) (x .book) (encOpt (x .present) (encodeFeeIntent (x .«fee_intent»))) d a) e ∙ boundary-reply feeIntentForm d a b h rule _ (tells-fee-intent (runBook rule (view b)))) g
 
-  pub final-given : (rule : Rule (Option FinalizedSubmission)) {n : ℕ} {d′ a′ : List ℕ} (r : FinalizeReply) → r ≡ finalizeReply b (runBook rule (view b)) → Gives (finish (r .answer) (r .book) (encOpt (r .present) (encodeFinal (r .finalized))) d a) n d′ a′ → Gives (boundary finalForm rule d a) n d′ a′
+  pub final-given : (rule : Rule (Option FinalizedSubmission)) {n : ℕ} {d′ a′ : List ℕ} (r : FinalizeReply) → r ≡ finalizeReply b (runBook rule (view b))
+      → Gives (finish (r .answer) (r .book) (encOpt (r .present) (encodeFinal (r .finalized))) d a) n d′ a′ → Gives (boundary finalForm rule d a) n d′ a′
   final-given rule r e g =
       gives-as (ap (λ (x : FinalizeReply). finish (x .answer) (x .book) (encOpt (x .present) (encodeFinal (x .finalized))) d a) e ∙ boundary-reply finalForm d a b h rule _ (tells-final (runBook rule (view b)))) g
 
@@ -256,7 +263,8 @@ pub record DrainGiven (r : DrainReply) (d a : List ℕ) (n : ℕ) (d′ a′ : L
   pub submissions : length (r .submissions) ≡ 16
   pub failures : length (r .failures) ≡ 16
 
-pub drain-given : (d a : List ℕ) (b : BookData) (h : Holding d b) (rule : Rule (List SubmissionDrainFailure)) {n : ℕ} {d′ a′ : List ℕ} (r : DrainReply) → r ≡ drainReply b (runBook rule (view b)) → DrainGiven r d a n d′ a′ → Gives (boundary drainForm rule d a) n d′ a′
+pub drain-given : (d a : List ℕ) (b : BookData) (h : Holding d b) (rule : Rule (List SubmissionDrainFailure)) {n : ℕ} {d′ a′ : List ℕ} (r : DrainReply)
+    → r ≡ drainReply b (runBook rule (view b)) → DrainGiven r d a n d′ a′ → Gives (boundary drainForm rule d a) n d′ a′
 drain-given d a b h rule r e g =
     let o = runBook rule (view b) in
     let s : length (drainReply b o .submissions) ≡ 16 = ap (λ (x : DrainReply). length (x .submissions)) (sym e) ∙ g .submissions in

@@ -335,9 +335,13 @@ module _ (d : List ℕ) where
       (listed-on nothing ok (flagIn r) (λ v. reconcileChainTerminality o s v b) _ (λ v. ap (λ (z : Rule (Unit {0})). nothing <$> z) (reconcile-again o s v b))) y g
   did-told (rolled-back-did {a} x i g) y = gives-told d (CCall.CausallyRolledBackIds x i a) asIds refl _ refl y g
   did-told (input-coins-did o a k g) (no-book e) = bytes-absent d (record { answer = a; count = k }) _ _ _ e g
-  did-told (input-coins-did o a k g) (one-book m e h) = bytes-told d (record { answer = a; count = k }) (Call.ReconciliationInputCoins o (length a)) (reconciliationInputCoins o (length a)) refl refl m e (quiet-count m d a k h (reconciliation-quiet o (length a) m)) g
+  did-told (input-coins-did o a k g) (one-book m e h) =
+      bytes-told d (record { answer = a; count = k }) (Call.ReconciliationInputCoins o (length a)) (reconciliationInputCoins o (length a)) refl refl m e
+      (quiet-count m d a k h (reconciliation-quiet o (length a) m)) g
   did-told (absent-outputs-did is o a k g) (no-book e) = bytes-absent d (record { answer = a; count = k }) _ _ _ e g
-  did-told (absent-outputs-did is o a k g) (one-book m e h) = bytes-told d (record { answer = a; count = k }) (Call.AbsentOutputsForIds is o (length a)) (absentOutputsForIds is o (length a)) refl refl m e (quiet-count m d a k h (absent-quiet is o (length a) m)) g
+  did-told (absent-outputs-did is o a k g) (one-book m e h) =
+      bytes-told d (record { answer = a; count = k }) (Call.AbsentOutputsForIds is o (length a)) (absentOutputsForIds is o (length a)) refl refl m e
+      (quiet-count m d a k h (absent-quiet is o (length a) m)) g
   did-told (begin-did {a} i g) y = gives-told d (CCall.BeginReplay i a) asFlag refl _ refl y g
   did-told (collect-did is g) y = back-told (CCall.CollectRollbackReplayIds is) refl refl _ refl y g
   did-told (write-did a k g) (no-book e) = unfold writeFrom in

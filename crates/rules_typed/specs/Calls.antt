@@ -389,14 +389,19 @@ typed encode (Call.RelinquishCompletedAttempt t) h = kept-map statusIs (relinqui
 typed encode (Call.RetainSubmitted is) h = kept-map idsAre (retainSubmitted is) (typed-retain-submitted is)
 typed encode (Call.EmitRetirement i) h = kept-map nothing (emitRetirement i) (λ b w. (h, λ c x. tt))
 typed encode Call.DrainRetirements h = kept-map idsAre drainRetirements (λ b w. (tt, λ c x. tt))
-typed encode (Call.ReconciliationInputCoins outputs room) h = kept-map written (reconciliationInputCoins outputs room) (λ b w. typed-cond Ends b (coinListb outputs) _ _ (typed-writing room (encodeCoins (inputCoinsToReconcile (coinsIn outputs) b)) b w) tt)
+typed encode (Call.ReconciliationInputCoins outputs room) h =
+    kept-map written (reconciliationInputCoins outputs room)
+    (λ b w. typed-cond Ends b (coinListb outputs) _ _ (typed-writing room (encodeCoins (inputCoinsToReconcile (coinsIn outputs) b)) b w) tt)
 typed encode Call.ActiveIds h = kept-map idsAre activeIds (λ b w. tt)
 typed encode (Call.BeginReplay k) h = kept-map flag (beginReplay k) (typed-begin k h)
 typed encode (Call.FinishReplayIfAdvanced k) h = kept-map nothing (finishReplayIfAdvanced k) (typed-finish k)
 typed encode Call.ReplayRollbackHeight h = kept-map heightIs replayRollbackHeight (λ b w. tt)
 typed encode (Call.ReconcileChainTerminality observed spent reorg ids) h = kept-map nothing (reconcileChainTerminality observed spent reorg ids) (typed-reconcile observed spent reorg ids)
 typed encode (Call.CausallyRolledBackIds absent inputs) h = kept-map idsAre (causallyRolledBackIds absent inputs) (λ b w. typed-cond Ends b (coinListb absent && idListb inputs) _ _ tt tt)
-typed encode (Call.AbsentOutputsForIds is absent room) h = kept-map written (absentOutputsForIds is absent room) (λ b w. typed-cond Ends b (idsOk is && coinListb absent) _ _ (typed-writing room (encodeCoins (flatMap (λ t. absentOutputs (coinsIn absent) (t .entry)) (filterb (λ t. elemb (idOf t) is) (b .submitted)))) b w) tt)
+typed encode (Call.AbsentOutputsForIds is absent room) h =
+    kept-map written (absentOutputsForIds is absent room)
+    (λ b w. typed-cond Ends b (idsOk is && coinListb absent) _ _
+    (typed-writing room (encodeCoins (flatMap (λ t. absentOutputs (coinsIn absent) (t .entry)) (filterb (λ t. elemb (idOf t) is) (b .submitted)))) b w) tt)
 typed encode (Call.CollectRollbackReplayIds is) h = kept-map nothing (collectRollbackReplayIds is) (typed-collect is)
 typed encode Call.ClearLocalArtifacts h = kept-map nothing clearLocalArtifacts typed-clear
 typed encode Call.RestoreRuntime h = kept-map nothing restoreRuntime (λ b w. typed-setAsides (map idOf (b .submitted)) b w)

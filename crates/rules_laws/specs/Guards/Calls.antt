@@ -349,14 +349,18 @@ all-taken encode (Call.RelinquishCompletedAttempt t) = taken-map statusIs (relin
 all-taken encode (Call.RetainSubmitted is) = taken-map idsAre (retainSubmitted is) (taken-retain-submitted is)
 all-taken encode (Call.EmitRetirement i) = taken-map nothing (emitRetirement i) (λ b s. (refl, λ c x. tt))
 all-taken encode Call.DrainRetirements = taken-map idsAre drainRetirements (λ b s. (refl, λ c x. tt))
-all-taken encode (Call.ReconciliationInputCoins outputs room) = taken-map written (reconciliationInputCoins outputs room) (λ b s. taken-cond Ends b (coinListb outputs) _ _ (λ e. taken-writing room (encodeCoins (inputCoinsToReconcile (coinsIn outputs) b)) b s) (λ e. tt))
+all-taken encode (Call.ReconciliationInputCoins outputs room) =
+    taken-map written (reconciliationInputCoins outputs room)
+    (λ b s. taken-cond Ends b (coinListb outputs) _ _ (λ e. taken-writing room (encodeCoins (inputCoinsToReconcile (coinsIn outputs) b)) b s) (λ e. tt))
 all-taken encode Call.ActiveIds = taken-map idsAre activeIds (λ b s. tt)
 all-taken encode (Call.BeginReplay k) = taken-map flag (beginReplay k) (taken-begin k)
 all-taken encode (Call.FinishReplayIfAdvanced k) = taken-map nothing (finishReplayIfAdvanced k) (taken-finish k)
 all-taken encode Call.ReplayRollbackHeight = taken-map heightIs replayRollbackHeight (λ b s. tt)
 all-taken encode (Call.ReconcileChainTerminality observed spent reorg ids) = taken-map nothing (reconcileChainTerminality observed spent reorg ids) (taken-reconcile observed spent reorg ids)
 all-taken encode (Call.CausallyRolledBackIds absent inputs) = taken-map idsAre (causallyRolledBackIds absent inputs) (λ b s. taken-cond Ends b (coinListb absent && idListb inputs) _ _ (λ e. tt) (λ e. tt))
-all-taken encode (Call.AbsentOutputsForIds is absent room) = taken-map written (absentOutputsForIds is absent room) (λ b s. taken-cond Ends b (idsOk is && coinListb absent) _ _
+all-taken encode (Call.AbsentOutputsForIds is absent room) =
+    taken-map written (absentOutputsForIds is absent room)
+    (λ b s. taken-cond Ends b (idsOk is && coinListb absent) _ _
     (λ e. taken-writing room (encodeCoins (flatMap (λ t. absentOutputs (coinsIn absent) (t .entry)) (filterb (λ t. elemb (idOf t) is) (b .submitted)))) b s) (λ e. tt))
 all-taken encode (Call.CollectRollbackReplayIds is) = taken-map nothing (collectRollbackReplayIds is) (taken-collect is)
 all-taken encode Call.ClearLocalArtifacts = taken-map nothing clearLocalArtifacts taken-clear

@@ -341,14 +341,20 @@ paced encode (Call.RelinquishCompletedAttempt t) = paced-map statusIs (relinquis
 paced encode (Call.RetainSubmitted is) = paced-map idsAre (retainSubmitted is) (paced-retain-submitted is)
 paced encode (Call.EmitRetirement i) = paced-map nothing (emitRetirement i) (refl, refl)
 paced encode Call.DrainRetirements = paced-map idsAre drainRetirements (λ b. (refl, refl))
-paced encode (Call.ReconciliationInputCoins outputs room) = paced-map written (reconciliationInputCoins outputs room) (paced-cond Settled false (coinListb outputs) _ _ (λ b. paced-writing room (encodeCoins (inputCoinsToReconcile (coinsIn outputs) b))) (refl, refl))
+paced encode (Call.ReconciliationInputCoins outputs room) =
+    paced-map written (reconciliationInputCoins outputs room)
+    (paced-cond Settled false (coinListb outputs) _ _ (λ b. paced-writing room (encodeCoins (inputCoinsToReconcile (coinsIn outputs) b))) (refl, refl))
 paced encode Call.ActiveIds = paced-map idsAre activeIds (λ b. refl)
 paced encode (Call.BeginReplay h) = paced-map flag (beginReplay h) (paced-begin h)
 paced encode (Call.FinishReplayIfAdvanced h) = paced-map nothing (finishReplayIfAdvanced h) (paced-finish h)
 paced encode Call.ReplayRollbackHeight = paced-map heightIs replayRollbackHeight (λ b. refl)
 paced encode (Call.ReconcileChainTerminality observed spent reorg ids) = paced-map nothing (reconcileChainTerminality observed spent reorg ids) (paced-reconcile observed spent reorg ids)
-paced encode (Call.CausallyRolledBackIds absent inputs) = paced-map idsAre (causallyRolledBackIds absent inputs) (paced-cond Settled false (coinListb absent && idListb inputs) _ _ (λ b. refl) (refl, refl))
-paced encode (Call.AbsentOutputsForIds is absent room) = paced-map written (absentOutputsForIds is absent room) (paced-cond Settled false (idsOk is && coinListb absent) _ _ (λ b. paced-writing room (encodeCoins (flatMap (λ t. absentOutputs (coinsIn absent) (t .entry)) (filterb (λ t. elemb (idOf t) is) (b .submitted))))) (refl, refl))
+paced encode (Call.CausallyRolledBackIds absent inputs) =
+    paced-map idsAre (causallyRolledBackIds absent inputs) (paced-cond Settled false (coinListb absent && idListb inputs) _ _ (λ b. refl) (refl, refl))
+paced encode (Call.AbsentOutputsForIds is absent room) =
+    paced-map written (absentOutputsForIds is absent room)
+    (paced-cond Settled false (idsOk is && coinListb absent) _ _
+    (λ b. paced-writing room (encodeCoins (flatMap (λ t. absentOutputs (coinsIn absent) (t .entry)) (filterb (λ t. elemb (idOf t) is) (b .submitted))))) (refl, refl))
 paced encode (Call.CollectRollbackReplayIds is) = paced-map nothing (collectRollbackReplayIds is) (paced-collect is)
 paced encode Call.ClearLocalArtifacts = paced-map nothing clearLocalArtifacts paced-clear
 paced encode Call.RestoreRuntime = paced-map nothing restoreRuntime (λ b. paced-setAsides (map idOf (b .submitted)))
