@@ -9,12 +9,14 @@ use book::OptionalAttempt;
 use book::OptionalHash;
 use book::OptionalHeight;
 use book::PendingSubmissionIntent;
+use book::RetainedIntent;
 use book::SpendBundle;
 use book::SubmissionBroadcastVariant;
 use book::SubmissionChainTerminality;
 use book::SubmissionDeliveryGoal;
 use book::SubmissionFeeIntent;
 use book::SubmissionId;
+use book::SubmissionState;
 use book::SubmissionStatus;
 use book::SubmittedEntry;
 use book::Token;
@@ -68,7 +70,7 @@ pub fn handed(
     ensures { λ r. ⌜ drainedOf r ≡ handedOut (token .0) goal e p ⌝ }
 {
     let id = e.id;
-    let status = e.status;
+    let status = e.state.status;
     let expiry = status.expiry;
     let before = token_in(p);
     let relation = relationship(p, goal, fingerprint);
@@ -114,13 +116,19 @@ pub fn new_entry(
         chain_terminality: SubmissionChainTerminality::Active,
         expiry: expiry,
     };
-    SubmittedEntry {
-        id: id,
+    let intent = RetainedIntent {
         intent_fingerprint: fingerprint,
         base_bundle: base,
-        current_variant: SubmissionBroadcastVariant::zero(),
         fee_intent: fee,
+    };
+    let state = SubmissionState {
+        current_variant: SubmissionBroadcastVariant::zero(),
         wallet_acknowledged_variant: OptionalHash::zero(),
         status: status,
+    };
+    SubmittedEntry {
+        id: id,
+        intent: intent,
+        state: state,
     }
 }

@@ -12,7 +12,7 @@ use Rattle.rules.specs.Parts.{currentBundle, currentAppliedFee, currentF
 unfoldable pub unusedFee : SubmissionDeliveryGoal → SubmittedEntry → FinalizedSubmission
 unfolding currentFingerprint currentAcknowledged
 unusedFee g e = record {
-  bundle = e .«base_bundle»;
+  bundle = e .intent .«base_bundle»;
   appliedFee = 0;
   warning = true;
   disposition = FeeUnused;
@@ -37,9 +37,9 @@ unfoldable pub attachedFinal : SpendBundle → SubmittedEntry → FinalizedSubmi
 unfolding variantFingerprint holdsHash
 attachedFinal j e = record {
   bundle = j;
-  appliedFee = e .«fee_intent» .amount;
+  appliedFee = e .intent .«fee_intent» .amount;
   warning = false;
   disposition = FeeAttached;
   fingerprint = variantFingerprint j;
-  shouldBroadcast = not (holdsHash (e .«wallet_acknowledged_variant») (variantFingerprint j));
+  shouldBroadcast = not (holdsHash (e .state .«wallet_acknowledged_variant») (variantFingerprint j));
 }

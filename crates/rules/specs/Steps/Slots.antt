@@ -70,6 +70,6 @@ handed t g e p = record {
   predecessor = tokenIn p;
   relationship = relationshipTo p g (currentFingerprint e);
   bundle = currentBundle e;
-  expiry = e .status .expiry;
+  expiry = e .state .status .expiry;
   feeIntent = openFeeIntent e;
 }

@@ -189,7 +189,7 @@ module _ (P : Memory → Type 0) (h : (a : Memory) → P a) where
     taken-unnamed f a (t ∷ ts) b = taken-knownBy f t a (missOf (c .intent) f (t .entry)) b
 
     taken-planned : (f : List ℕ) (a : Memory) (i : OptionalId) (b : Book) → TakenTo P b (plannedBy n c f b a i)
-    taken-planned f a NoId b = taken-unnamed f a (filterb (λ t. eqs (t .entry .«intent_fingerprint») f) (b .submitted)) b
+    taken-planned f a NoId b = taken-unnamed f a (filterb (λ t. eqs (t .entry .intent .«intent_fingerprint») f) (b .submitted)) b
     taken-planned f a (Of i) b = taken-named f (i .0) a (pick idOf (i .0) (b .submitted)) b
 
     taken-one : (a : Memory) (b : Book) → TakenTo P b (oneCandidate n c a)
@@ -279,8 +279,8 @@ taken-judges observed spent reorg ids (t ∷ ts) b s = taken-bind Ends (judge ob
 
     one : AllTaken (judgeEach observed spent reorg ids ts) → TakenTo P b (judge observed spent reorg ids t)
     one h =
-        taken-cond P b (outputObserved observed (t .entry)) _ _ (λ e. taken-halt P h (idOf t) Landed b)
-        (λ e. taken-cond P b (inputSpent spent (t .entry)) _ _ (λ f. taken-halt P h (idOf t) (spentAs reorg (t .entry .status .«chain_terminality»)) b)
+        taken-cond P b (outputObserved observed (t .entry .intent)) _ _ (λ e. taken-halt P h (idOf t) Landed b)
+        (λ e. taken-cond P b (inputSpent spent (t .entry .intent)) _ _ (λ f. taken-halt P h (idOf t) (spentAs reorg (t .entry .state .status .«chain_terminality»)) b)
         (λ f. taken-cond P b (elemb (idOf t) ids) _ _ (λ g. (refl, λ c x. h)) (λ g. h)))
 
 taken-reconcile : (observed spent : List ℕ) (reorg : Bool) (ids : List ℕ) → AllTaken (reconcileChainTerminality observed spent reorg ids)
@@ -345,7 +345,7 @@ all-taken encode Call.ReplayRollbackHeight = λ b s. tt
 all-taken encode (Call.ReconcileChainTerminality observed spent reorg ids) = taken-reconcile observed spent reorg ids
 all-taken encode (Call.CausallyRolledBackIds absent inputs) = λ b s. taken-cond Ends b (coinListb absent && idListb inputs) _ _ (λ e. tt) (λ e. tt)
 all-taken encode (Call.AbsentOutputsForIds is absent room) = λ b s. taken-cond Ends b (idsOk is && coinListb absent) _ _
-    (λ e. taken-writing room (encodeCoins (flatMap (λ t. absentOutputs (coinsIn absent) (t .entry)) (filterb (λ t. elemb (idOf t) is) (b .submitted)))) b s) (λ e. tt)
+    (λ e. taken-writing room (encodeCoins (flatMap (λ t. absentOutputs (coinsIn absent) (t .entry .intent)) (filterb (λ t. elemb (idOf t) is) (b .submitted)))) b s) (λ e. tt)
 all-taken encode (Call.CollectRollbackReplayIds is) = taken-collect is
 all-taken encode Call.ClearLocalArtifacts = taken-clear
 all-taken encode Call.RestoreRuntime = λ b s. taken-setAsides (map idOf (b .submitted)) b s
