@@ -103,7 +103,7 @@ facts-lawful =
     step (λ (f : Facts). f .state .status .expiry) height-lawful (λ f x. x .0 .0 .0 .0 .0 .0 .0 .expiry) (λ e ge.
     finish (factsAs p b v r i a c e)
     ((((((((record { fingerprint = gp; base = gb; current = gv; fee = gi; acknowledged = ga; expiry = ge }, refl), refl), refl), refl), refl), refl), refl), refl)
-    (λ f x j. factsAs (x .0 .0 .0 .0 .0 .0 .0 .1 j) (x .0 .0 .0 .0 .0 .0 .1 j) (x .0 .0 .0 .0 .0 .1 j) (x .0 .0 .0 .0 .1 j) (x .0 .0 .0 .1 j) (x .0 .0 .1 j) (x .0 .1 j) (x .1 j))))))))))
+    (λ f x j. factsAs (x .0 .0 .0 .0 .0 .0 .0 .1 j) (x .0 .0 .0 .0 .0 .0 .1 j) (x .0 .0 .0 .0 .0 .1 j) (x .0 .0 .0 .0 .1 j) (x .0 .0 .0 .1 j) (x .0 .0 .1 j) (x .0 .1 j) (x .1 j)))))))))))
 
 -- ---- a retained submission, after those before it
 abbrev heldBy : List SubmittedTx → List ℕ

@@ -96,7 +96,7 @@ taken-withdraws r h (i ∷ is) b s = (refl, λ c x. (refl, λ d y. taken-withdra
 -- a retained submission's own intent is sound
 pub redelivery-sound : (trigger : DeliveryTrigger) (g : SubmissionDeliveryGoal) (e : SubmittedEntry) → soundEntry e ≡ true → soundDelivery (redelivery trigger g e) ≡ true
 unfolding soundDelivery soundIntent redelivery
-redelivery-sound trigger g e h = let s = sound-entry e h in and-both (s .base) (s .fee-intent)
+redelivery-sound trigger g e h = let s = sound-entry e h .intent in and-both (s .base) (s .fee-intent)
 
 taken-offerTo : (P : Unit {0} → Type 0) → P tt → (w : DeliveryTrigger) (g : SubmissionDeliveryGoal) (q : Bool) (ts : List SubmittedTx) → allb soundSubmitted ts ≡ true → (b : Book) → TakenTo P b (offerTo w g q ts)
 taken-offerTo P h w g q [] k b = h
