@@ -6,34 +6,20 @@ use mathlib.Core.List.{List, [], _∷_, _++_, map, append-nil}
 use lib.Dec.{eqb}
 use Rattle.base_lists.specs.Laws.{elem-append}
 use Rattle.base_lists.specs.Lists.{elemb, flatMap}
-use Rattle.codec_forms.specs.Wire.{Ans, Parser, _>>=_, done, run, checked, number}
+use Rattle.codec_forms.specs.Wire.{Ans, Parser, _>>=_, done, checked, number}
 use Rattle.codec_cursor.specs.Cursor.{Reads}
 use Rattle.book.specs.Zero.{noAttempt}
 use Rattle.book.specs.Sound.{idOf, attemptToken, tokensOf}
 use Rattle.book.specs.declared.OptionalAttempt.{OptionalAttempt}
 use Rattle.book.specs.declared.SubmittedTx.{SubmittedTx}
-use Rattle.archive_form.specs.Parse.{Facts, parseRetired, parseSlot, parseSlots, parseBundle, parseVariant, parseFacts, parseSubmitted}
+use Rattle.archive_form.specs.Parse.{parseRetired, parseSlot, parseSlots, parseFacts, parseSubmitted}
 
 unfoldable pub parseAfter : ℕ → List ℕ → List ℕ → Parser SubmittedTx
 parseAfter next ids tokens = do
   i ← parseRetired ids
   s ← parseSlots next tokens
-  p ← run 32
-  b ← parseBundle true
-  v ← parseVariant
   f ← parseFacts
-  done (record {
-    slots = s;
-    entry = record {
-      id = record { 0 = i };
-      «intent_fingerprint» = p;
-      «base_bundle» = b;
-      «current_variant» = v;
-      «fee_intent» = f .feeIntent;
-      «wallet_acknowledged_variant» = f .acknowledged;
-      status = record { «fee_resolution» = f .resolution; «chain_terminality» = f .chain; expiry = f .expiry };
-    };
-  })
+  done (record { slots = s; entry = record { id = record { 0 = i }; intent = f .intent; state = f .state } })
 
 pub submitted-is : (next : ℕ) (before : List SubmittedTx) (s : List ℕ) (at : ℕ) → parseSubmitted next before s at ≡ parseAfter next (map idOf before) (flatMap tokensOf before) s at
 unfolding parseSubmitted parseAfter parseRetired

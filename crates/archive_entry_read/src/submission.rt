@@ -7,8 +7,10 @@ use archive_bundle_read::part::read_fee_intent;
 use archive_bundle_read::part::read_height;
 use archive_bundle_read::part::read_optional_hash;
 use base_lists::contains;
+use book::RetainedIntent;
 use book::SubmissionBroadcastVariant;
 use book::SubmissionId;
+use book::SubmissionState;
 use book::SubmissionStatus;
 use book::SubmittedEntry;
 use book::SubmittedTx;
@@ -73,14 +75,16 @@ pub fn read_submitted(
         chain_terminality,
         expiry,
     };
-    let entry = SubmittedEntry {
-        id,
+    let intent = RetainedIntent {
         intent_fingerprint,
         base_bundle,
-        current_variant,
         fee_intent,
+    };
+    let state = SubmissionState {
+        current_variant,
         wallet_acknowledged_variant,
         status,
     };
+    let entry = SubmittedEntry { id, intent, state };
     SubmittedTx { slots, entry }
 }

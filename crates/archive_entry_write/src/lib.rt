@@ -122,19 +122,25 @@ fn append_variant(out: &mut [u8], at: usize, v: SubmissionBroadcastVariant) -> u
     append_number(out, bundle_end, v.applied_fee)
 }
 
-// Durable mark and fee intent, acknowledged fingerprint, chain, expiry.
+// Intent and state, in the order of the form.
 fn append_facts(out: &mut [u8], at: usize, e: SubmittedEntry) -> usize
-    ensures { λ r. ⌜ Fits (encodeFacts e) at (now (out .entry)) (now (out .exit)) r ⌝ }
+    ensures { λ r. ⌜ Fits (encodeFacts (e .intent) (e .state)) at (now (out .entry)) (now (out .exit)) r ⌝ }
 {
-    let status = e.status;
+    let fingerprint = e.intent.intent_fingerprint;
+    let base = e.intent.base_bundle;
+    let fee_intent = e.intent.fee_intent;
+    let variant = e.state.current_variant;
+    let acknowledged = e.state.wallet_acknowledged_variant;
+    let status = e.state.status;
     let resolution = status.fee_resolution;
     let terminality = status.chain_terminality;
     let expiry = status.expiry;
-    let fee_intent = e.fee_intent;
-    let acknowledged = e.wallet_acknowledged_variant;
     let m = resolution_number(resolution);
     let c = chain_number(terminality);
-    let mark_end = append_byte(&mut *out, at, m);
+    let fingerprint_end = append_bytes(&mut *out, at, &fingerprint);
+    let base_end = append_bundle(&mut *out, fingerprint_end, base);
+    let variant_end = append_variant(&mut *out, base_end, variant);
+    let mark_end = append_byte(&mut *out, variant_end, m);
     let fee_end = append_fee_intent(&mut *out, mark_end, fee_intent);
     let acknowledged_end = append_hash(&mut *out, fee_end, acknowledged);
     let chain_end = append_byte(&mut *out, acknowledged_end, c);
@@ -146,15 +152,9 @@ pub fn append_submitted(out: &mut [u8], at: usize, t: SubmittedTx) -> usize
 {
     let slots = t.slots;
     let entry = t.entry;
-    let fingerprint = entry.intent_fingerprint;
-    let base = entry.base_bundle;
-    let variant = entry.current_variant;
     let id_end = append_number(&mut *out, at, entry.id.0);
     let slots_end = append_slots(&mut *out, id_end, slots);
-    let fingerprint_end = append_bytes(&mut *out, slots_end, &fingerprint);
-    let base_end = append_bundle(&mut *out, fingerprint_end, base);
-    let variant_end = append_variant(&mut *out, base_end, variant);
-    append_facts(out, variant_end, entry)
+    append_facts(out, slots_end, entry)
 }
 
 pub fn append_id(out: &mut [u8], at: usize, i: OptionalId) -> usize

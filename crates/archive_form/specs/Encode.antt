@@ -20,7 +20,8 @@ use Rattle.book.specs.declared.DeliveryAttempt.{DeliveryAttempt}
 use Rattle.book.specs.declared.OptionalAttempt.{OptionalAttempt}
 use Rattle.book.specs.declared.AttemptSlots.{AttemptSlots}
 use Rattle.book.specs.declared.SubmissionBroadcastVariant.{SubmissionBroadcastVariant}
-use Rattle.book.specs.declared.SubmittedEntry.{SubmittedEntry}
+use Rattle.book.specs.declared.RetainedIntent.{RetainedIntent}
+use Rattle.book.specs.declared.SubmissionState.{SubmissionState}
 use Rattle.book.specs.declared.SubmittedTx.{SubmittedTx}
 use Rattle.book.specs.declared.PendingDelivery.{PendingDelivery}
 use Rattle.book.specs.declared.BookData.{BookData}
@@ -76,19 +77,19 @@ unfoldable pub encodeVariant : SubmissionBroadcastVariant → List ℕ
 unfolding be encOpt encodeBundle
 encodeVariant v = encOpt (v .«fee_bearing») (encodeBundle (v .bundle) ++ be 8 (v .«applied_fee»))
 
--- durable mark and fee intent, acknowledged fingerprint, chain, expiry
-unfoldable pub encodeFacts : SubmittedEntry → List ℕ
-unfolding be encodeFeeIntent encodeHash encodeHeight
-encodeFacts e =
-    be 1 (resolutionNumber (e .status .«fee_resolution»)) ++ encodeFeeIntent (e .«fee_intent») ++ encodeHash (e .«wallet_acknowledged_variant»)
-    ++ be 1 (chainNumber (e .status .«chain_terminality»)) ++ encodeHeight (e .status .expiry)
+-- intent and state. Paper 01's order takes them by turns: intent fingerprint, base bundle and fee intent are of the intent, the fee bundle and what
+-- stands behind it else (durable mark, acknowledged fingerprint, chain, expiry) of the state
+unfoldable pub encodeFacts : RetainedIntent → SubmissionState → List ℕ
+unfolding be encodeBundle encodeVariant encodeFeeIntent encodeHash encodeHeight
+encodeFacts p s =
+    p .«intent_fingerprint» ++ encodeBundle (p .«base_bundle») ++ encodeVariant (s .«current_variant»)
+    ++ be 1 (resolutionNumber (s .status .«fee_resolution»)) ++ encodeFeeIntent (p .«fee_intent») ++ encodeHash (s .«wallet_acknowledged_variant»)
+    ++ be 1 (chainNumber (s .status .«chain_terminality»)) ++ encodeHeight (s .status .expiry)
 
--- retained: id, the two attempts, intent fingerprint, base bundle, fee bundle, and the rest
+-- retained: id, the two attempts, intent and state
 unfoldable pub encodeSubmitted : SubmittedTx → List ℕ
-unfolding be encodeSlots encodeBundle encodeVariant encodeFacts
-encodeSubmitted t =
-    be 8 (t .entry .id .0) ++ encodeSlots (t .slots) ++ t .entry .«intent_fingerprint» ++ encodeBundle (t .entry .«base_bundle»)
-    ++ encodeVariant (t .entry .«current_variant») ++ encodeFacts (t .entry)
+unfolding be encodeSlots encodeFacts
+encodeSubmitted t = be 8 (t .entry .id .0) ++ encodeSlots (t .slots) ++ encodeFacts (t .entry .intent) (t .entry .state)
 
 -- ---- the queue
 unfoldable pub encodeId : OptionalId → List ℕ

@@ -36,7 +36,9 @@ use Rattle.book.specs.declared.DeliveryAttempt.{DeliveryAttempt}
 use Rattle.book.specs.declared.OptionalAttempt.{OptionalAttempt}
 use Rattle.book.specs.declared.AttemptSlots.{AttemptSlots}
 use Rattle.book.specs.declared.SubmissionBroadcastVariant.{SubmissionBroadcastVariant}
+use Rattle.book.specs.declared.RetainedIntent.{RetainedIntent}
 use Rattle.book.specs.declared.SubmissionStatus.{SubmissionStatus}
+use Rattle.book.specs.declared.SubmissionState.{SubmissionState}
 use Rattle.book.specs.declared.SubmittedEntry.{SubmittedEntry}
 use Rattle.book.specs.declared.SubmittedTx.{SubmittedTx}
 use Rattle.book.specs.declared.PendingSubmissionIntent.{PendingSubmissionIntent}
@@ -191,46 +193,39 @@ parseVariant = optional baseVariant (do
   n ← number 8
   done (record { «fee_bearing» = true; bundle = b; «applied_fee» = n }))
 
--- what stands behind the bundles of a retained submission
+-- intent and state of a retained submission, whose bytes stand by turns
 pub record Facts : Type 0 where
-  pub resolution : FeeResolution
-  pub feeIntent : SubmissionFeeIntent
-  pub acknowledged : OptionalHash
-  pub chain : SubmissionChainTerminality
-  pub expiry : OptionalHeight
+  pub intent : RetainedIntent
+  pub state : SubmissionState
 
 unfoldable pub parseFacts : Parser Facts
-unfolding parseResolution parseFeeIntent parseHash parseChain parseHeight
+unfolding run parseBundle parseVariant parseResolution parseFeeIntent parseHash parseChain parseHeight
 parseFacts = do
+  p ← run 32
+  b ← parseBundle true
+  v ← parseVariant
   r ← parseResolution
   f ← parseFeeIntent
   a ← parseHash
   c ← parseChain
   e ← parseHeight
-  done (record { resolution = r; feeIntent = f; acknowledged = a; chain = c; expiry = e })
+  done (record {
+    intent = record { «intent_fingerprint» = p; «base_bundle» = b; «fee_intent» = f };
+    state = record {
+      «current_variant» = v;
+      «wallet_acknowledged_variant» = a;
+      status = record { «fee_resolution» = r; «chain_terminality» = c; expiry = e };
+    };
+  })
 
 -- the id is in no submission before, nor are its tokens
 unfoldable pub parseSubmitted : ℕ → List SubmittedTx → Parser SubmittedTx
-unfolding checked number run parseSlots parseBundle parseVariant parseFacts
+unfolding checked number parseSlots parseFacts
 parseSubmitted next before = do
   i ← checked (λ i. not (elemb i (map idOf before))) (number 8)
   s ← parseSlots next (flatMap tokensOf before)
-  p ← run 32
-  b ← parseBundle true
-  v ← parseVariant
   f ← parseFacts
-  done (record {
-    slots = s;
-    entry = record {
-      id = record { 0 = i };
-      «intent_fingerprint» = p;
-      «base_bundle» = b;
-      «current_variant» = v;
-      «fee_intent» = f .feeIntent;
-      «wallet_acknowledged_variant» = f .acknowledged;
-      status = record { «fee_resolution» = f .resolution; «chain_terminality» = f .chain; expiry = f .expiry };
-    };
-  })
+  done (record { slots = s; entry = record { id = record { 0 = i }; intent = f .intent; state = f .state } })
 
 -- ---- the queue
 unfoldable pub parseDelivery : Parser PendingDelivery

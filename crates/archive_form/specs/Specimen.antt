@@ -89,12 +89,12 @@ submission = record {
   };
   entry = record {
     id = record { 0 = 1 };
-    «intent_fingerprint» = replicate 32 4;
-    «base_bundle» = bundle;
-    «current_variant» = baseVariant;
-    «fee_intent» = record { kind = Attach; target = replicate 32 5; amount = 9 };
-    «wallet_acknowledged_variant» = zeroHash;
-    status = record { «fee_resolution» = Unresolved; «chain_terminality» = Active; expiry = At (record { 0 = 77 }) };
+    intent = record { «intent_fingerprint» = replicate 32 4; «base_bundle» = bundle; «fee_intent» = record { kind = Attach; target = replicate 32 5; amount = 9 } };
+    state = record {
+      «current_variant» = baseVariant;
+      «wallet_acknowledged_variant» = zeroHash;
+      status = record { «fee_resolution» = Unresolved; «chain_terminality» = Active; expiry = At (record { 0 = 77 }) };
+    };
   };
 }
 

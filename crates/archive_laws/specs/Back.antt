@@ -5,7 +5,7 @@ use mathlib.Core.List.{List, [], _∷_}
 use Prim.Native.Nat.{ℕ, _<_, _≤_}
 use native.Mathlib.Omega.{arith}
 use lib.ListN.{length, take, replicate}
-use Rattle.book.specs.Zero.{zeroFeeIntent, zeroHash, zeroAttempt, noAttempt, noSlots, baseVariant, zeroStatus, zeroEntry, zeroSubmitted, zeroIntent, zeroDelivery}
+use Rattle.book.specs.Zero.{zeroFeeIntent, zeroHash, zeroAttempt, noAttempt, noSlots, baseVariant, zeroRetainedIntent, zeroStatus, zeroState, zeroEntry, zeroSubmitted, zeroIntent, zeroDelivery}
 use Rattle.book.specs.SoundLaws.{sound, fits-view, sound-back}
 use Rattle.book.specs.Sound.{soundLists, soundb}
 use Rattle.book.specs.Model.{Book, view, back, list16, list64, ids16, ids64}
@@ -43,17 +43,13 @@ zero32 : Array 32 U8 (replicate 32 0)
 zero32 = record { long = refl; each = every-replicate U8 32 0 (omega arith) }
 
 submitted-typed : TypedSubmitted zeroSubmitted
-unfolding zeroSubmitted zeroEntry noSlots noAttempt zeroAttempt baseVariant zeroFeeIntent zeroHash zeroStatus
+unfolding zeroSubmitted zeroEntry zeroRetainedIntent zeroState noSlots noAttempt zeroAttempt baseVariant zeroFeeIntent zeroHash zeroStatus
 submitted-typed = record {
   slots = record { active = record { token = omega arith; drained = zero32; finalized = zero32 }; completed = record { token = omega arith; drained = zero32; finalized = zero32 } };
   entry = record {
     id = omega arith;
-    fingerprint = zero32;
-    base = zero-bundle-typed;
-    current = record { bundle = zero-bundle-typed; applied-fee = omega arith };
-    fee-intent = record { target = zero32; amount = omega arith };
-    acknowledged = zero32;
-    status = tt;
+    intent = record { fingerprint = zero32; base = zero-bundle-typed; fee-intent = record { target = zero32; amount = omega arith } };
+    state = record { current = record { bundle = zero-bundle-typed; applied-fee = omega arith }; acknowledged = zero32; status = tt };
   };
 }
 

@@ -14,9 +14,6 @@ use Rattle.codec_forms.specs.Items.{RunOf, run-lawful, AllFrom}
 use Rattle.book.specs.Typed.{Every, U8, Array, Bytes}
 
 -- parts one after the other: as they are read and as they are written
-pub five : (a b c d e : List ℕ) → a ++ (b ++ (c ++ (d ++ e))) ≡ a ++ b ++ c ++ d ++ e
-five a b c d e = sym (simp append-assoc)
-
 pub six : (a b c d e f : List ℕ) → a ++ (b ++ (c ++ (d ++ (e ++ f)))) ≡ a ++ b ++ c ++ d ++ e ++ f
 six a b c d e f = sym (simp append-assoc)
 

@@ -11,7 +11,7 @@ use Rattle.codec_forms.specs.Items.{number-lawful, checked-lawful}
 use Rattle.archive_bundle_form.specs.Forms.{encodeBundle, encodeHeight, encodeFeeIntent}
 use Rattle.book.specs.Sound.{soundFeeIntent, soundHash, soundAttempt, soundSlots, soundVariant, soundBundle, readableBundle, soundEntry, soundSubmitted, soundIntent, soundDelivery, idOf, attemptToken, tokensOf, spendsOf}
 use Rattle.book.specs.SoundLaws.{SoundEntry, sound-entry, entry-sound, sound-submitted, submitted-sound}
-use Rattle.book.specs.Typed.{Bytes, TypedOptionalHeight, TypedOptionalId, TypedFeeIntent, TypedHash, TypedSlots, TypedVariant, TypedBundle, TypedEntry, TypedSubmitted, TypedIntent, TypedDelivery}
+use Rattle.book.specs.Typed.{Bytes, TypedOptionalHeight, TypedOptionalId, TypedFeeIntent, TypedHash, TypedSlots, TypedVariant, TypedBundle, TypedSubmitted, TypedIntent, TypedDelivery}
 use Rattle.book.specs.declared.Height.{Height}
 use Rattle.book.specs.declared.SubmissionId.{SubmissionId}
 use Rattle.book.specs.declared.OptionalHeight.{OptionalHeight}
@@ -31,7 +31,8 @@ use Rattle.book.specs.declared.OptionalHash.{OptionalHash}
 use Rattle.book.specs.declared.OptionalAttempt.{OptionalAttempt}
 use Rattle.book.specs.declared.AttemptSlots.{AttemptSlots}
 use Rattle.book.specs.declared.SubmissionBroadcastVariant.{SubmissionBroadcastVariant}
-use Rattle.book.specs.declared.SubmissionStatus.{SubmissionStatus}
+use Rattle.book.specs.declared.RetainedIntent.{RetainedIntent}
+use Rattle.book.specs.declared.SubmissionState.{SubmissionState}
 use Rattle.book.specs.declared.SubmittedEntry.{SubmittedEntry}
 use Rattle.book.specs.declared.SubmittedTx.{SubmittedTx}
 use Rattle.book.specs.declared.PendingSubmissionIntent.{PendingSubmissionIntent}
@@ -57,40 +58,52 @@ slots-lawful next held =
     step (λ (s : AttemptSlots). s .«completed_attempt») (slot-lawful next (held ++ attemptToken a)) (λ s x. subst (λ (y : OptionalAttempt). GoodSlot next (held ++ attemptToken y) (s .«completed_attempt»)) (x .1) (x .0 .aside)) (λ c gc.
     finish (record { «active_attempt» = a; «completed_attempt» = c }) ((record { live = ga; aside = gc }, refl), refl) (λ s x i. record { «active_attempt» = x .0 .1 i; «completed_attempt» = x .1 i }))))
 
--- ---- what stands behind the bundles
+-- ---- intent and state
 pub record GoodFacts (f : Facts) : Type 0 where
-  pub fee : GoodFeeIntent (f .feeIntent)
-  pub acknowledged : GoodHash (f .acknowledged)
-  pub expiry : TypedOptionalHeight (f .expiry)
+  pub fingerprint : Bytes 32 (f .intent .«intent_fingerprint»)
+  pub base : GoodBundle true (f .intent .«base_bundle»)
+  pub current : GoodVariant (f .state .«current_variant»)
+  pub fee : GoodFeeIntent (f .intent .«fee_intent»)
+  pub acknowledged : GoodHash (f .state .«wallet_acknowledged_variant»)
+  pub expiry : TypedOptionalHeight (f .state .status .expiry)
 
-encFacts : Facts → List ℕ
-encFacts f = be 1 (resolutionNumber (f .resolution)) ++ encodeFeeIntent (f .feeIntent) ++ encodeHash (f .acknowledged) ++ be 1 (chainNumber (f .chain)) ++ encodeHeight (f .expiry)
+abbrev pub encFacts : Facts → List ℕ
+encFacts f = encodeFacts (f .intent) (f .state)
 
 abbrev pub factsOf : SubmittedEntry → Facts
-factsOf e = record { resolution = e .status .«fee_resolution»; feeIntent = e .«fee_intent»; acknowledged = e .«wallet_acknowledged_variant»; chain = e .status .«chain_terminality»; expiry = e .status .expiry }
+factsOf e = record { intent = e .intent; state = e .state }
 
-facts-same : (e : SubmittedEntry) → encFacts (factsOf e) ≡ encodeFacts e
-unfolding encFacts encodeFacts
-facts-same e = refl
+factsAs : List ℕ → SpendBundle → SubmissionBroadcastVariant → FeeResolution → SubmissionFeeIntent → OptionalHash → SubmissionChainTerminality → OptionalHeight → Facts
+factsAs p b v r f a c e = record {
+  intent = record { «intent_fingerprint» = p; «base_bundle» = b; «fee_intent» = f };
+  state = record { «current_variant» = v; «wallet_acknowledged_variant» = a; status = record { «fee_resolution» = r; «chain_terminality» = c; expiry = e } };
+}
 
-facts-bytes : (f : Facts) → be 1 (resolutionNumber (f .resolution)) ++ (encodeFeeIntent (f .feeIntent) ++ (encodeHash (f .acknowledged) ++ (be 1 (chainNumber (f .chain)) ++ (encodeHeight (f .expiry) ++ [])))) ≡ encFacts f
-unfolding encFacts
-facts-bytes f =
-    ap (λ (l : List ℕ). be 1 (resolutionNumber (f .resolution)) ++ (encodeFeeIntent (f .feeIntent) ++ (encodeHash (f .acknowledged) ++ (be 1 (chainNumber (f .chain)) ++ l)))) (append-nil (encodeHeight (f .expiry)))
+facts-bytes : (p : RetainedIntent) (s : SubmissionState)
+    → p .«intent_fingerprint» ++ (encodeBundle (p .«base_bundle») ++ (encodeVariant (s .«current_variant») ++ (be 1 (resolutionNumber (s .status .«fee_resolution»))
+    ++ (encodeFeeIntent (p .«fee_intent») ++ (encodeHash (s .«wallet_acknowledged_variant») ++ (be 1 (chainNumber (s .status .«chain_terminality»)) ++ (encodeHeight (s .status .expiry) ++ [])))))))
+    ≡ encodeFacts p s
+unfolding encodeFacts
+facts-bytes p s =
+    ap (λ (l : List ℕ). p .«intent_fingerprint» ++ (encodeBundle (p .«base_bundle») ++ (encodeVariant (s .«current_variant») ++ (be 1 (resolutionNumber (s .status .«fee_resolution»))
+    ++ (encodeFeeIntent (p .«fee_intent») ++ (encodeHash (s .«wallet_acknowledged_variant») ++ (be 1 (chainNumber (s .status .«chain_terminality»)) ++ l))))))) (append-nil (encodeHeight (s .status .expiry)))
     ∙ sym (simp append-assoc)
 
-facts-lawful : Lawful GoodFacts encFacts parseFacts
-unfolding parseFacts
+pub facts-lawful : Lawful GoodFacts encFacts parseFacts
+unfolding parseFacts factsAs
 facts-lawful =
-    recode encFacts (λ f x. facts-bytes f)
-    (step (λ (f : Facts). f .resolution) resolution-lawful (λ f x. tt) (λ r gr.
-    step (λ (f : Facts). f .feeIntent) fee-intent-lawful (λ f x. x .0 .fee) (λ i gi.
-    step (λ (f : Facts). f .acknowledged) hash-lawful (λ f x. x .0 .0 .acknowledged) (λ a ga.
-    step (λ (f : Facts). f .chain) chain-lawful (λ f x. tt) (λ c gc.
-    step (λ (f : Facts). f .expiry) height-lawful (λ f x. x .0 .0 .0 .0 .expiry) (λ e ge.
-    finish (record { resolution = r; feeIntent = i; acknowledged = a; chain = c; expiry = e })
-    (((((record { fee = gi; acknowledged = ga; expiry = ge }, refl), refl), refl), refl), refl)
-    (λ f x j. record { resolution = x .0 .0 .0 .0 .1 j; feeIntent = x .0 .0 .0 .1 j; acknowledged = x .0 .0 .1 j; chain = x .0 .1 j; expiry = x .1 j })))))))
+    recode encFacts (λ f x. facts-bytes (f .intent) (f .state))
+    (step (λ (f : Facts). f .intent .«intent_fingerprint») (bytes-lawful 32) (λ f x. x .fingerprint) (λ p gp.
+    step (λ (f : Facts). f .intent .«base_bundle») (bundle-lawful true) (λ f x. x .0 .base) (λ b gb.
+    step (λ (f : Facts). f .state .«current_variant») variant-lawful (λ f x. x .0 .0 .current) (λ v gv.
+    step (λ (f : Facts). f .state .status .«fee_resolution») resolution-lawful (λ f x. tt) (λ r gr.
+    step (λ (f : Facts). f .intent .«fee_intent») fee-intent-lawful (λ f x. x .0 .0 .0 .0 .fee) (λ i gi.
+    step (λ (f : Facts). f .state .«wallet_acknowledged_variant») hash-lawful (λ f x. x .0 .0 .0 .0 .0 .acknowledged) (λ a ga.
+    step (λ (f : Facts). f .state .status .«chain_terminality») chain-lawful (λ f x. tt) (λ c gc.
+    step (λ (f : Facts). f .state .status .expiry) height-lawful (λ f x. x .0 .0 .0 .0 .0 .0 .0 .expiry) (λ e ge.
+    finish (factsAs p b v r i a c e)
+    ((((((((record { fingerprint = gp; base = gb; current = gv; fee = gi; acknowledged = ga; expiry = ge }, refl), refl), refl), refl), refl), refl), refl), refl)
+    (λ f x j. factsAs (x .0 .0 .0 .0 .0 .0 .0 .1 j) (x .0 .0 .0 .0 .0 .0 .1 j) (x .0 .0 .0 .0 .0 .1 j) (x .0 .0 .0 .0 .1 j) (x .0 .0 .0 .1 j) (x .0 .0 .1 j) (x .0 .1 j) (x .1 j)))))))))))
 
 -- ---- a retained submission, after those before it
 abbrev heldBy : List SubmittedTx → List ℕ
@@ -136,41 +149,51 @@ good-base : (b : SpendBundle) → GoodBundle true b → readableBundle b ≡ tru
 unfolding readableBundle
 good-base b g = g .readable
 
-submittedOf : ℕ → AttemptSlots → List ℕ → SpendBundle → SubmissionBroadcastVariant → Facts → SubmittedTx
-submittedOf i s p b v f = record {
-  slots = s;
-  entry = record {
-    id = record { 0 = i };
-    «intent_fingerprint» = p;
-    «base_bundle» = b;
-    «current_variant» = v;
-    «fee_intent» = f .feeIntent;
-    «wallet_acknowledged_variant» = f .acknowledged;
-    status = record { «fee_resolution» = f .resolution; «chain_terminality» = f .chain; expiry = f .expiry };
-  };
-}
+pub facts-good : (next : ℕ) (before : List SubmittedTx) (t : SubmittedTx) → GoodSubmitted next before t → GoodFacts (factsOf (t .entry))
+facts-good next before t g =
+    let y = g .typed .entry in
+    let f = submitted-facts t (g .sound) .entry in
+    record {
+      fingerprint = y .intent .fingerprint;
+      base = base-good (t .entry .intent .«base_bundle») (y .intent .base) (f .intent .base) (f .intent .readable);
+      current = record { typed = y .state .current; sound = f .state .current };
+      fee = record { typed = y .intent .fee-intent; sound = f .intent .fee-intent };
+      acknowledged = record { typed = y .state .acknowledged; sound = f .state .acknowledged };
+      expiry = y .state .status;
+    }
 
-submitted-good : (next : ℕ) (before : List SubmittedTx) (i : ℕ) (s : AttemptSlots) (p : List ℕ) (b : SpendBundle) (v : SubmissionBroadcastVariant) (f : Facts) → i < 256 ^ 8 → not (elemb i (map idOf before)) ≡ true → GoodSlots next (heldBy before) s → Bytes 32 p → GoodBundle true b → GoodVariant v → GoodFacts f → GoodSubmitted next before (submittedOf i s p b v f)
+submittedOf : ℕ → AttemptSlots → Facts → SubmittedTx
+submittedOf i s f = record { slots = s; entry = record { id = record { 0 = i }; intent = f .intent; state = f .state } }
+
+submitted-good : (next : ℕ) (before : List SubmittedTx) (i : ℕ) (s : AttemptSlots) (f : Facts) → i < 256 ^ 8 → not (elemb i (map idOf before)) ≡ true → GoodSlots next (heldBy before) s
+    → GoodFacts f → GoodSubmitted next before (submittedOf i s f)
 unfolding submittedOf
-submitted-good next before i s p b v f gi new gs gp gb gv gf = record {
+submitted-good next before i s f gi new gs gf = record {
   typed = record {
     slots = record { active = gs .live .typed; completed = gs .aside .typed };
-    entry = record { id = gi; fingerprint = gp; base = gb .typed; current = gv .typed; fee-intent = gf .fee .typed; acknowledged = gf .acknowledged .typed; status = gf .expiry };
+    entry = record {
+      id = gi;
+      intent = record { fingerprint = gf .fingerprint; base = gf .base .typed; fee-intent = gf .fee .typed };
+      state = record { current = gf .current .typed; acknowledged = gf .acknowledged .typed; status = gf .expiry };
+    };
   };
-  sound = facts-submitted (submittedOf i s p b v f) (record {
+  sound = facts-submitted (submittedOf i s f) (record {
     active = gs .live .sound;
     completed = gs .aside .sound;
-    entry = record { base = gb .sound; readable = good-base b gb; current = gv .sound; fee-intent = gf .fee .sound; acknowledged = gf .acknowledged .sound };
+    entry = record {
+      intent = record { base = gf .base .sound; readable = good-base (f .intent .«base_bundle») (gf .base); fee-intent = gf .fee .sound };
+      state = record { current = gf .current .sound; acknowledged = gf .acknowledged .sound };
+    };
   });
   new = new;
   live = gs .live .fresh;
   aside = gs .aside .fresh;
 }
 
-submitted-bytes : (t : SubmittedTx) → be 8 (t .entry .id .0) ++ (encodeSlots (t .slots) ++ (t .entry .«intent_fingerprint» ++ (encodeBundle (t .entry .«base_bundle») ++ (encodeVariant (t .entry .«current_variant») ++ (encFacts (factsOf (t .entry)) ++ []))))) ≡ encodeSubmitted t
+submitted-bytes : (t : SubmittedTx) → be 8 (t .entry .id .0) ++ (encodeSlots (t .slots) ++ (encodeFacts (t .entry .intent) (t .entry .state) ++ [])) ≡ encodeSubmitted t
 unfolding encodeSubmitted
 submitted-bytes t =
-    ap (λ (l : List ℕ). be 8 (t .entry .id .0) ++ (encodeSlots (t .slots) ++ (t .entry .«intent_fingerprint» ++ (encodeBundle (t .entry .«base_bundle») ++ (encodeVariant (t .entry .«current_variant») ++ l))))) (append-nil (encFacts (factsOf (t .entry))) ∙ facts-same (t .entry))
+    ap (λ (l : List ℕ). be 8 (t .entry .id .0) ++ (encodeSlots (t .slots) ++ l)) (append-nil (encodeFacts (t .entry .intent) (t .entry .state)))
     ∙ sym (simp append-assoc)
 
 pub submitted-lawful : (next : ℕ) (before : List SubmittedTx) → Lawful (GoodSubmitted next before) encodeSubmitted (parseSubmitted next before)
@@ -179,16 +202,8 @@ submitted-lawful next before =
     recode encodeSubmitted (λ t x. submitted-bytes t)
     (step idOf (checked-lawful (λ i. not (elemb i (map idOf before))) (number-lawful 8)) (λ t x. (x .typed .entry .id, x .new)) (λ i gi.
     step (λ (t : SubmittedTx). t .slots) (slots-lawful next (heldBy before)) (λ t x. slots-good next before t (x .0)) (λ s gs.
-    step (λ (t : SubmittedTx). t .entry .«intent_fingerprint») (bytes-lawful 32) (λ t x. x .0 .0 .typed .entry .fingerprint) (λ p gp.
-    step (λ (t : SubmittedTx). t .entry .«base_bundle») (bundle-lawful true) (λ t x. let f = submitted-facts t (x .0 .0 .0 .sound) in base-good (t .entry .«base_bundle») (x .0 .0 .0 .typed .entry .base) (f .entry .base) (f .entry .readable)) (λ b gb.
-    step (λ (t : SubmittedTx). t .entry .«current_variant») variant-lawful (λ t x. record { typed = x .0 .0 .0 .0 .typed .entry .current; sound = submitted-facts t (x .0 .0 .0 .0 .sound) .entry .current }) (λ v gv.
-    step (λ (t : SubmittedTx). factsOf (t .entry)) facts-lawful (λ t x. let y = x .0 .0 .0 .0 .0 in let f = submitted-facts t (y .sound) in record {
-      fee = record { typed = y .typed .entry .fee-intent; sound = f .entry .fee-intent };
-      acknowledged = record { typed = y .typed .entry .acknowledged; sound = f .entry .acknowledged };
-      expiry = y .typed .entry .status;
-    }) (λ f gf.
-    finish (submittedOf i s p b v f) ((((((submitted-good next before i s p b v f (gi .0) (gi .1) gs gp gb gv gf, refl), refl), refl), refl), refl), refl)
-    (λ t x j. submittedOf (x .0 .0 .0 .0 .0 .1 j) (x .0 .0 .0 .0 .1 j) (x .0 .0 .0 .1 j) (x .0 .0 .1 j) (x .0 .1 j) (x .1 j)))))))))
+    step (λ (t : SubmittedTx). factsOf (t .entry)) facts-lawful (λ t x. facts-good next before t (x .0 .0)) (λ f gf.
+    finish (submittedOf i s f) (((submitted-good next before i s f (gi .0) (gi .1) gs gf, refl), refl), refl) (λ t x j. submittedOf (x .0 .0 .1 j) (x .0 .1 j) (x .1 j))))))
 
 -- ---- a queue entry
 pub record GoodDelivery (d : PendingDelivery) : Type 0 where

@@ -34,18 +34,19 @@ use Rattle.book.specs.declared.OptionalHash.{OptionalHash}
 use Rattle.book.specs.declared.OptionalAttempt.{OptionalAttempt}
 use Rattle.book.specs.declared.AttemptSlots.{AttemptSlots}
 use Rattle.book.specs.declared.SubmissionBroadcastVariant.{SubmissionBroadcastVariant}
-use Rattle.book.specs.declared.SubmittedEntry.{SubmittedEntry}
+use Rattle.book.specs.declared.RetainedIntent.{RetainedIntent}
+use Rattle.book.specs.declared.SubmissionState.{SubmissionState}
 use Rattle.book.specs.declared.SubmittedTx.{SubmittedTx}
 use Rattle.book.specs.declared.PendingDelivery.{PendingDelivery}
 use Rattle.archive_form.specs.Encode.{goalNumber, triggerNumber, chainNumber, resolutionNumber, encodeHash, encodeAttempt, encodeSlot, encodeSlots, encodeVariant, encodeFacts, encodeSubmitted, encodeId, encodeDelivery, encodeNumbers}
 use Rattle.archive_form.specs.Encode.{encodeModel}
 use Rattle.archive_form.specs.Parse.{parseOutput, Run, unreadable, parseRun, parseSpend, parseBundle, parseHeight, parseId, parseAttached, parseFeeIntent, goalOf, triggerOf, chainOf, resolutionOf, parseGoal, parseTrigger, parseChain}
 use Rattle.archive_form.specs.Parse.{parseResolution, parseHash, freshToken, parseSlot, parseSlots, parseVariant, parseFacts, parseSubmitted, parseDelivery, parseRetired, above, parseReplayed, Numbers, parseNumbers, parseModel}
-use Rattle.archive_laws.specs.Cells.{five, six, bytes-lawful, from-every}
+use Rattle.archive_laws.specs.Cells.{six, bytes-lawful, from-every}
 use Rattle.archive_laws.specs.Bundles.{output-lawful, run-bytes, mark-rule, run-good, runOf, GoodRun, GoodSpend, coinOf, coin-lawful, coin-good, spend-lawful, GoodBundle, bundle-good, bundle-lawful}
 use Rattle.archive_laws.specs.Parts.{height-lawful, id-lawful, goal-lawful, trigger-lawful, chain-lawful, resolution-lawful, kind-small, GoodFeeIntent, fee-intent-lawful, GoodHash, hash-lawful, GoodSlot, slot-fresh, slot-hash}
 use Rattle.archive_laws.specs.Parts.{slot-lawful, GoodVariant, variant-bundle, variant-lawful, any-bundle}
-use Rattle.archive_laws.specs.Entries.{GoodSlots, slots-lawful, GoodFacts, factsOf, GoodSubmitted, submitted-facts, slots-good, base-good, submitted-lawful, GoodDelivery, delivery-facts, delivery-lawful}
+use Rattle.archive_laws.specs.Entries.{GoodSlots, slots-lawful, GoodFacts, facts-good, GoodSubmitted, slots-good, submitted-lawful, GoodDelivery, delivery-facts, delivery-lawful}
 use Rattle.archive_laws.specs.Books.{GoodNumbers, encNumbers, numbersOf, numbers-lawful, GoodRetired, GoodReplayed, retired-lawful, replayed-lawful, queue-lawful, GoodModel}
 use Rattle.archive_laws.specs.Items.{plain, numberItem, ruled, limited, itemsOutput, itemsRun, itemsSpend, itemsBundle, itemsHeight, itemsId, itemsAttached, itemsFeeIntent, itemsHash, itemsAttempt, itemsSlot, itemsSlots, itemsVariant}
 use Rattle.archive_laws.specs.Items.{itemsFacts, itemsSubmitted, itemsDelivery, itemsRetired, itemsReplayed, itemsModel}
@@ -177,38 +178,35 @@ variant-placed v g =
     then-placed (v .bundle) (bundle-placed false (v .bundle) b) (reads (bundle-lawful false) (v .bundle) b) (λ w q.
     last-placed (λ n. record { «fee_bearing» = true; bundle = w; «applied_fee» = n }) (number-placed 8 (v .«applied_fee»))))
 
-facts-placed : (e : SubmittedEntry) → GoodFacts (factsOf e) → Placed parseFacts (itemsFacts e) (encodeFacts e)
+facts-placed : (p : RetainedIntent) (s : SubmissionState) → GoodFacts (record { intent = p; state = s }) → Placed parseFacts (itemsFacts p s) (encodeFacts p s)
 unfolding parseFacts itemsFacts encodeFacts
-facts-placed e g =
-    as-placed (five (be 1 (resolutionNumber (e .status .«fee_resolution»))) (encodeFeeIntent (e .«fee_intent»)) (encodeHash (e .«wallet_acknowledged_variant»)) (be 1 (chainNumber (e .status .«chain_terminality»))) (encodeHeight (e .status .expiry)))
-    (then-placed (e .status .«fee_resolution») (resolution-placed (e .status .«fee_resolution»)) (reads resolution-lawful (e .status .«fee_resolution») tt) (λ _ q.
-    then-placed (e .«fee_intent») (fee-intent-placed (e .«fee_intent») (g .fee)) (reads fee-intent-lawful (e .«fee_intent») (g .fee)) (λ _ q.
-    then-placed (e .«wallet_acknowledged_variant») (hash-placed (e .«wallet_acknowledged_variant») (g .acknowledged)) (reads hash-lawful (e .«wallet_acknowledged_variant») (g .acknowledged)) (λ _ q.
-    then-placed (e .status .«chain_terminality») (chain-placed (e .status .«chain_terminality»)) (reads chain-lawful (e .status .«chain_terminality») tt) (λ _ q.
-    last-placed _ (height-placed (e .status .expiry)))))))
+facts-placed p s g =
+    let h = p .«intent_fingerprint» in
+    let b = p .«base_bundle» in
+    let v = s .«current_variant» in
+    let r = s .status .«fee_resolution» in
+    let f = p .«fee_intent» in
+    let a = s .«wallet_acknowledged_variant» in
+    let c = s .status .«chain_terminality» in
+    as-placed (sym (simp append-assoc))
+    (then-placed h (bytes-placed 32 h (g .fingerprint)) (bytes-reads 32 h (g .fingerprint)) (λ _ q.
+    then-placed b (bundle-placed true b (g .base)) (reads (bundle-lawful true) b (g .base)) (λ _ q.
+    then-placed v (variant-placed v (g .current)) (reads variant-lawful v (g .current)) (λ _ q.
+    then-placed r (resolution-placed r) (reads resolution-lawful r tt) (λ _ q.
+    then-placed f (fee-intent-placed f (g .fee)) (reads fee-intent-lawful f (g .fee)) (λ _ q.
+    then-placed a (hash-placed a (g .acknowledged)) (reads hash-lawful a (g .acknowledged)) (λ _ q.
+    then-placed c (chain-placed c) (reads chain-lawful c tt) (λ _ q.
+    last-placed _ (height-placed (s .status .expiry))))))))))
 
 submitted-placed : (next : ℕ) (before : List SubmittedTx) (t : SubmittedTx) → GoodSubmitted next before t → Placed (parseSubmitted next before) (itemsSubmitted next before t) (encodeSubmitted t)
 unfolding parseSubmitted itemsSubmitted encodeSubmitted
 submitted-placed next before t g =
-    let e = t .entry in
-    let f = submitted-facts t (g .sound) in
-    let i = e .id .0 in
-    let h = e .«intent_fingerprint» in
+    let i = t .entry .id .0 in
     let slots = slots-good next before t g in
-    let base = base-good (e .«base_bundle») (g .typed .entry .base) (f .entry .base) (f .entry .readable) in
-    let current : GoodVariant (e .«current_variant») = record { typed = g .typed .entry .current; sound = f .entry .current } in
-    let facts : GoodFacts (factsOf e) = record {
-      fee = record { typed = g .typed .entry .fee-intent; sound = f .entry .fee-intent };
-      acknowledged = record { typed = g .typed .entry .acknowledged; sound = f .entry .acknowledged };
-      expiry = g .typed .entry .status;
-    } in
-    as-placed (six (be 8 i) (encodeSlots (t .slots)) h (encodeBundle (e .«base_bundle»)) (encodeVariant (e .«current_variant»)) (encodeFacts e))
+    as-placed (sym (simp append-assoc))
     (then-placed i (ruled-placed 8 (λ i. not (elemb i (map idOf before))) i) (reads (checked-lawful (λ i. not (elemb i (map idOf before))) (number-lawful 8)) i (g .typed .entry .id, g .new)) (λ _ q.
     then-placed (t .slots) (slots-placed next (flatMap tokensOf before) (t .slots) slots) (reads (slots-lawful next (flatMap tokensOf before)) (t .slots) slots) (λ _ q.
-    then-placed h (bytes-placed 32 h (g .typed .entry .fingerprint)) (bytes-reads 32 h (g .typed .entry .fingerprint)) (λ _ q.
-    then-placed (e .«base_bundle») (bundle-placed true (e .«base_bundle») base) (reads (bundle-lawful true) (e .«base_bundle») base) (λ _ q.
-    then-placed (e .«current_variant») (variant-placed (e .«current_variant») current) (reads variant-lawful (e .«current_variant») current) (λ _ q.
-    last-placed _ (facts-placed e facts)))))))
+    last-placed _ (facts-placed (t .entry .intent) (t .entry .state) (facts-good next before t g)))))
 
 -- ---- a queue entry
 delivery-placed : (d : PendingDelivery) → GoodDelivery d → Placed parseDelivery (itemsDelivery d) (encodeDelivery d)

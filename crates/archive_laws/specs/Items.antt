@@ -26,7 +26,8 @@ use Rattle.book.specs.declared.DeliveryAttempt.{DeliveryAttempt}
 use Rattle.book.specs.declared.OptionalAttempt.{OptionalAttempt}
 use Rattle.book.specs.declared.AttemptSlots.{AttemptSlots}
 use Rattle.book.specs.declared.SubmissionBroadcastVariant.{SubmissionBroadcastVariant}
-use Rattle.book.specs.declared.SubmittedEntry.{SubmittedEntry}
+use Rattle.book.specs.declared.RetainedIntent.{RetainedIntent}
+use Rattle.book.specs.declared.SubmissionState.{SubmissionState}
 use Rattle.book.specs.declared.SubmittedTx.{SubmittedTx}
 use Rattle.book.specs.declared.PendingDelivery.{PendingDelivery}
 use Rattle.book.specs.declared.BookData.{BookData}
@@ -132,18 +133,17 @@ unfoldable pub itemsVariant : SubmissionBroadcastVariant → List Item
 unfolding itemsBundle
 itemsVariant v = itemsOptional (v .«fee_bearing») (itemsBundle false (v .bundle) ++ (numberItem 8 (v .«applied_fee») ∷ []))
 
-unfoldable pub itemsFacts : SubmittedEntry → List Item
-unfolding itemsFeeIntent itemsHash itemsHeight
-itemsFacts e =
-    limited 2 (resolutionNumber (e .status .«fee_resolution»)) ∷ itemsFeeIntent (e .«fee_intent») ++ (itemsHash (e .«wallet_acknowledged_variant»)
-    ++ (limited 2 (chainNumber (e .status .«chain_terminality»)) ∷ itemsHeight (e .status .expiry)))
+unfoldable pub itemsFacts : RetainedIntent → SubmissionState → List Item
+unfolding itemsBundle itemsVariant itemsFeeIntent itemsHash itemsHeight
+itemsFacts p s =
+    plain (p .«intent_fingerprint») ∷ itemsBundle true (p .«base_bundle») ++ (itemsVariant (s .«current_variant») ++ (limited 2 (resolutionNumber (s .status .«fee_resolution»))
+    ∷ itemsFeeIntent (p .«fee_intent») ++ (itemsHash (s .«wallet_acknowledged_variant») ++ (limited 2 (chainNumber (s .status .«chain_terminality»)) ∷ itemsHeight (s .status .expiry)))))
 
 -- the id is that of no submission before
 unfoldable pub itemsSubmitted : ℕ → List SubmittedTx → SubmittedTx → List Item
-unfolding itemsSlots itemsBundle itemsVariant itemsFacts
+unfolding itemsSlots itemsFacts
 itemsSubmitted next before t =
-    ruled 8 (λ i. not (elemb i (map idOf before))) (t .entry .id .0) ∷ itemsSlots next (flatMap tokensOf before) (t .slots) ++ (plain (t .entry .«intent_fingerprint»)
-    ∷ itemsBundle true (t .entry .«base_bundle») ++ (itemsVariant (t .entry .«current_variant») ++ itemsFacts (t .entry)))
+    ruled 8 (λ i. not (elemb i (map idOf before))) (t .entry .id .0) ∷ itemsSlots next (flatMap tokensOf before) (t .slots) ++ itemsFacts (t .entry .intent) (t .entry .state)
 
 -- ---- the queue
 unfoldable pub itemsDelivery : PendingDelivery → List Item

@@ -106,14 +106,14 @@ variant-steady = steady-optional baseVariant (steady-bind (bundle-steady false) 
 facts-steady : Steady parseFacts
 unfolding parseFacts
 facts-steady =
-    steady-bind resolution-steady (λ r. steady-bind fee-intent-steady (λ f. steady-bind hash-steady (λ a. steady-bind chain-steady (λ c. steady-bind height-steady (λ e. steady-done _)))))
+    steady-bind (steady-run 32) (λ p. steady-bind (bundle-steady true) (λ b. steady-bind variant-steady (λ v.
+    steady-bind resolution-steady (λ r. steady-bind fee-intent-steady (λ f. steady-bind hash-steady (λ a. steady-bind chain-steady (λ c. steady-bind height-steady (λ e. steady-done _))))))))
 
 submitted-steady : (next : ℕ) (before : List SubmittedTx) → Steady (parseSubmitted next before)
 unfolding parseSubmitted
 submitted-steady next before =
     steady-bind (checked-item (λ i. not (elemb i (map idOf before))) (number-item 8) .steady) (λ i.
-    steady-bind (slots-steady next (flatMap tokensOf before)) (λ s.
-    steady-bind (steady-run 32) (λ p. steady-bind (bundle-steady true) (λ b. steady-bind variant-steady (λ v. steady-bind facts-steady (λ f. steady-done _))))))
+    steady-bind (slots-steady next (flatMap tokensOf before)) (λ s. steady-bind facts-steady (λ f. steady-done _)))
 
 delivery-steady : Steady parseDelivery
 unfolding parseDelivery

@@ -12,7 +12,7 @@ use Rattle.codec_forms.specs.Number.{be-length, opt-size}
 use Rattle.archive_bundle_form.specs.Forms.{encodeOutput, encodeRun, encodeSpend, encodeBundle, encodeHeight, encodeFeeIntent, kindNumber, attached}
 use Rattle.book.specs.Sound.{spendsOf, outputsOf}
 use Rattle.book.specs.Model.{Book, view, back, list16, list64}
-use Rattle.book.specs.Typed.{Every, U64, Typed, TypedOutput, TypedSpend, TypedBundle, TypedFeeIntent, TypedHash, TypedAttempt, TypedOptionalAttempt, TypedSlots, TypedVariant, TypedEntry, TypedSubmitted, TypedDelivery}
+use Rattle.book.specs.Typed.{Every, U64, Typed, TypedOutput, TypedSpend, TypedBundle, TypedFeeIntent, TypedHash, TypedAttempt, TypedOptionalAttempt, TypedSlots, TypedVariant, TypedRetainedIntent, TypedState, TypedSubmitted, TypedDelivery}
 use Rattle.book.specs.declared.OptionalHeight.{OptionalHeight}
 use Rattle.book.specs.declared.OptionalHeight.the-variants.{NoHeight, At}
 use Rattle.book.specs.declared.Output.{Output}
@@ -26,7 +26,8 @@ use Rattle.book.specs.declared.DeliveryAttempt.{DeliveryAttempt}
 use Rattle.book.specs.declared.OptionalAttempt.{OptionalAttempt}
 use Rattle.book.specs.declared.AttemptSlots.{AttemptSlots}
 use Rattle.book.specs.declared.SubmissionBroadcastVariant.{SubmissionBroadcastVariant}
-use Rattle.book.specs.declared.SubmittedEntry.{SubmittedEntry}
+use Rattle.book.specs.declared.RetainedIntent.{RetainedIntent}
+use Rattle.book.specs.declared.SubmissionState.{SubmissionState}
 use Rattle.book.specs.declared.SubmittedTx.{SubmittedTx}
 use Rattle.book.specs.declared.PendingDelivery.{PendingDelivery}
 use Rattle.book.specs.declared.BookData.{BookData}
@@ -129,26 +130,43 @@ variant-size v t =
     opt-size (v .«fee_bearing») 1081 (encodeBundle (v .bundle) ++ be 8 (v .«applied_fee»))
     (omega (arith, length-append (encodeBundle (v .bundle)) (be 8 (v .«applied_fee»)), be-length 8 (v .«applied_fee»), bundle-size (v .bundle) (t .bundle)))
 
-facts-size : (e : SubmittedEntry) → TypedEntry e → length (encodeFacts e) ≤ 85
+facts-size : (p : RetainedIntent) (s : SubmissionState) → TypedRetainedIntent p → TypedState s → length (encodeFacts p s) ≤ 2272
 unfolding encodeFacts
-facts-size e t =
-    let r = be 1 (resolutionNumber (e .status .«fee_resolution»)) in
-    let f = encodeFeeIntent (e .«fee_intent») in
-    let a = encodeHash (e .«wallet_acknowledged_variant») in
-    let c = be 1 (chainNumber (e .status .«chain_terminality»)) in
-    let x = encodeHeight (e .status .expiry) in
-    omega (arith, length-append (r ++ f ++ a ++ c) x, length-append (r ++ f ++ a) c, length-append (r ++ f) a, length-append r f, be-length 1 (resolutionNumber (e .status .«fee_resolution»)), be-length 1 (chainNumber (e .status .«chain_terminality»)), fee-intent-size (e .«fee_intent») (t .fee-intent), hash-size (e .«wallet_acknowledged_variant») (t .acknowledged), height-size (e .status .expiry))
+facts-size p s t u =
+    let h = p .«intent_fingerprint» in
+    let b = encodeBundle (p .«base_bundle») in
+    let v = encodeVariant (s .«current_variant») in
+    let r = be 1 (resolutionNumber (s .status .«fee_resolution»)) in
+    let f = encodeFeeIntent (p .«fee_intent») in
+    let a = encodeHash (s .«wallet_acknowledged_variant») in
+    let c = be 1 (chainNumber (s .status .«chain_terminality»)) in
+    let x = encodeHeight (s .status .expiry) in
+    omega (
+      arith,
+      length-append (h ++ b ++ v ++ r ++ f ++ a ++ c) x,
+      length-append (h ++ b ++ v ++ r ++ f ++ a) c,
+      length-append (h ++ b ++ v ++ r ++ f) a,
+      length-append (h ++ b ++ v ++ r) f,
+      length-append (h ++ b ++ v) r,
+      length-append (h ++ b) v,
+      length-append h b,
+      t .fingerprint .long,
+      bundle-size (p .«base_bundle») (t .base),
+      variant-size (s .«current_variant») (u .current),
+      be-length 1 (resolutionNumber (s .status .«fee_resolution»)),
+      fee-intent-size (p .«fee_intent») (t .fee-intent),
+      hash-size (s .«wallet_acknowledged_variant») (u .acknowledged),
+      be-length 1 (chainNumber (s .status .«chain_terminality»)),
+      height-size (s .status .expiry),
+    )
 
 pub submitted-size : (t : SubmittedTx) → TypedSubmitted t → length (encodeSubmitted t) ≤ 2430
 unfolding encodeSubmitted
 submitted-size t h =
     let i = be 8 (t .entry .id .0) in
     let s = encodeSlots (t .slots) in
-    let p = t .entry .«intent_fingerprint» in
-    let b = encodeBundle (t .entry .«base_bundle») in
-    let v = encodeVariant (t .entry .«current_variant») in
-    let f = encodeFacts (t .entry) in
-    omega (arith, length-append (i ++ s ++ p ++ b ++ v) f, length-append (i ++ s ++ p ++ b) v, length-append (i ++ s ++ p) b, length-append (i ++ s) p, length-append i s, be-length 8 (t .entry .id .0), slots-size (t .slots) (h .slots), h .entry .fingerprint .long, bundle-size (t .entry .«base_bundle») (h .entry .base), variant-size (t .entry .«current_variant») (h .entry .current), facts-size (t .entry) (h .entry))
+    let f = encodeFacts (t .entry .intent) (t .entry .state) in
+    omega (arith, length-append (i ++ s) f, length-append i s, be-length 8 (t .entry .id .0), slots-size (t .slots) (h .slots), facts-size (t .entry .intent) (t .entry .state) (h .entry .intent) (h .entry .state))
 
 pub delivery-size : (d : PendingDelivery) → TypedDelivery d → length (encodeDelivery d) ≤ 1134
 unfolding encodeDelivery

@@ -19,7 +19,8 @@ use Rattle.book.specs.declared.OptionalHash.{OptionalHash}
 use Rattle.book.specs.declared.DeliveryAttempt.{DeliveryAttempt}
 use Rattle.book.specs.declared.OptionalAttempt.{OptionalAttempt}
 use Rattle.book.specs.declared.SubmissionBroadcastVariant.{SubmissionBroadcastVariant}
-use Rattle.book.specs.declared.SubmittedEntry.{SubmittedEntry}
+use Rattle.book.specs.declared.RetainedIntent.{RetainedIntent}
+use Rattle.book.specs.declared.SubmissionState.{SubmissionState}
 use Rattle.book.specs.declared.SubmittedTx.{SubmittedTx}
 use Rattle.book.specs.declared.PendingDelivery.{PendingDelivery}
 use Rattle.book.specs.declared.BookData.{BookData}
@@ -68,32 +69,51 @@ pub variant-none : (v : SubmissionBroadcastVariant) → v .«fee_bearing» ≡ f
 unfolding encodeVariant
 variant-none v e = record { is = sym (opt-no (v .«fee_bearing») (encodeBundle (v .bundle) ++ be 8 (v .«applied_fee»)) e); few = omega arith }
 
-pub facts-size : (e : SubmittedEntry) (f a h : ℕ) → Size (encodeFeeIntent (e .«fee_intent»)) 41 f → Size (encodeHash (e .«wallet_acknowledged_variant»)) 33 a → Size (encodeHeight (e .status .expiry)) 9 h → Size (encodeFacts e) 85 (2 + f + a + h)
+pub facts-size : (p : RetainedIntent) (s : SubmissionState) (b v f a h : ℕ) → length (p .«intent_fingerprint») ≡ 32 → Size (encodeBundle (p .«base_bundle»)) 1073 b
+    → Size (encodeVariant (s .«current_variant»)) 1082 v → Size (encodeFeeIntent (p .«fee_intent»)) 41 f → Size (encodeHash (s .«wallet_acknowledged_variant»)) 33 a
+    → Size (encodeHeight (s .status .expiry)) 9 h → Size (encodeFacts p s) 2272 (34 + b + v + f + a + h)
 unfolding encodeFacts
-facts-size e f a h sf sa sh =
-    let r = be 1 (resolutionNumber (e .status .«fee_resolution»)) in
-    let x = encodeFeeIntent (e .«fee_intent») in
-    let y = encodeHash (e .«wallet_acknowledged_variant») in
-    let c = be 1 (chainNumber (e .status .«chain_terminality»)) in
-    let z = encodeHeight (e .status .expiry) in
+facts-size p s b v f a h l sb sv sf sa sh =
+    let i = p .«intent_fingerprint» in
+    let w = encodeBundle (p .«base_bundle») in
+    let u = encodeVariant (s .«current_variant») in
+    let r = be 1 (resolutionNumber (s .status .«fee_resolution»)) in
+    let x = encodeFeeIntent (p .«fee_intent») in
+    let y = encodeHash (s .«wallet_acknowledged_variant») in
+    let c = be 1 (chainNumber (s .status .«chain_terminality»)) in
+    let z = encodeHeight (s .status .expiry) in
     record {
-      is = omega (arith, sf .is, sa .is, sh .is, length-append (r ++ x ++ y ++ c) z, length-append (r ++ x ++ y) c, length-append (r ++ x) y, length-append r x, be-length 1 (resolutionNumber (e .status .«fee_resolution»)), be-length 1 (chainNumber (e .status .«chain_terminality»)));
-      few = omega (arith, sf .few, sa .few, sh .few);
+      is = omega (
+        arith,
+        sb .is,
+        sv .is,
+        sf .is,
+        sa .is,
+        sh .is,
+        length-append (i ++ w ++ u ++ r ++ x ++ y ++ c) z,
+        length-append (i ++ w ++ u ++ r ++ x ++ y) c,
+        length-append (i ++ w ++ u ++ r ++ x) y,
+        length-append (i ++ w ++ u ++ r) x,
+        length-append (i ++ w ++ u) r,
+        length-append (i ++ w) u,
+        length-append i w,
+        be-length 1 (resolutionNumber (s .status .«fee_resolution»)),
+        be-length 1 (chainNumber (s .status .«chain_terminality»)),
+      );
+      few = omega (arith, sb .few, sv .few, sf .few, sa .few, sh .few);
     }
 
-pub submitted-size : (t : SubmittedTx) (a c b v f : ℕ) → length (t .entry .«intent_fingerprint») ≡ 32 → Size (encodeSlot (t .slots .«active_attempt»)) 75 a → Size (encodeSlot (t .slots .«completed_attempt»)) 75 c → Size (encodeBundle (t .entry .«base_bundle»)) 1073 b → Size (encodeVariant (t .entry .«current_variant»)) 1082 v → Size (encodeFacts (t .entry)) 85 f → Size (encodeSubmitted t) 2430 (40 + (a + c) + b + v + f)
+pub submitted-size : (t : SubmittedTx) (a c f : ℕ) → Size (encodeSlot (t .slots .«active_attempt»)) 75 a → Size (encodeSlot (t .slots .«completed_attempt»)) 75 c
+    → Size (encodeFacts (t .entry .intent) (t .entry .state)) 2272 f → Size (encodeSubmitted t) 2430 (8 + (a + c) + f)
 unfolding encodeSubmitted encodeSlots
-submitted-size t a c b v f l sa sc sb sv sf =
+submitted-size t a c f sa sc sf =
     let i = be 8 (t .entry .id .0) in
     let x = encodeSlot (t .slots .«active_attempt») in
     let y = encodeSlot (t .slots .«completed_attempt») in
-    let p = t .entry .«intent_fingerprint» in
-    let w = encodeBundle (t .entry .«base_bundle») in
-    let z = encodeVariant (t .entry .«current_variant») in
-    let g = encodeFacts (t .entry) in
+    let g = encodeFacts (t .entry .intent) (t .entry .state) in
     record {
-      is = omega (arith, sa .is, sc .is, sb .is, sv .is, sf .is, length-append (i ++ (x ++ y) ++ p ++ w ++ z) g, length-append (i ++ (x ++ y) ++ p ++ w) z, length-append (i ++ (x ++ y) ++ p) w, length-append (i ++ (x ++ y)) p, length-append i (x ++ y), length-append x y, be-length 8 (t .entry .id .0));
-      few = omega (arith, sa .few, sc .few, sb .few, sv .few, sf .few);
+      is = omega (arith, sa .is, sc .is, sf .is, length-append (i ++ (x ++ y)) g, length-append i (x ++ y), length-append x y, be-length 8 (t .entry .id .0));
+      few = omega (arith, sa .few, sc .few, sf .few);
     }
 
 pub no-id-size : (i : OptionalId) → isNoId i ≡ true → Size (encodeId i) 9 1

@@ -46,14 +46,17 @@ fn size_variant(v: SubmissionBroadcastVariant) -> usize
     1
 }
 
+// Intent and state of a submission.
 fn size_facts(e: SubmittedEntry) -> usize
-    ensures { λ r. ⌜ Size (encodeFacts e) 85 r ⌝ }
+    ensures { λ r. ⌜ Size (encodeFacts (e .intent) (e .state)) 2272 r ⌝ }
 {
-    let f = e.fee_intent;
-    let a = e.wallet_acknowledged_variant;
-    let status = e.status;
+    let base = e.intent.base_bundle;
+    let variant = e.state.current_variant;
+    let f = e.intent.fee_intent;
+    let a = e.state.wallet_acknowledged_variant;
+    let status = e.state.status;
     let expiry = status.expiry;
-    2 + size_fee_intent(f) + size_hash(a) + size_height(expiry)
+    34 + size_bundle(base) + size_variant(variant) + size_fee_intent(f) + size_hash(a) + size_height(expiry)
 }
 
 fn size_submitted(t: SubmittedTx) -> usize
@@ -63,10 +66,8 @@ fn size_submitted(t: SubmittedTx) -> usize
     let active = slots.active_attempt;
     let completed = slots.completed_attempt;
     let entry = t.entry;
-    let base = entry.base_bundle;
-    let variant = entry.current_variant;
     let s = size_slot(active) + size_slot(completed);
-    40 + s + size_bundle(base) + size_variant(variant) + size_facts(entry)
+    8 + s + size_facts(entry)
 }
 
 fn size_id(i: OptionalId) -> usize

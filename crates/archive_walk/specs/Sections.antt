@@ -6,7 +6,7 @@ use mathlib.Core.List.{List, []}
 use native.Mathlib.Omega.{arith}
 use lib.ListN.{length, take, set, replicate}
 use Rattle.base_lists.specs.Lists.{cells}
-use Rattle.codec_forms.specs.Wire.{be, run, upTo}
+use Rattle.codec_forms.specs.Wire.{be, upTo}
 use Rattle.codec_forms.specs.Number.{be-length}
 use Rattle.codec_forms.specs.Lawful.{IsBytes}
 use Rattle.codec_forms.specs.Items.{upTo-lawful}
@@ -16,12 +16,10 @@ use Rattle.codec_cursor.specs.Cells.{ReadsCells, filled-list}
 use Rattle.book.specs.Zero.{zeroSubmitted, zeroDelivery}
 use Rattle.book.specs.declared.SubmissionId.{SubmissionId}
 use Rattle.book.specs.declared.AttemptSlots.{AttemptSlots}
-use Rattle.book.specs.declared.SpendBundle.{SpendBundle}
-use Rattle.book.specs.declared.SubmissionBroadcastVariant.{SubmissionBroadcastVariant}
 use Rattle.book.specs.declared.SubmittedTx.{SubmittedTx}
 use Rattle.book.specs.declared.PendingDelivery.{PendingDelivery}
 use Rattle.archive_form.specs.Encode.{encodeSubmitted, encodeDelivery}
-use Rattle.archive_form.specs.Parse.{Facts, parseRetired, parseSlots, parseBundle, parseVariant, parseFacts, parseSubmitted, parseDelivery}
+use Rattle.archive_form.specs.Parse.{Facts, parseRetired, parseSlots, parseFacts, parseSubmitted, parseDelivery}
 use Rattle.archive_laws.specs.Entries.{GoodSubmitted, submitted-lawful, GoodDelivery, delivery-lawful}
 use Rattle.archive_entry_read.specs.Entries.{parseAfter}
 use Rattle.archive_read.specs.Sections.{Seen, seen-start, seen-room, seen-more, after-seen, retained-done, ReadsRetained}
@@ -29,38 +27,17 @@ use Rattle.archive_walk.specs.Skips.{Skips, reads-before}
 use Rattle.archive_walk.specs.Places.{places, Walking, walking-start, walking-more, walking-all}
 
 -- ---- a submission: its id and its slots are read, the rest is passed
-abbrev pub submittedOf : SubmissionId → AttemptSlots → List ℕ → SpendBundle → SubmissionBroadcastVariant → Facts → SubmittedTx
-submittedOf i s p b v f = record {
-  slots = s;
-  entry = record {
-    id = i;
-    «intent_fingerprint» = p;
-    «base_bundle» = b;
-    «current_variant» = v;
-    «fee_intent» = f .feeIntent;
-    «wallet_acknowledged_variant» = f .acknowledged;
-    status = record { «fee_resolution» = f .resolution; «chain_terminality» = f .chain; expiry = f .expiry };
-  };
-}
+abbrev pub submittedOf : SubmissionId → AttemptSlots → Facts → SubmittedTx
+submittedOf i s f = record { slots = s; entry = record { id = i; intent = f .intent; state = f .state } }
 
 pub record WalksSubmitted (next : ℕ) (ids tokens s : List ℕ) (c : ℕ) (id : SubmissionId) (slots : AttemptSlots) (e : ℕ) : Type 0 where
-  pub print : List ℕ
-  pub base : SpendBundle
-  pub variant : SubmissionBroadcastVariant
   pub facts : Facts
-  pub reads : Reads (parseAfter next ids tokens) s c (submittedOf id slots print base variant facts) e
+  pub reads : Reads (parseAfter next ids tokens) s c (submittedOf id slots facts) e
 
-pub submitted-walks : {next : ℕ} {ids tokens s : List ℕ} {c d f g h j e : ℕ} {id : SubmissionId} {slots : AttemptSlots}
-    → Reads (parseRetired ids) s c (id .0) d → Reads (parseSlots next tokens) s d slots f → Skips (run 32) s f g → Skips (parseBundle true) s g h
-    → Skips parseVariant s h j → Skips parseFacts s j e → WalksSubmitted next ids tokens s c id slots e
+pub submitted-walks : {next : ℕ} {ids tokens s : List ℕ} {c d f e : ℕ} {id : SubmissionId} {slots : AttemptSlots}
+    → Reads (parseRetired ids) s c (id .0) d → Reads (parseSlots next tokens) s d slots f → Skips parseFacts s f e → WalksSubmitted next ids tokens s c id slots e
 unfolding parseAfter
-submitted-walks i t p b v f = record {
-  print = p .value;
-  base = b .value;
-  variant = v .value;
-  facts = f .value;
-  reads = reads-then _ i (reads-then _ t (reads-then _ (p .reads) (reads-then _ (b .reads) (reads-then _ (v .reads) (reads-then _ (f .reads) ends)))));
-}
+submitted-walks i t f = record { facts = f .value; reads = reads-then _ i (reads-then _ t (reads-then _ (f .reads) ends)) }
 
 -- ---- the loop over the submissions
 pub record RetainedWalk (next : ℕ) (s : List ℕ) (c k : ℕ) (ids tokens starts : List ℕ) (e m i : ℕ) : Type 0 where
@@ -77,7 +54,7 @@ pub retained-more : {next : ℕ} {s : List ℕ} {c k : ℕ} {ids tokens starts :
     → RetainedWalk next s c k (set ids i (id .0))
     (set (set tokens m (slots .«active_attempt» .attempt .token .0)) m₁ (slots .«completed_attempt» .attempt .token .0)) (set starts (i + 1) d) d m₂ (i + 1)
 retained-more {next} {s} {c} {k} {ids} {tokens} {starts} {e} {m} {i} {d} {m₁} {m₂} {id} {slots} w b kn h x p q =
-    let v = submittedOf id slots (x .print) (x .base) (x .variant) (x .facts) in
+    let v = submittedOf id slots (x .facts) in
     record {
       items = set (w .items) i v;
       walking = walking-more (GoodSubmitted next) (submitted-lawful next) b (w .walking) kn h (after-seen next (w .seen) (x .reads));

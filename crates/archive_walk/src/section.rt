@@ -1,9 +1,6 @@
 // The submissions and the queue: where each entry stands.
-use crate::skip::skip;
-use crate::skip::skip_bundle;
 use crate::skip::skip_delivery;
 use crate::skip::skip_facts;
-use crate::skip::skip_variant;
 use archive_entry_read::attempt::read_slots;
 use archive_entry_read::submission::read_new_id;
 use archive_read::section::marked;
@@ -35,9 +32,6 @@ fn walk_submitted(s: &[u8], at: &mut usize, next: Token, ids: &[u64], tokens: &[
 {
     let id = read_new_id(s, &mut *at, ids);
     let slots = read_slots(s, &mut *at, next, tokens);
-    skip(s, &mut *at, 32);
-    skip_bundle(s, &mut *at, true);
-    skip_variant(s, &mut *at);
     skip_facts(s, at);
     Seen { id, slots }
 }

@@ -106,10 +106,14 @@ fn skip_fee_intent(s: &[u8], at: &mut usize)
     skip(s, at, 8);
 }
 
-// What stands behind the bundles of a submission: resolution, fee intent, acknowledged fingerprint, chain terminality, expiry.
+// Intent and state of a submission: intent fingerprint, base bundle, fee bundle, resolution, fee intent, acknowledged fingerprint, chain
+// terminality, expiry.
 pub fn skip_facts(s: &[u8], at: &mut usize)
     ensures { λ _. ⌜ Skips parseFacts (now (s .entry)) (now (at .entry)) (now (at .exit)) ⌝ }
 {
+    skip(s, &mut *at, 32);
+    skip_bundle(s, &mut *at, true);
+    skip_variant(s, &mut *at);
     read_count(s, &mut *at, 2);
     skip_fee_intent(s, &mut *at);
     skip_optional(s, &mut *at, 32);

@@ -19,6 +19,8 @@ use Rattle.book.specs.declared.OptionalHash.{OptionalHash}
 use Rattle.book.specs.declared.OptionalAttempt.{OptionalAttempt}
 use Rattle.book.specs.declared.AttemptSlots.{AttemptSlots}
 use Rattle.book.specs.declared.SubmissionBroadcastVariant.{SubmissionBroadcastVariant}
+use Rattle.book.specs.declared.RetainedIntent.{RetainedIntent}
+use Rattle.book.specs.declared.SubmissionState.{SubmissionState}
 use Rattle.book.specs.declared.SubmittedEntry.{SubmittedEntry}
 use Rattle.book.specs.declared.SubmittedTx.{SubmittedTx}
 use Rattle.book.specs.declared.PendingSubmissionIntent.{PendingSubmissionIntent}
@@ -74,11 +76,17 @@ unfoldable pub soundVariant : SubmissionBroadcastVariant → Bool
 unfolding soundBundle isBaseVariant
 soundVariant v = cond (v .«fee_bearing») (soundBundle (v .bundle)) (isBaseVariant v)
 
+unfoldable pub soundRetainedIntent : RetainedIntent → Bool
+unfolding soundBundle readableBundle soundFeeIntent
+soundRetainedIntent p = soundBundle (p .«base_bundle») && readableBundle (p .«base_bundle») && soundFeeIntent (p .«fee_intent»)
+
+unfoldable pub soundState : SubmissionState → Bool
+unfolding soundVariant soundHash
+soundState s = soundVariant (s .«current_variant») && soundHash (s .«wallet_acknowledged_variant»)
+
 unfoldable pub soundEntry : SubmittedEntry → Bool
-unfolding soundBundle readableBundle soundVariant soundFeeIntent soundHash
-soundEntry e =
-    soundBundle (e .«base_bundle») && readableBundle (e .«base_bundle») && soundVariant (e .«current_variant»)
-    && soundFeeIntent (e .«fee_intent») && soundHash (e .«wallet_acknowledged_variant»)
+unfolding soundRetainedIntent soundState
+soundEntry e = soundRetainedIntent (e .intent) && soundState (e .state)
 
 unfoldable pub soundSubmitted : SubmittedTx → Bool
 unfolding soundSlots soundEntry

@@ -13,9 +13,11 @@ use Rattle.base_lists.specs.Laws.{trues, and-split, and-both, cells-take, tail-
 use Rattle.book.specs.Zero.{zeroOutput, zeroSpend, zeroSubmitted, zeroDelivery, isZeroOutput, isZeroSpend, isZeroSubmitted, isZeroDelivery}
 use Rattle.book.specs.ZeroLaws.{number-zero, output-zero, spend-zero, submitted-zero, delivery-zero, submitted-zero-is, delivery-zero-is}
 use Rattle.book.specs.Model.{Book, view, back}
-use Rattle.book.specs.Sound.{soundSpend, spendsOf, soundBundle, readableBundle, soundFeeIntent, soundHash, soundSlots, soundVariant, soundEntry, soundSubmitted, soundDelivery, idOf, tokensOf, soundLists, soundCells, soundb}
+use Rattle.book.specs.Sound.{soundSpend, spendsOf, soundBundle, readableBundle, soundFeeIntent, soundHash, soundSlots, soundVariant, soundRetainedIntent, soundState, soundEntry, soundSubmitted, soundDelivery, idOf, tokensOf, soundLists, soundCells, soundb}
 use Rattle.book.specs.declared.CoinSpend.{CoinSpend}
 use Rattle.book.specs.declared.SpendBundle.{SpendBundle}
+use Rattle.book.specs.declared.RetainedIntent.{RetainedIntent}
+use Rattle.book.specs.declared.SubmissionState.{SubmissionState}
 use Rattle.book.specs.declared.SubmittedEntry.{SubmittedEntry}
 use Rattle.book.specs.declared.SubmittedTx.{SubmittedTx}
 use Rattle.book.specs.declared.BookData.{BookData}
@@ -62,24 +64,46 @@ sound-bundle b h =
     record { spends = in-cells 4 zeroSpend isZeroSpend spend-zero (b .count) (b .spends) (t .0) (t .1 .0); each = t .1 .1 .0 }
 
 -- ---- submissions
+pub record SoundRetainedIntent (p : RetainedIntent) : Type 0 where
+  pub base : soundBundle (p .«base_bundle») ≡ true
+  pub readable : readableBundle (p .«base_bundle») ≡ true
+  pub fee-intent : soundFeeIntent (p .«fee_intent») ≡ true
+
+pub sound-retained-intent : (p : RetainedIntent) → soundRetainedIntent p ≡ true → SoundRetainedIntent p
+unfolding soundRetainedIntent
+sound-retained-intent p h =
+    let t = trues (soundBundle (p .«base_bundle»)) (readableBundle (p .«base_bundle») ∷ soundFeeIntent (p .«fee_intent») ∷ []) h in
+    record { base = t .0; readable = t .1 .0; fee-intent = t .1 .1 .0 }
+
+pub retained-intent-sound : (p : RetainedIntent) → SoundRetainedIntent p → soundRetainedIntent p ≡ true
+unfolding soundRetainedIntent
+retained-intent-sound p s = and-both (and-both (s .base) (s .readable)) (s .fee-intent)
+
+pub record SoundState (s : SubmissionState) : Type 0 where
+  pub current : soundVariant (s .«current_variant») ≡ true
+  pub acknowledged : soundHash (s .«wallet_acknowledged_variant») ≡ true
+
+pub sound-state : (s : SubmissionState) → soundState s ≡ true → SoundState s
+unfolding soundState
+sound-state s h = let t = and-split (soundVariant (s .«current_variant»)) (soundHash (s .«wallet_acknowledged_variant»)) h in record { current = t .0; acknowledged = t .1 }
+
+pub state-sound : (s : SubmissionState) → SoundState s → soundState s ≡ true
+unfolding soundState
+state-sound s h = and-both (h .current) (h .acknowledged)
+
 pub record SoundEntry (e : SubmittedEntry) : Type 0 where
-  pub base : soundBundle (e .«base_bundle») ≡ true
-  pub readable : readableBundle (e .«base_bundle») ≡ true
-  pub current : soundVariant (e .«current_variant») ≡ true
-  pub fee-intent : soundFeeIntent (e .«fee_intent») ≡ true
-  pub acknowledged : soundHash (e .«wallet_acknowledged_variant») ≡ true
+  pub intent : SoundRetainedIntent (e .intent)
+  pub state : SoundState (e .state)
 
 pub sound-entry : (e : SubmittedEntry) → soundEntry e ≡ true → SoundEntry e
 unfolding soundEntry
 sound-entry e h =
-    let t = trues (soundBundle (e .«base_bundle»))
-    (readableBundle (e .«base_bundle») ∷ soundVariant (e .«current_variant») ∷ soundFeeIntent (e .«fee_intent»)
-    ∷ soundHash (e .«wallet_acknowledged_variant») ∷ []) h in
-    record { base = t .0; readable = t .1 .0; current = t .1 .1 .0; fee-intent = t .1 .1 .1 .0; acknowledged = t .1 .1 .1 .1 .0 }
+    let t = and-split (soundRetainedIntent (e .intent)) (soundState (e .state)) h in
+    record { intent = sound-retained-intent (e .intent) (t .0); state = sound-state (e .state) (t .1) }
 
 pub entry-sound : (e : SubmittedEntry) → SoundEntry e → soundEntry e ≡ true
 unfolding soundEntry
-entry-sound e s = and-both (and-both (and-both (and-both (s .base) (s .readable)) (s .current)) (s .fee-intent)) (s .acknowledged)
+entry-sound e s = and-both (retained-intent-sound (e .intent) (s .intent)) (state-sound (e .state) (s .state))
 
 pub record SoundSubmitted (t : SubmittedTx) : Type 0 where
   pub slots : soundSlots (t .slots) ≡ true

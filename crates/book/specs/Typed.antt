@@ -19,7 +19,9 @@ use Rattle.book.specs.declared.DeliveryAttempt.{DeliveryAttempt}
 use Rattle.book.specs.declared.OptionalAttempt.{OptionalAttempt}
 use Rattle.book.specs.declared.AttemptSlots.{AttemptSlots}
 use Rattle.book.specs.declared.SubmissionBroadcastVariant.{SubmissionBroadcastVariant}
+use Rattle.book.specs.declared.RetainedIntent.{RetainedIntent}
 use Rattle.book.specs.declared.SubmissionStatus.{SubmissionStatus}
+use Rattle.book.specs.declared.SubmissionState.{SubmissionState}
 use Rattle.book.specs.declared.SubmittedEntry.{SubmittedEntry}
 use Rattle.book.specs.declared.SubmittedTx.{SubmittedTx}
 use Rattle.book.specs.declared.PendingSubmissionIntent.{PendingSubmissionIntent}
@@ -107,14 +109,20 @@ pub record TypedVariant (v : SubmissionBroadcastVariant) : Type 0 where
 abbrev pub TypedStatus : SubmissionStatus → Type 0
 TypedStatus s = TypedOptionalHeight (s .expiry)
 
+pub record TypedRetainedIntent (p : RetainedIntent) : Type 0 where
+  pub fingerprint : Bytes 32 (p .«intent_fingerprint»)
+  pub base : TypedBundle (p .«base_bundle»)
+  pub fee-intent : TypedFeeIntent (p .«fee_intent»)
+
+pub record TypedState (s : SubmissionState) : Type 0 where
+  pub current : TypedVariant (s .«current_variant»)
+  pub acknowledged : TypedHash (s .«wallet_acknowledged_variant»)
+  pub status : TypedStatus (s .status)
+
 pub record TypedEntry (e : SubmittedEntry) : Type 0 where
   pub id : TypedId (e .id)
-  pub fingerprint : Bytes 32 (e .«intent_fingerprint»)
-  pub base : TypedBundle (e .«base_bundle»)
-  pub current : TypedVariant (e .«current_variant»)
-  pub fee-intent : TypedFeeIntent (e .«fee_intent»)
-  pub acknowledged : TypedHash (e .«wallet_acknowledged_variant»)
-  pub status : TypedStatus (e .status)
+  pub intent : TypedRetainedIntent (e .intent)
+  pub state : TypedState (e .state)
 
 pub record TypedSubmitted (t : SubmittedTx) : Type 0 where
   pub slots : TypedSlots (t .slots)

@@ -27,7 +27,9 @@ use Rattle.book.specs.declared.DeliveryAttempt.{DeliveryAttempt}
 use Rattle.book.specs.declared.OptionalAttempt.{OptionalAttempt}
 use Rattle.book.specs.declared.AttemptSlots.{AttemptSlots}
 use Rattle.book.specs.declared.SubmissionBroadcastVariant.{SubmissionBroadcastVariant}
+use Rattle.book.specs.declared.RetainedIntent.{RetainedIntent}
 use Rattle.book.specs.declared.SubmissionStatus.{SubmissionStatus}
+use Rattle.book.specs.declared.SubmissionState.{SubmissionState}
 use Rattle.book.specs.declared.SubmittedEntry.{SubmittedEntry}
 use Rattle.book.specs.declared.SubmittedTx.{SubmittedTx}
 use Rattle.book.specs.declared.PendingSubmissionIntent.{PendingSubmissionIntent}
@@ -70,20 +72,20 @@ unfoldable pub baseVariant : SubmissionBroadcastVariant
 unfolding zeroBundle
 baseVariant = record { «fee_bearing» = false; bundle = zeroBundle; «applied_fee» = 0 }
 
+unfoldable pub zeroRetainedIntent : RetainedIntent
+unfolding zeroBundle zeroFeeIntent
+zeroRetainedIntent = record { «intent_fingerprint» = zeros 32; «base_bundle» = zeroBundle; «fee_intent» = zeroFeeIntent }
+
 unfoldable pub zeroStatus : SubmissionStatus
 zeroStatus = record { «fee_resolution» = Unresolved; «chain_terminality» = Active; expiry = NoHeight }
 
+unfoldable pub zeroState : SubmissionState
+unfolding baseVariant zeroHash zeroStatus
+zeroState = record { «current_variant» = baseVariant; «wallet_acknowledged_variant» = zeroHash; status = zeroStatus }
+
 unfoldable pub zeroEntry : SubmittedEntry
-unfolding zeroBundle baseVariant zeroFeeIntent zeroHash zeroStatus
-zeroEntry = record {
-  id = record { 0 = 0 };
-  «intent_fingerprint» = zeros 32;
-  «base_bundle» = zeroBundle;
-  «current_variant» = baseVariant;
-  «fee_intent» = zeroFeeIntent;
-  «wallet_acknowledged_variant» = zeroHash;
-  status = zeroStatus;
-}
+unfolding zeroRetainedIntent zeroState
+zeroEntry = record { id = record { 0 = 0 }; intent = zeroRetainedIntent; state = zeroState }
 
 unfoldable pub zeroSubmitted : SubmittedTx
 unfolding noSlots zeroEntry
@@ -171,14 +173,20 @@ unfoldable pub isBaseVariant : SubmissionBroadcastVariant → Bool
 unfolding isZeroBundle
 isBaseVariant v = not (v .«fee_bearing») && isZero (v .«applied_fee») && isZeroBundle (v .bundle)
 
+unfoldable pub isZeroRetainedIntent : RetainedIntent → Bool
+unfolding isZeroBundle isZeroFeeIntent
+isZeroRetainedIntent p = isZero32 (p .«intent_fingerprint») && isZeroBundle (p .«base_bundle») && isZeroFeeIntent (p .«fee_intent»)
+
 unfoldable pub isZeroStatus : SubmissionStatus → Bool
 isZeroStatus s = isUnresolved (s .«fee_resolution») && isActive (s .«chain_terminality») && isNoHeight (s .expiry)
 
+unfoldable pub isZeroState : SubmissionState → Bool
+unfolding isBaseVariant isZeroHash isZeroStatus
+isZeroState s = isBaseVariant (s .«current_variant») && isZeroHash (s .«wallet_acknowledged_variant») && isZeroStatus (s .status)
+
 unfoldable pub isZeroEntry : SubmittedEntry → Bool
-unfolding isZeroBundle isBaseVariant isZeroFeeIntent isZeroHash isZeroStatus
-isZeroEntry e =
-    isZero (e .id .0) && isZero32 (e .«intent_fingerprint») && isZeroBundle (e .«base_bundle») && isBaseVariant (e .«current_variant»)
-    && isZeroFeeIntent (e .«fee_intent») && isZeroHash (e .«wallet_acknowledged_variant») && isZeroStatus (e .status)
+unfolding isZeroRetainedIntent isZeroState
+isZeroEntry e = isZero (e .id .0) && isZeroRetainedIntent (e .intent) && isZeroState (e .state)
 
 unfoldable pub isZeroSubmitted : SubmittedTx → Bool
 unfolding isNoSlots isZeroEntry

@@ -29,12 +29,14 @@ use Rattle.book.specs.declared.DeliveryAttempt.{DeliveryAttempt}
 use Rattle.book.specs.declared.OptionalAttempt.{OptionalAttempt}
 use Rattle.book.specs.declared.AttemptSlots.{AttemptSlots}
 use Rattle.book.specs.declared.SubmissionBroadcastVariant.{SubmissionBroadcastVariant}
+use Rattle.book.specs.declared.RetainedIntent.{RetainedIntent}
 use Rattle.book.specs.declared.SubmissionStatus.{SubmissionStatus}
+use Rattle.book.specs.declared.SubmissionState.{SubmissionState}
 use Rattle.book.specs.declared.SubmittedEntry.{SubmittedEntry}
 use Rattle.book.specs.declared.SubmittedTx.{SubmittedTx}
 use Rattle.book.specs.declared.PendingSubmissionIntent.{PendingSubmissionIntent}
 use Rattle.book.specs.declared.PendingDelivery.{PendingDelivery}
-use Rattle.book.specs.Zero.{zeros, zeroOutput, zeroSpend, zeroBundle, zeroFeeIntent, zeroHash, zeroAttempt, noAttempt, noSlots, baseVariant, zeroStatus, zeroEntry, zeroSubmitted, zeroIntent, zeroDelivery, isZero32, isZeroOutput, isZeroSpend, isZeroBundle, isAlreadyPaid, isEnsureBroadcast, isProtocol, isActive, isUnresolved, isNoHeight, isNoId, isZeroFeeIntent, isZeroHash, isZeroAttempt, isNoAttempt, isNoSlots, isBaseVariant, isZeroStatus, isZeroEntry, isZeroSubmitted, isZeroIntent, isZeroDelivery}
+use Rattle.book.specs.Zero.{zeros, zeroOutput, zeroSpend, zeroBundle, zeroFeeIntent, zeroHash, zeroAttempt, noAttempt, noSlots, baseVariant, zeroRetainedIntent, zeroStatus, zeroState, zeroEntry, zeroSubmitted, zeroIntent, zeroDelivery, isZero32, isZeroOutput, isZeroSpend, isZeroBundle, isAlreadyPaid, isEnsureBroadcast, isProtocol, isActive, isUnresolved, isNoHeight, isNoId, isZeroFeeIntent, isZeroHash, isZeroAttempt, isNoAttempt, isNoSlots, isBaseVariant, isZeroRetainedIntent, isZeroStatus, isZeroState, isZeroEntry, isZeroSubmitted, isZeroIntent, isZeroDelivery}
 
 pub number-zero : (x : ℕ) → isZero x ≡ true → x ≡ 0
 number-zero x h = eqb-true x 0 h
@@ -143,24 +145,40 @@ base-variant v h =
     let t = trues (not (v .«fee_bearing»)) (isZero (v .«applied_fee») ∷ isZeroBundle (v .bundle) ∷ []) h in
     λ i. record { «fee_bearing» = not-true (v .«fee_bearing») (t .0) i; bundle = bundle-zero (v .bundle) (t .1 .1 .0) i; «applied_fee» = number-zero (v .«applied_fee») (t .1 .0) i }
 
+pub retained-intent-zero : (p : RetainedIntent) → isZeroRetainedIntent p ≡ true → p ≡ zeroRetainedIntent
+unfolding isZeroRetainedIntent zeroRetainedIntent
+retained-intent-zero p h =
+    let t = trues (isZero32 (p .«intent_fingerprint»)) (isZeroBundle (p .«base_bundle») ∷ isZeroFeeIntent (p .«fee_intent») ∷ []) h in
+    λ i. record {
+      «intent_fingerprint» = zeros-only 32 (p .«intent_fingerprint») (t .0) i;
+      «base_bundle» = bundle-zero (p .«base_bundle») (t .1 .0) i;
+      «fee_intent» = fee-intent-zero (p .«fee_intent») (t .1 .1 .0) i;
+    }
+
 pub status-zero : (s : SubmissionStatus) → isZeroStatus s ≡ true → s ≡ zeroStatus
 unfolding isZeroStatus zeroStatus
 status-zero s h =
     let t = trues (isUnresolved (s .«fee_resolution»)) (isActive (s .«chain_terminality») ∷ isNoHeight (s .expiry) ∷ []) h in
     λ i. record { «fee_resolution» = resolution-zero (s .«fee_resolution») (t .0) i; «chain_terminality» = chain-zero (s .«chain_terminality») (t .1 .0) i; expiry = height-zero (s .expiry) (t .1 .1 .0) i }
 
+pub state-zero : (s : SubmissionState) → isZeroState s ≡ true → s ≡ zeroState
+unfolding isZeroState zeroState
+state-zero s h =
+    let t = trues (isBaseVariant (s .«current_variant»)) (isZeroHash (s .«wallet_acknowledged_variant») ∷ isZeroStatus (s .status) ∷ []) h in
+    λ i. record {
+      «current_variant» = base-variant (s .«current_variant») (t .0) i;
+      «wallet_acknowledged_variant» = hash-zero (s .«wallet_acknowledged_variant») (t .1 .0) i;
+      status = status-zero (s .status) (t .1 .1 .0) i;
+    }
+
 pub entry-zero : (e : SubmittedEntry) → isZeroEntry e ≡ true → e ≡ zeroEntry
 unfolding isZeroEntry zeroEntry
 entry-zero e h =
-    let t = trues (isZero (e .id .0)) (isZero32 (e .«intent_fingerprint») ∷ isZeroBundle (e .«base_bundle») ∷ isBaseVariant (e .«current_variant») ∷ isZeroFeeIntent (e .«fee_intent») ∷ isZeroHash (e .«wallet_acknowledged_variant») ∷ isZeroStatus (e .status) ∷ []) h in
+    let t = trues (isZero (e .id .0)) (isZeroRetainedIntent (e .intent) ∷ isZeroState (e .state) ∷ []) h in
     λ i. record {
       id = record { 0 = number-zero (e .id .0) (t .0) i };
-      «intent_fingerprint» = zeros-only 32 (e .«intent_fingerprint») (t .1 .0) i;
-      «base_bundle» = bundle-zero (e .«base_bundle») (t .1 .1 .0) i;
-      «current_variant» = base-variant (e .«current_variant») (t .1 .1 .1 .0) i;
-      «fee_intent» = fee-intent-zero (e .«fee_intent») (t .1 .1 .1 .1 .0) i;
-      «wallet_acknowledged_variant» = hash-zero (e .«wallet_acknowledged_variant») (t .1 .1 .1 .1 .1 .0) i;
-      status = status-zero (e .status) (t .1 .1 .1 .1 .1 .1 .0) i;
+      intent = retained-intent-zero (e .intent) (t .1 .0) i;
+      state = state-zero (e .state) (t .1 .1 .0) i;
     }
 
 pub submitted-zero : (x : SubmittedTx) → isZeroSubmitted x ≡ true → x ≡ zeroSubmitted

@@ -111,22 +111,32 @@ pub struct SubmissionBroadcastVariant {
     pub applied_fee: u64,
 }
 
-// What changes of a submission and is no array.
+// What is fixed when a submission is retained.
+pub struct RetainedIntent {
+    pub intent_fingerprint: [u8; 32],
+    pub base_bundle: SpendBundle,
+    pub fee_intent: SubmissionFeeIntent,
+}
+
+// What is revised of a submission and is no array.
 pub struct SubmissionStatus {
     pub fee_resolution: FeeResolution,
     pub chain_terminality: SubmissionChainTerminality,
     pub expiry: OptionalHeight,
 }
 
+// What is revised of a submission.
+pub struct SubmissionState {
+    pub current_variant: SubmissionBroadcastVariant,
+    pub wallet_acknowledged_variant: OptionalHash,
+    pub status: SubmissionStatus,
+}
+
 // A submission without its attempt slots.
 pub struct SubmittedEntry {
     pub id: SubmissionId,
-    pub intent_fingerprint: [u8; 32],
-    pub base_bundle: SpendBundle,
-    pub current_variant: SubmissionBroadcastVariant,
-    pub fee_intent: SubmissionFeeIntent,
-    pub wallet_acknowledged_variant: OptionalHash,
-    pub status: SubmissionStatus,
+    pub intent: RetainedIntent,
+    pub state: SubmissionState,
 }
 
 pub struct SubmittedTx {

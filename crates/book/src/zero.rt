@@ -12,12 +12,14 @@ use crate::OptionalId;
 use crate::Output;
 use crate::PendingDelivery;
 use crate::PendingSubmissionIntent;
+use crate::RetainedIntent;
 use crate::SpendBundle;
 use crate::SubmissionBroadcastVariant;
 use crate::SubmissionChainTerminality;
 use crate::SubmissionDeliveryGoal;
 use crate::SubmissionFeeIntent;
 use crate::SubmissionId;
+use crate::SubmissionState;
 use crate::SubmissionStatus;
 use crate::SubmittedEntry;
 use crate::SubmittedTx;
@@ -26,7 +28,7 @@ use base_lists::zero32;
 use base_lists::zero73;
 ghost use mathlib.Core.Path.{_≡_};
 ghost use Rattle.base_lists.specs.Lists.{tailOf};
-ghost use Rattle.book.specs.Zero.{zeroOutput, zeroSpend, zeroBundle, zeroFeeIntent, zeroHash, zeroAttempt, noAttempt, noSlots, baseVariant, zeroStatus, zeroEntry, zeroSubmitted, zeroIntent, zeroDelivery, isZeroOutput, isZeroSpend, isZeroBundle, isZeroFeeIntent, isZeroHash, isZeroAttempt, isNoAttempt, isNoSlots, isBaseVariant, isZeroStatus, isZeroEntry, isZeroSubmitted, isZeroIntent, isZeroDelivery};
+ghost use Rattle.book.specs.Zero.{zeroOutput, zeroSpend, zeroBundle, zeroFeeIntent, zeroHash, zeroAttempt, noAttempt, noSlots, baseVariant, zeroRetainedIntent, zeroStatus, zeroState, zeroEntry, zeroSubmitted, zeroIntent, zeroDelivery, isZeroOutput, isZeroSpend, isZeroBundle, isZeroFeeIntent, isZeroHash, isZeroAttempt, isNoAttempt, isNoSlots, isBaseVariant, isZeroRetainedIntent, isZeroStatus, isZeroState, isZeroEntry, isZeroSubmitted, isZeroIntent, isZeroDelivery};
 
 impl Output {
     pub fn zero() -> Output
@@ -245,6 +247,28 @@ impl SubmissionBroadcastVariant {
     }
 }
 
+impl RetainedIntent {
+    pub fn zero() -> RetainedIntent
+        ensures { λ r. ⌜ r ≡ zeroRetainedIntent ⌝ }
+    {
+        RetainedIntent {
+            intent_fingerprint: [0; 32],
+            base_bundle: SpendBundle::zero(),
+            fee_intent: SubmissionFeeIntent::zero(),
+        }
+    }
+
+    pub fn is_zero(self) -> bool
+        ensures { λ r. ⌜ r ≡ isZeroRetainedIntent self ⌝ }
+    {
+        let fingerprint = self.intent_fingerprint;
+        let p = zero32(&fingerprint);
+        let b = self.base_bundle.is_zero();
+        let f = self.fee_intent.is_zero();
+        p & b & f
+    }
+}
+
 impl SubmissionStatus {
     pub fn zero() -> SubmissionStatus
         ensures { λ r. ⌜ r ≡ zeroStatus ⌝ }
@@ -269,32 +293,44 @@ impl SubmissionStatus {
     }
 }
 
-impl SubmittedEntry {
-    pub fn zero() -> SubmittedEntry
-        ensures { λ r. ⌜ r ≡ zeroEntry ⌝ }
+impl SubmissionState {
+    pub fn zero() -> SubmissionState
+        ensures { λ r. ⌜ r ≡ zeroState ⌝ }
     {
-        SubmittedEntry {
-            id: SubmissionId(0),
-            intent_fingerprint: [0; 32],
-            base_bundle: SpendBundle::zero(),
+        SubmissionState {
             current_variant: SubmissionBroadcastVariant::zero(),
-            fee_intent: SubmissionFeeIntent::zero(),
             wallet_acknowledged_variant: OptionalHash::zero(),
             status: SubmissionStatus::zero(),
         }
     }
 
     pub fn is_zero(self) -> bool
-        ensures { λ r. ⌜ r ≡ isZeroEntry self ⌝ }
+        ensures { λ r. ⌜ r ≡ isZeroState self ⌝ }
     {
-        let fingerprint = self.intent_fingerprint;
-        let p = zero32(&fingerprint);
-        let b = self.base_bundle.is_zero();
         let v = self.current_variant.is_zero();
-        let f = self.fee_intent.is_zero();
         let w = self.wallet_acknowledged_variant.is_zero();
         let s = self.status.is_zero();
-        (self.id.0 == 0) & p & b & v & f & w & s
+        v & w & s
+    }
+}
+
+impl SubmittedEntry {
+    pub fn zero() -> SubmittedEntry
+        ensures { λ r. ⌜ r ≡ zeroEntry ⌝ }
+    {
+        SubmittedEntry {
+            id: SubmissionId(0),
+            intent: RetainedIntent::zero(),
+            state: SubmissionState::zero(),
+        }
+    }
+
+    pub fn is_zero(self) -> bool
+        ensures { λ r. ⌜ r ≡ isZeroEntry self ⌝ }
+    {
+        let i = self.intent.is_zero();
+        let s = self.state.is_zero();
+        (self.id.0 == 0) & i & s
     }
 }
 

@@ -161,16 +161,16 @@ pub fn is_sound_variant(v: SubmissionBroadcastVariant) -> bool
 pub fn is_sound_entry(e: SubmittedEntry) -> bool
     ensures { λ r. ⌜ r ≡ soundEntry e ⌝ }
 {
-    let base = e.base_bundle;
-    let current = e.current_variant;
-    let fee_intent = e.fee_intent;
-    let acknowledged = e.wallet_acknowledged_variant;
+    let base = e.intent.base_bundle;
+    let fee_intent = e.intent.fee_intent;
+    let current = e.state.current_variant;
+    let acknowledged = e.state.wallet_acknowledged_variant;
     let b = is_sound_bundle(base);
     let r = is_readable_bundle(base);
-    let v = is_sound_variant(current);
     let f = is_sound_fee_intent(fee_intent);
+    let v = is_sound_variant(current);
     let a = is_sound_hash(acknowledged);
-    b & r & v & f & a
+    (b & r & f) & (v & a)
 }
 
 pub fn is_sound_submitted(t: SubmittedTx) -> bool

@@ -69,7 +69,7 @@ unfolding absentOutputsForIds run
 absent-quiet is absent room m = go (idsOk is && coinListb absent)
   where
     found : Book → List ℕ
-    found b = encodeCoins (flatMap (λ t. absentOutputs (coinsIn absent) (t .entry)) (filterb (λ t. elemb (idOf t) is) (b .submitted)))
+    found b = encodeCoins (flatMap (λ t. absentOutputs (coinsIn absent) (t .entry .intent)) (filterb (λ t. elemb (idOf t) is) (b .submitted)))
 
     go : (t : Bool) → Quiet m room (runBook (cond t (book >>= (λ b. writing room (found b))) (undo 2)) m)
     go true = writing-quiet m room (found m)

@@ -29,11 +29,11 @@ use Rattle.part_written_answers.specs.Answers.{let-in, turned-away}
 
 -- the absent outputs of a submission, if it is listed
 abbrev pub absentOf : List ℕ → List (List ℕ) → SubmittedTx → List (List ℕ)
-absentOf is absent t = cond (elemb (idOf t) is) (absentOutputs absent (t .entry)) []
+absentOf is absent t = cond (elemb (idOf t) is) (absentOutputs absent (t .entry .intent)) []
 
 -- those of all
 abbrev pub absentOfAll : List ℕ → List (List ℕ) → List SubmittedTx → List (List ℕ)
-absentOfAll is absent ts = flatMap (λ t. absentOutputs absent (t .entry)) (filterb (λ t. elemb (idOf t) is) ts)
+absentOfAll is absent ts = flatMap (λ t. absentOutputs absent (t .entry .intent)) (filterb (λ t. elemb (idOf t) is) ts)
 
 pub record PutAbsent (cs : List (List ℕ)) (at : ℕ) (d d′ : List ℕ) (r : Placed) : Type 0 where
   pub listed : Listed cs at d d′ r
@@ -56,20 +56,20 @@ cells-coins cs =
 module _ (is : List ℕ) (absent : List (List ℕ)) (t : SubmittedTx) where
   pub put-none-of : elemb (idOf t) is ≡ false → (at : ℕ) (d : List ℕ) → PutAbsent (absentOf is absent t) at d d (record { at = at; count = 0 })
   put-none-of e at d =
-      let q : [] ≡ absentOf is absent t = sym (ap (λ (p : Bool). cond p (absentOutputs absent (t .entry)) []) e) in
+      let q : [] ≡ absentOf is absent t = sym (ap (λ (p : Bool). cond p (absentOutputs absent (t .entry .intent)) []) e) in
       rw (← q) (record { listed = record { put = put-none at d; count = refl }; few = omega arith })
 
-  pub put-those-of : {o : OutputCoins} {at : ℕ} {d d′ : List ℕ} {r : Placed} → elemb (idOf t) is ≡ true → o ≡ outputCells (expectedOutputCoins (t .entry .«base_bundle»)) → o .count ≤ 16
+  pub put-those-of : {o : OutputCoins} {at : ℕ} {d d′ : List ℕ} {r : Placed} → elemb (idOf t) is ≡ true → o ≡ outputCells (expectedOutputCoins (t .entry .intent .«base_bundle»)) → o .count ≤ 16
       → Listed (filterb (among absent) (map coinBytes (take (o .count) (o .coins)))) at d d′ r → PutAbsent (absentOf is absent t) at d d′ r
   unfolding absentOutputs
   put-those-of {o} {at} {d} {d′} {r} e q few l =
-      let x : map coinBytes (take (o .count) (o .coins)) ≡ expectedOutputCoins (t .entry .«base_bundle») =
-      ap (λ (y : OutputCoins). map coinBytes (take (y .count) (y .coins))) q ∙ cells-coins (expectedOutputCoins (t .entry .«base_bundle»)) in
-      let n : o .count ≡ length (expectedOutputCoins (t .entry .«base_bundle»)) = ap (λ (y : OutputCoins). y .count) q in
+      let x : map coinBytes (take (o .count) (o .coins)) ≡ expectedOutputCoins (t .entry .intent .«base_bundle») =
+      ap (λ (y : OutputCoins). map coinBytes (take (y .count) (y .coins))) q ∙ cells-coins (expectedOutputCoins (t .entry .intent .«base_bundle»)) in
+      let n : o .count ≡ length (expectedOutputCoins (t .entry .intent .«base_bundle»)) = ap (λ (y : OutputCoins). y .count) q in
       let s : filterb (among absent) (map coinBytes (take (o .count) (o .coins))) ≡ absentOf is absent t =
-      ap (filterb (among absent)) x ∙ sym (ap (λ (p : Bool). cond p (absentOutputs absent (t .entry)) []) e) in
-      let c = filter-length (among absent) (expectedOutputCoins (t .entry .«base_bundle»)) in
-      let m : length (filterb (among absent) (map coinBytes (take (o .count) (o .coins)))) ≡ length (filterb (among absent) (expectedOutputCoins (t .entry .«base_bundle»))) =
+      ap (filterb (among absent)) x ∙ sym (ap (λ (p : Bool). cond p (absentOutputs absent (t .entry .intent)) []) e) in
+      let c = filter-length (among absent) (expectedOutputCoins (t .entry .intent .«base_bundle»)) in
+      let m : length (filterb (among absent) (map coinBytes (take (o .count) (o .coins)))) ≡ length (filterb (among absent) (expectedOutputCoins (t .entry .intent .«base_bundle»))) =
       ap (λ (y : List (List ℕ)). length (filterb (among absent) y)) x in
       record { listed = subst (λ (y : List (List ℕ)). Listed y at d d′ r) s l; few = omega (arith, l .count) }
 
@@ -83,7 +83,7 @@ pub record Collecting (is : List ℕ) (absent w : List (List ℕ)) (d d′ : Lis
 one-more : (is : List ℕ) (absent : List (List ℕ)) (t : SubmittedTx) (ts : List SubmittedTx) → absentOf is absent t ++ absentOfAll is absent ts ≡ absentOfAll is absent (t ∷ ts)
 one-more is absent t ts = go (elemb (idOf t) is)
   where
-    go : (p : Bool) → cond p (absentOutputs absent (t .entry)) [] ++ absentOfAll is absent ts ≡ flatMap (λ t. absentOutputs absent (t .entry)) (cond p (t ∷ filterb (λ t. elemb (idOf t) is) ts) (filterb (λ t. elemb (idOf t) is) ts))
+    go : (p : Bool) → cond p (absentOutputs absent (t .entry .intent)) [] ++ absentOfAll is absent ts ≡ flatMap (λ t. absentOutputs absent (t .entry .intent)) (cond p (t ∷ filterb (λ t. elemb (idOf t) is) ts) (filterb (λ t. elemb (idOf t) is) ts))
     go true = refl
     go false = refl
 

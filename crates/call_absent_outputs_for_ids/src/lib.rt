@@ -32,7 +32,7 @@ fn put_absent(out: &mut [u8], at: usize, t: SubmittedTx, ids: &[u64], absent: &[
     if !listed {
         return Placed { at, count: 0 };
     }
-    let base = e.base_bundle;
+    let base = e.intent.base_bundle;
     let outputs = expected_output_coins(base);
     put_listed(out, at, outputs, absent)
 }

@@ -113,7 +113,7 @@ fn should_broadcast(goal: SubmissionDeliveryGoal, e: SubmittedEntry, f: [u8; 32]
     requires { ⌜ f ≡ currentFingerprint e ⌝ }
     ensures { λ r. ⌜ r ≡ (isEnsureBroadcast goal && not (currentAcknowledged e)) ⌝ }
 {
-    let h = e.wallet_acknowledged_variant;
+    let h = e.state.wallet_acknowledged_variant;
     let acknowledged = holds_hash(h, f);
     let broadcast = goal.is_ensure_broadcast();
     broadcast & !acknowledged
@@ -124,7 +124,7 @@ fn unused_fee(goal: SubmissionDeliveryGoal, e: SubmittedEntry, f: [u8; 32]) -> F
     requires { ⌜ f ≡ currentFingerprint e ⌝ }
     ensures { λ r. ⌜ r ≡ unusedFee goal e ⌝ }
 {
-    let base = e.base_bundle;
+    let base = e.intent.base_bundle;
     let send = should_broadcast(goal, e, f);
     FinalizedSubmission {
         bundle: base,
@@ -163,11 +163,11 @@ fn attached_final(joined: SpendBundle, e: SubmittedEntry) -> FinalizedSubmission
     ensures { λ r. ⌜ r ≡ attachedFinal joined e ⌝ }
 {
     let f = variant_fingerprint(joined);
-    let h = e.wallet_acknowledged_variant;
+    let h = e.state.wallet_acknowledged_variant;
     let acknowledged = holds_hash(h, f);
     FinalizedSubmission {
         bundle: joined,
-        applied_fee: e.fee_intent.amount,
+        applied_fee: e.intent.fee_intent.amount,
         warning: false,
         disposition: FeeSourceDisposition::Attached,
         variant_fingerprint: f,

@@ -33,28 +33,28 @@ test-of p e q h = sym (ap p e) ∙ sym q ∙ h
 module _ (observed spent : List (List ℕ)) (reorg : Bool) (ids : List ℕ) where
   -- ---- one submission
   module _ (t : SubmittedTx) where
-    asked : {o s r : Bool} → outputObserved observed (t .entry) ≡ o → inputSpent spent (t .entry) ≡ s → elemb (idOf t) ids ≡ r
-        → cond o (halt (idOf t) Landed) (cond s (halt (idOf t) (spentAs reorg (t .entry .status .«chain_terminality»))) (cond r (reactivateRule (idOf t)) (done tt)))
+    asked : {o s r : Bool} → outputObserved observed (t .entry .intent) ≡ o → inputSpent spent (t .entry .intent) ≡ s → elemb (idOf t) ids ≡ r
+        → cond o (halt (idOf t) Landed) (cond s (halt (idOf t) (spentAs reorg (t .entry .state .status .«chain_terminality»))) (cond r (reactivateRule (idOf t)) (done tt)))
         ≡ judge observed spent reorg ids t
     unfolding judge
-    asked p q h = sym (λ j. cond (p j) (halt (idOf t) Landed) (cond (q j) (halt (idOf t) (spentAs reorg (t .entry .status .«chain_terminality»))) (cond (h j) (reactivateRule (idOf t)) (done tt))))
+    asked p q h = sym (λ j. cond (p j) (halt (idOf t) Landed) (cond (q j) (halt (idOf t) (spentAs reorg (t .entry .state .status .«chain_terminality»))) (cond (h j) (reactivateRule (idOf t)) (done tt))))
 
     module _ (k : ℕ) (b : BookData) (x : Retired) where
       judged-as : {r : Rule (Unit {0})} → r ≡ judge observed spent reorg ids t → Judged r k b x → Judged (judge observed spent reorg ids t) k b x
       judged-as e j = subst (λ (r : Rule (Unit {0})). Judged r k b x) e j
 
-      pub as-landed : outputObserved observed (t .entry) ≡ true → Judged (halt (idOf t) Landed) k b x → Judged (judge observed spent reorg ids t) k b x
+      pub as-landed : outputObserved observed (t .entry .intent) ≡ true → Judged (halt (idOf t) Landed) k b x → Judged (judge observed spent reorg ids t) k b x
       as-landed p j = judged-as (asked p refl refl) j
 
-      pub as-spent : outputObserved observed (t .entry) ≡ false → inputSpent spent (t .entry) ≡ true
-          → Judged (halt (idOf t) (spentAs reorg (t .entry .status .«chain_terminality»))) k b x → Judged (judge observed spent reorg ids t) k b x
+      pub as-spent : outputObserved observed (t .entry .intent) ≡ false → inputSpent spent (t .entry .intent) ≡ true
+          → Judged (halt (idOf t) (spentAs reorg (t .entry .state .status .«chain_terminality»))) k b x → Judged (judge observed spent reorg ids t) k b x
       as-spent p q j = judged-as (asked p q refl) j
 
-      pub as-active : outputObserved observed (t .entry) ≡ false → inputSpent spent (t .entry) ≡ false → elemb (idOf t) ids ≡ true
+      pub as-active : outputObserved observed (t .entry .intent) ≡ false → inputSpent spent (t .entry .intent) ≡ false → elemb (idOf t) ids ≡ true
           → Judged (reactivateRule (idOf t)) k b x → Judged (judge observed spent reorg ids t) k b x
       as-active p q h j = judged-as (asked p q h) j
 
-      pub as-before : outputObserved observed (t .entry) ≡ false → inputSpent spent (t .entry) ≡ false → elemb (idOf t) ids ≡ false
+      pub as-before : outputObserved observed (t .entry .intent) ≡ false → inputSpent spent (t .entry .intent) ≡ false → elemb (idOf t) ids ≡ false
           → Judged (done tt) k b x → Judged (judge observed spent reorg ids t) k b x
       as-before p q h j = judged-as (asked p q h) j
 

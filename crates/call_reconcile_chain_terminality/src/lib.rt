@@ -110,11 +110,12 @@ fn judge(
 {
     let t = submitted_at(b, k);
     let e = t.entry;
-    if output_observed(e, observed) {
+    let intent = e.intent;
+    if output_observed(intent, observed) {
         return halt(b, k, SubmissionChainTerminality::Landed);
     }
-    if input_spent(e, spent) {
-        let status = e.status;
+    if input_spent(intent, spent) {
+        let status = e.state.status;
         let c = status.chain_terminality;
         return halt(b, k, spent_as(c, reorg));
     }

@@ -26,7 +26,7 @@ use Rattle.part_coin_lists.specs.Writing.{encode-coins}
 use Rattle.part_written_answers.specs.Answers.{let-in, turned-away}
 
 abbrev pub inputsOf : SubmittedTx → List (List ℕ)
-inputsOf t = inputCoins (t .entry .«base_bundle»)
+inputsOf t = inputCoins (t .entry .intent .«base_bundle»)
 
 -- a submission's input coins among those in s, if it is to be reconciled
 pub record Gathered (outputs : List (List ℕ)) (t : SubmittedTx) (s r : Coins64) : Type 0 where
@@ -41,19 +41,19 @@ pub record InputsOf (w : List (List ℕ)) (r : Coins64) : Type 0 where
 pub gathered-none : {outputs : List (List ℕ)} (t : SubmittedTx) (s : Coins64) → isReconciled outputs (t .entry) ≡ false → Gathered outputs t s s
 gathered-none t s e = record { is = sym (ap (λ (p : Bool). cond p (insertAll (coinsOf s) (inputsOf t)) (coinsOf s)) e); few = omega arith }
 
-pub gathered-some : {outputs : List (List ℕ)} (t : SubmittedTx) {s r : Coins64} → isReconciled outputs (t .entry) ≡ true → InsertedInputs (t .entry .«base_bundle») s r → Gathered outputs t s r
+pub gathered-some : {outputs : List (List ℕ)} (t : SubmittedTx) {s r : Coins64} → isReconciled outputs (t .entry) ≡ true → InsertedInputs (t .entry .intent .«base_bundle») s r → Gathered outputs t s r
 gathered-some t {s} e q = record { is = q .is ∙ sym (ap (λ (p : Bool). cond p (insertAll (coinsOf s) (inputsOf t)) (coinsOf s)) e); few = q .few }
 
 -- ---- whether a submission is to be reconciled
 module _ (outputs : List (List ℕ)) (e : SubmittedEntry) where
-  asked : {t : Bool} → isLanded (e .status .«chain_terminality») ≡ t → (not t || outputObserved outputs e) ≡ isReconciled outputs e
+  asked : {t : Bool} → isLanded (e .state .status .«chain_terminality») ≡ t → (not t || outputObserved outputs (e .intent)) ≡ isReconciled outputs e
   unfolding isReconciled outputObserved
-  asked h = sym (ap (λ (t : Bool). not t || outputObserved outputs e) h)
+  asked h = sym (ap (λ (t : Bool). not t || outputObserved outputs (e .intent)) h)
 
-  pub not-landed : isLanded (e .status .«chain_terminality») ≡ false → true ≡ isReconciled outputs e
+  pub not-landed : isLanded (e .state .status .«chain_terminality») ≡ false → true ≡ isReconciled outputs e
   not-landed h = asked h
 
-  pub landed : isLanded (e .status .«chain_terminality») ≡ true → outputObserved outputs e ≡ isReconciled outputs e
+  pub landed : isLanded (e .state .status .«chain_terminality») ≡ true → outputObserved outputs (e .intent) ≡ isReconciled outputs e
   landed h = asked h
 
 -- ---- the loop: acc holds what is passed, and ts are left of what makes w

@@ -28,13 +28,14 @@ use part_written_answers::write_list;
 fn is_reconciled(e: SubmittedEntry, outputs: &[u8]) -> bool
     ensures { λ r. ⌜ r ≡ isReconciled (coinsIn (now (outputs .entry))) e ⌝ }
 {
-    let status = e.status;
+    let status = e.state.status;
     let terminality = status.chain_terminality;
     let landed = is_landed(terminality);
     if !landed {
         return true;
     }
-    output_observed(e, outputs)
+    let intent = e.intent;
+    output_observed(intent, outputs)
 }
 
 // The input coins of one submission among those of the submissions before it, if it is to be reconciled.
@@ -47,7 +48,7 @@ fn gather_inputs(s: Coins64, t: SubmittedTx, outputs: &[u8]) -> Coins64
     if !reconciled {
         return s;
     }
-    let base = e.base_bundle;
+    let base = e.intent.base_bundle;
     insert_inputs(s, base)
 }
 

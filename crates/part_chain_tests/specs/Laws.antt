@@ -10,6 +10,7 @@ use Rattle.base_lists.specs.Bytes.{eqs, isIn}
 use Rattle.base_coin_string.specs.Coin.{coinIdOf}
 use Rattle.book.specs.Zero.{zeros}
 use Rattle.book.specs.Sound.{spendsOf}
+use Rattle.book.specs.declared.RetainedIntent.{RetainedIntent}
 use Rattle.book.specs.declared.SpendBundle.{SpendBundle}
 use Rattle.book.specs.declared.SubmittedEntry.{SubmittedEntry}
 use Rattle.book_coins.specs.Coins.{inputCoinIds, expectedOutputCoins}
@@ -29,14 +30,13 @@ among-in [] x = refl
 among-in (y ∷ ys) x = ap (λ (b : Bool). eqs y x || b) (among-in ys x)
 
 -- an output is found exactly if one is observed
-pub found-observed : (seen : List (List ℕ)) (e : SubmittedEntry) → isFound (foundOf seen (e .«base_bundle»)) ≡ outputObserved seen e
+pub found-observed : (seen : List (List ℕ)) (p : RetainedIntent) → isFound (foundOf seen (p .«base_bundle»)) ≡ outputObserved seen p
 unfolding outputObserved
-found-observed seen e =
-    found-any seen (e .«base_bundle») ∙ sym (any-same (among seen) (isIn seen) (among-in seen) (expectedOutputCoins (e .«base_bundle»)))
+found-observed seen p = found-any seen (p .«base_bundle») ∙ sym (any-same (among seen) (isIn seen) (among-in seen) (expectedOutputCoins (p .«base_bundle»)))
 
-pub spent-is : (seen : List (List ℕ)) (e : SubmittedEntry) → anyb (isIn seen) (inputCoinIds (e .«base_bundle»)) ≡ inputSpent seen e
+pub spent-is : (seen : List (List ℕ)) (p : RetainedIntent) → anyb (isIn seen) (inputCoinIds (p .«base_bundle»)) ≡ inputSpent seen p
 unfolding inputSpent
-spent-is seen e = sym (any-same (among seen) (isIn seen) (among-in seen) (inputCoinIds (e .«base_bundle»)))
+spent-is seen p = sym (any-same (among seen) (isIn seen) (among-in seen) (inputCoinIds (p .«base_bundle»)))
 
 -- an input is live, or made by the bundle
 abbrev pub liveOrMade : List (List ℕ) → SpendBundle → List ℕ → Bool
@@ -58,17 +58,17 @@ module _ (b : SpendBundle) (n : ℕ) (long : length (b .spends) ≡ 4) (cut : n 
 
 -- ---- the three questions of a rollback
 module _ (absent inputs : List (List ℕ)) (e : SubmittedEntry) where
-  asked : {a o : Bool} → activeEntry e ≡ a → (isInputSpent (e .status .«chain_terminality») || outputObserved absent e) ≡ o
-      → rolledBack absent inputs e ≡ (not a && o && allb (among inputs) (outerInputIds (e .«base_bundle»)))
+  asked : {a o : Bool} → activeEntry e ≡ a → (isInputSpent (e .state .status .«chain_terminality») || outputObserved absent (e .intent)) ≡ o
+      → rolledBack absent inputs e ≡ (not a && o && allb (among inputs) (outerInputIds (e .intent .«base_bundle»)))
   unfolding rolledBack outputObserved
-  asked {a} {o} p q = λ i. not (p i) && q i && allb (among inputs) (outerInputIds (e .«base_bundle»))
+  asked {a} {o} p q = λ i. not (p i) && q i && allb (among inputs) (outerInputIds (e .intent .«base_bundle»))
 
   pub still-active : activeEntry e ≡ true → false ≡ rolledBack absent inputs e
   still-active p = sym (asked p refl)
 
-  pub still-there : activeEntry e ≡ false → (isInputSpent (e .status .«chain_terminality») || outputObserved absent e) ≡ false → false ≡ rolledBack absent inputs e
+  pub still-there : activeEntry e ≡ false → (isInputSpent (e .state .status .«chain_terminality») || outputObserved absent (e .intent)) ≡ false → false ≡ rolledBack absent inputs e
   still-there p q = sym (asked p q)
 
-  pub by-inputs : {r : Bool} → activeEntry e ≡ false → (isInputSpent (e .status .«chain_terminality») || outputObserved absent e) ≡ true
-      → r ≡ allb (among inputs) (outerInputIds (e .«base_bundle»)) → r ≡ rolledBack absent inputs e
+  pub by-inputs : {r : Bool} → activeEntry e ≡ false → (isInputSpent (e .state .status .«chain_terminality») || outputObserved absent (e .intent)) ≡ true
+      → r ≡ allb (among inputs) (outerInputIds (e .intent .«base_bundle»)) → r ≡ rolledBack absent inputs e
   by-inputs p q h = h ∙ sym (asked p q)

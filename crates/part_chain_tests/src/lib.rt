@@ -17,6 +17,7 @@ use base_coin_string::has_id;
 use base_coin_string::to_coin_id;
 use base_lists::same32;
 use book::CoinSpend;
+use book::RetainedIntent;
 use book::SpendBundle;
 use book::SubmissionChainTerminality;
 use book::SubmittedEntry;
@@ -29,10 +30,10 @@ use book_coins::output_coin;
 use part_submitted::entry::active_entry;
 
 // An expected output is one of the coins observed.
-pub fn output_observed(e: SubmittedEntry, observed: &[u8]) -> bool
-    ensures { λ r. ⌜ r ≡ outputObserved (coinsIn (now (observed .entry))) e ⌝ }
+pub fn output_observed(p: RetainedIntent, observed: &[u8]) -> bool
+    ensures { λ r. ⌜ r ≡ outputObserved (coinsIn (now (observed .entry))) p ⌝ }
 {
-    let b = e.base_bundle;
+    let b = p.base_bundle;
     let found = first_output_among(b, observed);
     match found {
         Found::At(_, _) => true,
@@ -41,10 +42,10 @@ pub fn output_observed(e: SubmittedEntry, observed: &[u8]) -> bool
 }
 
 // The id of an input is one of those spent.
-pub fn input_spent(e: SubmittedEntry, spent: &[u8]) -> bool
-    ensures { λ r. ⌜ r ≡ inputSpent (idsIn (now (spent .entry))) e ⌝ }
+pub fn input_spent(p: RetainedIntent, spent: &[u8]) -> bool
+    ensures { λ r. ⌜ r ≡ inputSpent (idsIn (now (spent .entry))) p ⌝ }
 {
-    let b = e.base_bundle;
+    let b = p.base_bundle;
     let n = at_most_four(b.count);
     let ids = input_coin_ids(b);
     let mut i = 0;
@@ -151,14 +152,15 @@ fn is_input_spent(c: SubmissionChainTerminality) -> bool
 
 // InputSpent, or an expected output is absent.
 fn spent_or_absent(e: SubmittedEntry, absent: &[u8]) -> bool
-    ensures { λ r. ⌜ r ≡ (isInputSpent (e .status .«chain_terminality») || outputObserved (coinsIn (now (absent .entry))) e) ⌝ }
+    ensures { λ r. ⌜ r ≡ (isInputSpent (e .state .status .«chain_terminality») || outputObserved (coinsIn (now (absent .entry))) (e .intent)) ⌝ }
 {
-    let status = e.status;
+    let status = e.state.status;
     let c = status.chain_terminality;
     if is_input_spent(c) {
         return true;
     }
-    output_observed(e, absent)
+    let intent = e.intent;
+    output_observed(intent, absent)
 }
 
 // The chain no longer holds what made the submission terminal, and every input from outside is live.
@@ -171,6 +173,6 @@ pub fn rolled_back(e: SubmittedEntry, absent: &[u8], inputs: &[u8]) -> bool
     if !spent_or_absent(e, absent) {
         return false;
     }
-    let b = e.base_bundle;
+    let b = e.intent.base_bundle;
     outer_inputs_live(b, inputs)
 }

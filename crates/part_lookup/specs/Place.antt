@@ -28,4 +28,4 @@ placeOfId i m = placeOf (hasId i) (m .submitted)
 
 -- plan 1: "first retained of equal intent fingerprint"
 abbrev pub hasIntent : List ℕ → SubmittedTx → Bool
-hasIntent f t = eqs (t .entry .«intent_fingerprint») f
+hasIntent f t = eqs (t .entry .intent .«intent_fingerprint») f

@@ -157,7 +157,7 @@ fn is_of_intent(t: SubmittedTx, f: [u8; 32]) -> bool
     ensures { λ r. ⌜ r ≡ hasIntent f t ⌝ }
 {
     let e = t.entry;
-    let g = e.intent_fingerprint;
+    let g = e.intent.intent_fingerprint;
     same32(&g, &f)
 }
 

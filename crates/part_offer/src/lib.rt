@@ -89,10 +89,10 @@ fn redelivery(
     ensures { λ r. ⌜ r ≡ redeliveryOf trigger goal e ⌝ }
 {
     let id = e.id;
-    let bundle = e.base_bundle;
-    let status = e.status;
+    let bundle = e.intent.base_bundle;
+    let status = e.state.status;
     let expiry = status.expiry;
-    let fee = e.fee_intent;
+    let fee = e.intent.fee_intent;
     let intent = PendingSubmissionIntent {
         id: OptionalId::Of(id),
         bundle: bundle,

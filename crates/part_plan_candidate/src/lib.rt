@@ -47,14 +47,14 @@ fn miss_of(p: PendingSubmissionIntent, f: [u8; 32], e: SubmittedEntry) -> Option
     ensures { λ r. ⌜ causeIn r ≡ missOf p f e ⌝ }
 {
     let asked = p.fee_intent;
-    let held = e.fee_intent;
+    let held = e.intent.fee_intent;
     if !same_fee_intent(asked, held) {
         return OptionalCause::Of(DrainFailureCause::FeeIntentDiffers);
     }
     if !validate(e) {
         return OptionalCause::Of(DrainFailureCause::InvalidRetainedState);
     }
-    let g = e.intent_fingerprint;
+    let g = e.intent.intent_fingerprint;
     if !same32(&g, &f) {
         return OptionalCause::Of(DrainFailureCause::IntentDiffers);
     }

@@ -6,10 +6,12 @@ use book::FeeResolution;
 use book::OptionalAttempt;
 use book::OptionalHash;
 use book::PendingSubmissionIntent;
+use book::RetainedIntent;
 use book::SubmissionBroadcastVariant;
 use book::SubmissionChainTerminality;
 use book::SubmissionDeliveryGoal;
 use book::SubmissionId;
+use book::SubmissionState;
 use book::SubmissionStatus;
 use book::SubmittedEntry;
 use book::Token;
@@ -47,7 +49,7 @@ pub fn handed(
     ensures { λ r. ⌜ r ≡ handedOut (token .0) goal e p ⌝ }
 {
     let id = e.id;
-    let status = e.status;
+    let status = e.state.status;
     let expiry = status.expiry;
     let before = token_in(p);
     let relation = relationship(p, goal, fingerprint);
@@ -93,13 +95,19 @@ pub fn new_entry(
         chain_terminality: SubmissionChainTerminality::Active,
         expiry: expiry,
     };
-    SubmittedEntry {
-        id: id,
+    let intent = RetainedIntent {
         intent_fingerprint: fingerprint,
         base_bundle: base,
-        current_variant: SubmissionBroadcastVariant::zero(),
         fee_intent: fee,
+    };
+    let state = SubmissionState {
+        current_variant: SubmissionBroadcastVariant::zero(),
         wallet_acknowledged_variant: OptionalHash::zero(),
         status: status,
+    };
+    SubmittedEntry {
+        id: id,
+        intent: intent,
+        state: state,
     }
 }

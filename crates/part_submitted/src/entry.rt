@@ -51,18 +51,18 @@ pub fn same_fee_intent(a: SubmissionFeeIntent, b: SubmissionFeeIntent) -> bool
 pub fn current_bundle(e: SubmittedEntry) -> SpendBundle
     ensures { λ r. ⌜ r ≡ currentBundle e ⌝ }
 {
-    if e.current_variant.fee_bearing {
-        e.current_variant.bundle
+    if e.state.current_variant.fee_bearing {
+        e.state.current_variant.bundle
     } else {
-        e.base_bundle
+        e.intent.base_bundle
     }
 }
 
 pub fn current_applied_fee(e: SubmittedEntry) -> u64
     ensures { λ r. ⌜ r ≡ currentAppliedFee e ⌝ }
 {
-    if e.current_variant.fee_bearing {
-        e.current_variant.applied_fee
+    if e.state.current_variant.fee_bearing {
+        e.state.current_variant.applied_fee
     } else {
         0
     }
@@ -71,7 +71,7 @@ pub fn current_applied_fee(e: SubmittedEntry) -> u64
 pub fn fee_unresolved(e: SubmittedEntry) -> bool
     ensures { λ r. ⌜ r ≡ feeUnresolved e ⌝ }
 {
-    let status = e.status;
+    let status = e.state.status;
     let r = status.fee_resolution;
     r.is_unresolved()
 }
@@ -81,7 +81,7 @@ pub fn open_fee_intent(e: SubmittedEntry) -> SubmissionFeeIntent
     ensures { λ r. ⌜ r ≡ openFeeIntent e ⌝ }
 {
     if fee_unresolved(e) {
-        return e.fee_intent;
+        return e.intent.fee_intent;
     }
     SubmissionFeeIntent::zero()
 }
@@ -89,7 +89,7 @@ pub fn open_fee_intent(e: SubmittedEntry) -> SubmissionFeeIntent
 pub fn active_entry(e: SubmittedEntry) -> bool
     ensures { λ r. ⌜ r ≡ activeEntry e ⌝ }
 {
-    let status = e.status;
+    let status = e.state.status;
     let c = status.chain_terminality;
     c.is_active()
 }

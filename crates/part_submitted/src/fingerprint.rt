@@ -25,8 +25,8 @@ pub fn current_variant_fingerprint(e: SubmittedEntry) -> [u8; 32]
 pub fn current_variant_acknowledged(e: SubmittedEntry) -> bool
     ensures { λ r. ⌜ r ≡ currentAcknowledged e ⌝ }
 {
-    if e.wallet_acknowledged_variant.present {
-        let h = e.wallet_acknowledged_variant;
+    if e.state.wallet_acknowledged_variant.present {
+        let h = e.state.wallet_acknowledged_variant;
         return holds_hash(h, current_variant_fingerprint(e));
     }
     false
@@ -60,21 +60,21 @@ fn consistent(r: FeeResolution, attach: bool, bearing: bool) -> bool
 
 // Fee intent and broadcast variant go together.
 pub fn consistent_fee(e: SubmittedEntry) -> bool
-    ensures { λ r. ⌜ r ≡ consistentFee (e .status .«fee_resolution») (isAttach (e .«fee_intent» .kind)) (e .«current_variant» .«fee_bearing») ⌝ }
+    ensures { λ r. ⌜ r ≡ consistentFee (e .state .status .«fee_resolution») (isAttach (e .intent .«fee_intent» .kind)) (e .state .«current_variant» .«fee_bearing») ⌝ }
 {
-    let status = e.status;
+    let status = e.state.status;
     let resolution = status.fee_resolution;
-    let fee = e.fee_intent;
+    let fee = e.intent.fee_intent;
     let kind = fee.kind;
     let attach = kind.is_attach();
-    consistent(resolution, attach, e.current_variant.fee_bearing)
+    consistent(resolution, attach, e.state.current_variant.fee_bearing)
 }
 
 // The cell of the acknowledged fingerprint has that of b.
 fn acknowledges(e: SubmittedEntry, b: SpendBundle) -> bool
-    ensures { λ r. ⌜ r ≡ eqs (e .«wallet_acknowledged_variant» .hash) (variantFingerprint b) ⌝ }
+    ensures { λ r. ⌜ r ≡ eqs (e .state .«wallet_acknowledged_variant» .hash) (variantFingerprint b) ⌝ }
 {
-    let h = e.wallet_acknowledged_variant;
+    let h = e.state.wallet_acknowledged_variant;
     let x = h.hash;
     let f = variant_fingerprint(b);
     same32(&x, &f)
@@ -84,13 +84,13 @@ fn acknowledges(e: SubmittedEntry, b: SpendBundle) -> bool
 pub fn known_acknowledged(e: SubmittedEntry) -> bool
     ensures { λ r. ⌜ r ≡ knownAcknowledged e ⌝ }
 {
-    if e.wallet_acknowledged_variant.present {
-        let base = e.base_bundle;
+    if e.state.wallet_acknowledged_variant.present {
+        let base = e.intent.base_bundle;
         if acknowledges(e, base) {
             return true;
         }
-        if e.current_variant.fee_bearing {
-            let variant = e.current_variant;
+        if e.state.current_variant.fee_bearing {
+            let variant = e.state.current_variant;
             let current = variant.bundle;
             return acknowledges(e, current);
         }
@@ -102,7 +102,7 @@ pub fn known_acknowledged(e: SubmittedEntry) -> bool
 pub fn validate(e: SubmittedEntry) -> bool
     ensures { λ r. ⌜ r ≡ valid e ⌝ }
 {
-    let base = e.base_bundle;
+    let base = e.intent.base_bundle;
     let readable = is_readable_bundle(base);
     let fee = consistent_fee(e);
     let known = known_acknowledged(e);

@@ -6,6 +6,7 @@ use book::OptionalHeight;
 use book::SpendBundle;
 use book::SubmissionBroadcastVariant;
 use book::SubmissionChainTerminality;
+use book::SubmissionState;
 use book::SubmissionStatus;
 use book::SubmittedEntry;
 ghost use mathlib.Core.Bool.{true};
@@ -51,16 +52,25 @@ fn with_fee_attached(s: SubmissionStatus) -> SubmissionStatus
     }
 }
 
+// The submission with this state: id and intent stay.
+fn with_state(e: SubmittedEntry, state: SubmissionState) -> SubmittedEntry
+    ensures { λ r. ⌜ r ≡ record { id = e .id; intent = e .intent; state = state } ⌝ }
+{
+    let mut out = e;
+    out.state = state;
+    out
+}
+
 // The expiry becomes the smaller one present.
 pub fn tighten(e: SubmittedEntry, expiry: OptionalHeight) -> SubmittedEntry
     ensures { λ r. ⌜ r ≡ revised (tightened expiry) e ⌝ }
 {
-    let status = e.status;
+    let mut state = e.state;
+    let status = state.status;
     let old = status.expiry;
     let status = with_expiry(status, min_expiry(old, expiry));
-    let mut out = e;
-    out.status = status;
-    out
+    state.status = status;
+    with_state(e, state)
 }
 
 // The variant with this fingerprint is acknowledged.
@@ -71,9 +81,9 @@ pub fn acknowledge(e: SubmittedEntry, fingerprint: [u8; 32]) -> SubmittedEntry
         present: true,
         hash: fingerprint,
     };
-    let mut out = e;
-    out.wallet_acknowledged_variant = h;
-    out
+    let mut state = e.state;
+    state.wallet_acknowledged_variant = h;
+    with_state(e, state)
 }
 
 // The joined bundle is the variant from here on, with the fee that was asked for.
@@ -84,24 +94,24 @@ pub fn attach(e: SubmittedEntry, joined: SpendBundle) -> SubmittedEntry
     let variant = SubmissionBroadcastVariant {
         fee_bearing: true,
         bundle: joined,
-        applied_fee: e.fee_intent.amount,
+        applied_fee: e.intent.fee_intent.amount,
     };
-    let status = e.status;
+    let mut state = e.state;
+    let status = state.status;
     let status = with_fee_attached(status);
-    let mut out = e;
-    out.current_variant = variant;
-    out.status = status;
-    out
+    state.current_variant = variant;
+    state.status = status;
+    with_state(e, state)
 }
 
 pub fn with_terminality(e: SubmittedEntry, c: SubmissionChainTerminality) -> SubmittedEntry
     ensures { λ r. ⌜ r ≡ revised (terminality c) e ⌝ }
 {
-    let status = e.status;
+    let mut state = e.state;
+    let status = state.status;
     let status = with_chain(status, c);
-    let mut out = e;
-    out.status = status;
-    out
+    state.status = status;
+    with_state(e, state)
 }
 
 // Active, and nothing acknowledged.
@@ -109,10 +119,10 @@ pub fn reopen(e: SubmittedEntry) -> SubmittedEntry
     ensures { λ r. ⌜ r ≡ revised reopened e ⌝ }
 {
     let none = OptionalHash::zero();
-    let status = e.status;
+    let mut state = e.state;
+    let status = state.status;
     let status = with_chain(status, SubmissionChainTerminality::Active);
-    let mut out = e;
-    out.wallet_acknowledged_variant = none;
-    out.status = status;
-    out
+    state.wallet_acknowledged_variant = none;
+    state.status = status;
+    with_state(e, state)
 }

@@ -38,7 +38,7 @@ pub record Played : Type 0 where
   pub end : List (List ℕ)
 
 unfoldable pub brief : Book → List (List ℕ)
-brief b = (b .nextToken .0 ∷ []) ∷ (b .nextId .0 ∷ []) ∷ map idOf (b .submitted) ∷ map (λ t. heightNumber (t .entry .status .expiry)) (b .submitted) ∷ map (λ d. queuedId (d .intent .id)) (b .pending) ∷ b .retired ∷ b .replayed ∷ []
+brief b = (b .nextToken .0 ∷ []) ∷ (b .nextId .0 ∷ []) ∷ map idOf (b .submitted) ∷ map (λ t. heightNumber (t .entry .state .status .expiry)) (b .submitted) ∷ map (λ d. queuedId (d .intent .id)) (b .pending) ∷ b .retired ∷ b .replayed ∷ []
 
 abbrev pub saying : Answer Value → Played → Played
 saying a p = record { says = a ∷ p .says; end = p .end }

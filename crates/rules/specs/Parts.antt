@@ -22,11 +22,11 @@ use Rattle.book.specs.declared.PendingSubmissionIntent.{PendingSubmissionIntent
 
 -- `current_bundle`
 unfoldable pub currentBundle : SubmittedEntry → SpendBundle
-currentBundle e = cond (e .«current_variant» .«fee_bearing») (e .«current_variant» .bundle) (e .«base_bundle»)
+currentBundle e = cond (e .state .«current_variant» .«fee_bearing») (e .state .«current_variant» .bundle) (e .intent .«base_bundle»)
 
 -- `current_applied_fee`
 unfoldable pub currentAppliedFee : SubmittedEntry → ℕ
-currentAppliedFee e = cond (e .«current_variant» .«fee_bearing») (e .«current_variant» .«applied_fee») 0
+currentAppliedFee e = cond (e .state .«current_variant» .«fee_bearing») (e .state .«current_variant» .«applied_fee») 0
 
 -- `current_variant_fingerprint`
 unfoldable pub currentFingerprint : SubmittedEntry → List ℕ
@@ -40,19 +40,19 @@ holdsHash h f = h .present && eqs (h .hash) f
 -- `current_variant_acknowledged`
 unfoldable pub currentAcknowledged : SubmittedEntry → Bool
 unfolding holdsHash currentFingerprint
-currentAcknowledged e = holdsHash (e .«wallet_acknowledged_variant») (currentFingerprint e)
+currentAcknowledged e = holdsHash (e .state .«wallet_acknowledged_variant») (currentFingerprint e)
 
 -- `unresolved_fee_intent` is there
 abbrev pub feeUnresolved : SubmittedEntry → Bool
-feeUnresolved e = isUnresolved (e .status .«fee_resolution»)
+feeUnresolved e = isUnresolved (e .state .status .«fee_resolution»)
 
 -- `unresolved_fee_intent`, or `AlreadyPaid`
 unfoldable pub openFeeIntent : SubmittedEntry → SubmissionFeeIntent
 unfolding zeroFeeIntent
-openFeeIntent e = cond (feeUnresolved e) (e .«fee_intent») zeroFeeIntent
+openFeeIntent e = cond (feeUnresolved e) (e .intent .«fee_intent») zeroFeeIntent
 
 abbrev pub activeEntry : SubmittedEntry → Bool
-activeEntry e = isActive (e .status .«chain_terminality»)
+activeEntry e = isActive (e .state .status .«chain_terminality»)
 
 abbrev pub isLanded : SubmissionChainTerminality → Bool
 isLanded Active = false
@@ -82,16 +82,16 @@ consistentFee Attached attach bearing = bearing
 unfoldable pub knownAcknowledged : SubmittedEntry → Bool
 unfolding variantFingerprint currentFingerprint
 knownAcknowledged e =
-    not (e .«wallet_acknowledged_variant» .present)
-    || eqs (e .«wallet_acknowledged_variant» .hash) (variantFingerprint (e .«base_bundle»))
-    || eqs (e .«wallet_acknowledged_variant» .hash) (currentFingerprint e)
+    not (e .state .«wallet_acknowledged_variant» .present)
+    || eqs (e .state .«wallet_acknowledged_variant» .hash) (variantFingerprint (e .intent .«base_bundle»))
+    || eqs (e .state .«wallet_acknowledged_variant» .hash) (currentFingerprint e)
 
 -- `SubmittedTx::validate`
 unfoldable pub validate : SubmittedEntry → Bool
 unfolding readableBundle knownAcknowledged
 validate e =
-    readableBundle (e .«base_bundle»)
-    && consistentFee (e .status .«fee_resolution») (isAttach (e .«fee_intent» .kind)) (e .«current_variant» .«fee_bearing»)
+    readableBundle (e .intent .«base_bundle»)
+    && consistentFee (e .state .status .«fee_resolution») (isAttach (e .intent .«fee_intent» .kind)) (e .state .«current_variant» .«fee_bearing»)
     && knownAcknowledged e
 
 -- `min_expiry`: the smaller one present

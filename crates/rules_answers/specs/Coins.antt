@@ -127,16 +127,16 @@ module _ (m : Book) (s : SoundBook m) (w : Within m) where
   unfolding inputCoinsToReconcile
   inputs-size outputs =
       let ts = filterb (λ t. isReconciled outputs (t .entry)) (m .submitted) in
-      list-size 64 (risingCoins (flatMap (λ t. inputCoins (t .entry .«base_bundle»)) ts))
-      (rising-coins 64 (flatMap (λ t. inputCoins (t .entry .«base_bundle»)) ts)
-      (flat-coins 4 (λ t. inputCoins (t .entry .«base_bundle»)) 16 ts (few-of (λ t. isReconciled outputs (t .entry)))
-      (every-of (λ (t : SubmittedTx) x. input-coins (t .entry .«base_bundle») (x .entry .base)) ts (every-filter TypedSubmitted (λ t. isReconciled outputs (t .entry)) (m .submitted) (w .submitted)))))
+      list-size 64 (risingCoins (flatMap (λ t. inputCoins (t .entry .intent .«base_bundle»)) ts))
+      (rising-coins 64 (flatMap (λ t. inputCoins (t .entry .intent .«base_bundle»)) ts)
+      (flat-coins 4 (λ t. inputCoins (t .entry .intent .«base_bundle»)) 16 ts (few-of (λ t. isReconciled outputs (t .entry)))
+      (every-of (λ (t : SubmittedTx) x. input-coins (t .entry .intent .«base_bundle») (x .entry .intent .base)) ts (every-filter TypedSubmitted (λ t. isReconciled outputs (t .entry)) (m .submitted) (w .submitted)))))
 
-  pub outputs-size : (is : List ℕ) (absent : List (List ℕ)) → length (encodeCoins (flatMap (λ t. absentOutputs absent (t .entry)) (filterb (λ t. elemb (idOf t) is) (m .submitted)))) ≤ 18946
+  pub outputs-size : (is : List ℕ) (absent : List (List ℕ)) → length (encodeCoins (flatMap (λ t. absentOutputs absent (t .entry .intent)) (filterb (λ t. elemb (idOf t) is) (m .submitted)))) ≤ 18946
   unfolding absentOutputs
   outputs-size is absent =
       let ts = filterb (λ t. elemb (idOf t) is) (m .submitted) in
-      list-size 256 (flatMap (λ t. absentOutputs absent (t .entry)) ts)
-      (flat-coins 16 (λ t. absentOutputs absent (t .entry)) 16 ts (few-of (λ t. elemb (idOf t) is))
-      (every-of (λ (t : SubmittedTx) x. filter-coins 16 (among absent) (expectedOutputCoins (t .entry .«base_bundle»)) (output-coins (t .entry .«base_bundle») (x .entry .base))) ts
+      list-size 256 (flatMap (λ t. absentOutputs absent (t .entry .intent)) ts)
+      (flat-coins 16 (λ t. absentOutputs absent (t .entry .intent)) 16 ts (few-of (λ t. elemb (idOf t) is))
+      (every-of (λ (t : SubmittedTx) x. filter-coins 16 (among absent) (expectedOutputCoins (t .entry .intent .«base_bundle»)) (output-coins (t .entry .intent .«base_bundle») (x .entry .intent .base))) ts
       (every-filter TypedSubmitted (λ t. elemb (idOf t) is) (m .submitted) (w .submitted))))

@@ -184,7 +184,7 @@ module _ (n : ℕ) where
 
     few-planned : (b : Book) (i : OptionalId) → Says (Few (suc n)) k b (plannedBy n c f b a i)
     unfolding known
-    few-planned b NoId = go (filterb (λ t. eqs (t .entry .«intent_fingerprint») f) (b .submitted))
+    few-planned b NoId = go (filterb (λ t. eqs (t .entry .intent .«intent_fingerprint») f) (b .submitted))
       where
         go : (ts : List SubmittedTx) → Says (Few (suc n)) k b (unnamed n c f b a ts)
         go [] = few-unknown b
@@ -215,12 +215,12 @@ pub record TypedDrained (d : DrainedSubmission) : Type 0 where
 module _ (e : SubmittedEntry) (w : TypedEntry e) where
   current-bundle-typed : TypedBundle (currentBundle e)
   unfolding currentBundle
-  current-bundle-typed = either TypedBundle (e .«current_variant» .«fee_bearing») (e .«current_variant» .bundle) (e .«base_bundle») (w .current .bundle) (w .base)
+  current-bundle-typed = either TypedBundle (e .state .«current_variant» .«fee_bearing») (e .state .«current_variant» .bundle) (e .intent .«base_bundle») (w .state .current .bundle) (w .intent .base)
 
   open-fee-typed : TypedFeeIntent (openFeeIntent e)
   unfolding openFeeIntent zeroFeeIntent
   open-fee-typed =
-      either TypedFeeIntent (feeUnresolved e) (e .«fee_intent») zeroFeeIntent (w .fee-intent)
+      either TypedFeeIntent (feeUnresolved e) (e .intent .«fee_intent») zeroFeeIntent (w .intent .fee-intent)
       (record { target = record { long = refl; each = every-replicate U8 32 0 (omega arith) }; amount = omega arith })
 
 abbrev pub IssuedIn : {A : Type 0} → Outcome Book A → Type 0
@@ -326,7 +326,7 @@ module _ (b : Book) (w : Within b) where
       (says-cond FinalSays 0 b (feeUnresolved (s .entry)) _ _
       (says-cond FinalSays 0 b (isJoined source) _ _
       (λ c d. one-final _ (record { bundle = h; fingerprint = variant-typed j .long }))
-      (λ c. one-final _ (record { bundle = x .entry .base; fingerprint = current-typed (s .entry) .long })))
+      (λ c. one-final _ (record { bundle = x .entry .intent .base; fingerprint = current-typed (s .entry) .long })))
       (says-cond FinalSays 0 b (isNotRequested source) _ _
       (λ c. one-final _ (record { bundle = current-bundle-typed (s .entry) (x .entry); fingerprint = current-typed (s .entry) .long }))
       tt))

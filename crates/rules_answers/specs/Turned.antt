@@ -181,7 +181,7 @@ turns-unknown n c f b a =
 
 turns-planned : (n : ℕ) (c : PendingDelivery) (f : List ℕ) (b : Book) (a : Memory) (i : OptionalId) → Turns true (plannedBy n c f b a i)
 unfolding known
-turns-planned n c f b a NoId = go (filterb (λ t. eqs (t .entry .«intent_fingerprint») f) (b .submitted))
+turns-planned n c f b a NoId = go (filterb (λ t. eqs (t .entry .intent .«intent_fingerprint») f) (b .submitted))
   where
     go : (ts : List SubmittedTx) → Turns true (unnamed n c f b a ts)
     go [] = turns-unknown n c f b a
@@ -235,7 +235,7 @@ unfolding judgeEach judge halt
 turns-judges d observed spent reorg ids [] = tt
 turns-judges d observed spent reorg ids (t ∷ ts) =
     turns-bind d (judge observed spent reorg ids t) (λ _. turn (judgeEach observed spent reorg ids ts))
-    (turns-cond d (outputObserved observed (t .entry)) _ _ tt (turns-cond d (inputSpent spent (t .entry)) _ _ tt (turns-cond d (elemb (idOf t) ids) _ _ tt tt)))
+    (turns-cond d (outputObserved observed (t .entry .intent)) _ _ tt (turns-cond d (inputSpent spent (t .entry .intent)) _ _ tt (turns-cond d (elemb (idOf t) ids) _ _ tt tt)))
     (λ u. turns-judges d observed spent reorg ids ts)
 
 turns-offerAgain : (d : Bool) (is : List ℕ) → Turns d (offerAgain is)

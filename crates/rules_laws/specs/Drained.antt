@@ -261,7 +261,7 @@ all-unnamed n c f b a [] = all-unknown n c f b a
 all-unnamed n c f b a (t ∷ ts) = all-known n c f t a (missOf (c .intent) f (t .entry))
 
 all-planned : (n : ℕ) (c : PendingDelivery) (f : List ℕ) (b : Book) (a : Memory) (i : OptionalId) → AllSteps drains (plannedBy n c f b a i)
-all-planned n c f b a NoId = all-unnamed n c f b a (filterb (λ t. eqs (t .entry .«intent_fingerprint») f) (b .submitted))
+all-planned n c f b a NoId = all-unnamed n c f b a (filterb (λ t. eqs (t .entry .intent .«intent_fingerprint») f) (b .submitted))
 all-planned n c f b a (Of i) = all-named n c f (i .0) a (pick idOf (i .0) (b .submitted))
 
 all-candidates : (n : ℕ) (cs : List PendingDelivery) (a : Memory) → AllSteps drains (candidates n cs a)

@@ -168,7 +168,7 @@ once-unnamed E n c f b a [] e = once-unknown E n c f b a e
 once-unnamed E n c f b a (t ∷ ts) e = once-known E n c f t a (missOf (c .intent) f (t .entry)) e
 
 once-planned : (E : List ℕ) (n : ℕ) (c : PendingDelivery) (f : List ℕ) (b : Book) (a : Memory) (i : OptionalId) → E ≡ a .emitted → OnceTo Remembered E (plannedBy n c f b a i)
-once-planned E n c f b a NoId e = once-unnamed E n c f b a (filterb (λ t. eqs (t .entry .«intent_fingerprint») f) (b .submitted)) e
+once-planned E n c f b a NoId e = once-unnamed E n c f b a (filterb (λ t. eqs (t .entry .intent .«intent_fingerprint») f) (b .submitted)) e
 once-planned E n c f b a (Of i) e = once-named E n c f (i .0) a (pick idOf (i .0) (b .submitted)) e
 
 Ended : List ℕ → List SubmissionDrainFailure → Type 0

@@ -110,12 +110,12 @@ submission i a s h b v r f k c x = record {
   slots = record { «active_attempt» = a; «completed_attempt» = s };
   entry = record {
     id = record { 0 = i };
-    «intent_fingerprint» = h;
-    «base_bundle» = b;
-    «current_variant» = v;
-    «fee_intent» = f;
-    «wallet_acknowledged_variant» = k;
-    status = record { «fee_resolution» = r; «chain_terminality» = c; expiry = x };
+    intent = record { «intent_fingerprint» = h; «base_bundle» = b; «fee_intent» = f };
+    state = record {
+      «current_variant» = v;
+      «wallet_acknowledged_variant» = k;
+      status = record { «fee_resolution» = r; «chain_terminality» = c; expiry = x };
+    };
   };
 }
 

@@ -18,7 +18,7 @@ use Rattle.book.specs.Zero.{zeros, zeroOutput, zeroSpend, zeroFeeIntent, zeroHa
 use Rattle.book_answers.specs.declared.DrainFailureCause.{DrainFailureCause}
 use Rattle.book_answers.specs.declared.SubmissionDrainFailure.{SubmissionDrainFailure}
 use Rattle.rules.specs.Parts.{intentOf}
-use Rattle.rules.specs.Steps.Entry.{withStatus, withResolution}
+use Rattle.rules.specs.Steps.Entry.{withState, withStatus, withResolution}
 use Rattle.rules.specs.Examples.Pieces.{seventhId}
 
 -- a submission of this bundle
@@ -26,17 +26,17 @@ unfoldable pub entryFor : ℕ → SpendBundle → SubmissionChainTerminality →
 unfolding baseVariant zeroHash zeroFeeIntent
 entryFor i s c = record {
   id = record { 0 = i };
-  «intent_fingerprint» = zeros 32;
-  «base_bundle» = s;
-  «current_variant» = baseVariant;
-  «fee_intent» = zeroFeeIntent;
-  «wallet_acknowledged_variant» = zeroHash;
-  status = record { «fee_resolution» = NotRequested; «chain_terminality» = c; expiry = NoHeight };
+  intent = record { «intent_fingerprint» = zeros 32; «base_bundle» = s; «fee_intent» = zeroFeeIntent };
+  state = record {
+    «current_variant» = baseVariant;
+    «wallet_acknowledged_variant» = zeroHash;
+    status = record { «fee_resolution» = NotRequested; «chain_terminality» = c; expiry = NoHeight };
+  };
 }
 
 -- sound, but `validate` fails: the fee counts as attached and the variant is the base
 unfoldable pub attachedToBase : SubmittedEntry → SubmittedEntry
-attachedToBase e = withStatus (withResolution Attached (e .status)) e
+attachedToBase e = withState (λ p s. withStatus (withResolution Attached (s .status)) s) e
 
 -- one spend, of the coin 07, that makes two coins, of the amounts 1 and 2
 unfoldable pub payment : SpendBundle

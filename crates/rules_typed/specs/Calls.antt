@@ -108,7 +108,7 @@ typed-withdraws r h (i ∷ is) k b w = (tt, λ c x. (k .0, λ d y. typed-withdra
 
 redelivery-typed : (trigger : DeliveryTrigger) (g : SubmissionDeliveryGoal) (t : SubmittedTx) → TypedSubmitted t → TypedDelivery (redelivery trigger g (t .entry))
 unfolding redelivery
-redelivery-typed trigger g t w = record { id = w .entry .id; bundle = w .entry .base; expiry = w .entry .status; fee-intent = w .entry .fee-intent }
+redelivery-typed trigger g t w = record { id = w .entry .id; bundle = w .entry .intent .base; expiry = w .entry .state .status; fee-intent = w .entry .intent .fee-intent }
 
 typed-offerTo : (P : Unit {0} → Type 0) → P tt → (w : DeliveryTrigger) (g : SubmissionDeliveryGoal) (q : Bool) (ts : List SubmittedTx) → Every TypedSubmitted ts → (b : Book) → TypedTo P b (offerTo w g q ts)
 typed-offerTo P h w g q [] k b = h
@@ -232,7 +232,7 @@ module _ (P : Memory → Type 0) (h : (a : Memory) → P a) where
     typed-unnamed f a (t ∷ ts) x b w = typed-known f t (x .0) a b w
 
     typed-planned : (f : List ℕ) (a : Memory) (i : OptionalId) (b : Book) → Within b → TypedTo P b (plannedBy n c f b a i)
-    typed-planned f a NoId b w = typed-unnamed f a (filterb (λ t. eqs (t .entry .«intent_fingerprint») f) (b .submitted)) (every-filter TypedSubmitted (λ t. eqs (t .entry .«intent_fingerprint») f) (b .submitted) (w .submitted)) b w
+    typed-planned f a NoId b w = typed-unnamed f a (filterb (λ t. eqs (t .entry .intent .«intent_fingerprint») f) (b .submitted)) (every-filter TypedSubmitted (λ t. eqs (t .entry .intent .«intent_fingerprint») f) (b .submitted) (w .submitted)) b w
     typed-planned f a (Of i) b w = typed-named f (i .0) a (pick idOf (i .0) (b .submitted)) (pick-typed b (i .0) w) b w
 
     typed-one : (a : Memory) (b : Book) → Within b → TypedTo P b (oneCandidate n c a)
@@ -330,8 +330,8 @@ typed-judges observed spent reorg ids (t ∷ ts) k b w = typed-bind Ends (judge 
 
     one : Kept (judgeEach observed spent reorg ids ts) → TypedTo P b (judge observed spent reorg ids t)
     one h =
-        typed-cond P b (outputObserved observed (t .entry)) _ _ (typed-halt P h (idOf t) (k .0 .entry .id) Landed b)
-        (typed-cond P b (inputSpent spent (t .entry)) _ _ (typed-halt P h (idOf t) (k .0 .entry .id) (spentAs reorg (t .entry .status .«chain_terminality»)) b)
+        typed-cond P b (outputObserved observed (t .entry .intent)) _ _ (typed-halt P h (idOf t) (k .0 .entry .id) Landed b)
+        (typed-cond P b (inputSpent spent (t .entry .intent)) _ _ (typed-halt P h (idOf t) (k .0 .entry .id) (spentAs reorg (t .entry .state .status .«chain_terminality»)) b)
         (typed-cond P b (elemb (idOf t) ids) _ _ (tt, λ c x. h) h))
 
 typed-reconcile : (observed spent : List ℕ) (reorg : Bool) (ids : List ℕ) → Kept (reconcileChainTerminality observed spent reorg ids)
@@ -401,7 +401,7 @@ typed encode (Call.CausallyRolledBackIds absent inputs) h = kept-map idsAre (cau
 typed encode (Call.AbsentOutputsForIds is absent room) h =
     kept-map written (absentOutputsForIds is absent room)
     (λ b w. typed-cond Ends b (idsOk is && coinListb absent) _ _
-    (typed-writing room (encodeCoins (flatMap (λ t. absentOutputs (coinsIn absent) (t .entry)) (filterb (λ t. elemb (idOf t) is) (b .submitted)))) b w) tt)
+    (typed-writing room (encodeCoins (flatMap (λ t. absentOutputs (coinsIn absent) (t .entry .intent)) (filterb (λ t. elemb (idOf t) is) (b .submitted)))) b w) tt)
 typed encode (Call.CollectRollbackReplayIds is) h = kept-map nothing (collectRollbackReplayIds is) (typed-collect is)
 typed encode Call.ClearLocalArtifacts h = kept-map nothing clearLocalArtifacts typed-clear
 typed encode Call.RestoreRuntime h = kept-map nothing restoreRuntime (λ b w. typed-setAsides (map idOf (b .submitted)) b w)

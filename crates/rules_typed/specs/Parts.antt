@@ -16,19 +16,21 @@ use Rattle.book.specs.declared.SubmissionId.{SubmissionId}
 use Rattle.book.specs.declared.SpendBundle.{SpendBundle}
 use Rattle.book.specs.declared.DeliveryAttempt.{DeliveryAttempt}
 use Rattle.book.specs.declared.AttemptSlots.{AttemptSlots}
+use Rattle.book.specs.declared.RetainedIntent.{RetainedIntent}
+use Rattle.book.specs.declared.SubmissionState.{SubmissionState}
 use Rattle.book.specs.declared.SubmittedEntry.{SubmittedEntry}
 use Rattle.book.specs.declared.SubmittedTx.{SubmittedTx}
 use Rattle.book.specs.declared.PendingSubmissionIntent.{PendingSubmissionIntent}
 use Rattle.book.specs.declared.SubmissionDeliveryGoal.{SubmissionDeliveryGoal}
 use Rattle.book.specs.Sound.{soundBundle}
 use Rattle.book.specs.Zero.{zeroHash, zeroAttempt, noAttempt, noSlots, baseVariant}
-use Rattle.book.specs.Typed.{Every, U8, U64, Bytes, TypedId, TypedOptionalHeight, TypedHash, TypedOptionalAttempt, TypedAttempt, TypedSlots, TypedVariant, TypedEntry, TypedSubmitted, TypedIntent}
+use Rattle.book.specs.Typed.{Every, U8, U64, Bytes, TypedId, TypedOptionalHeight, TypedHash, TypedOptionalAttempt, TypedAttempt, TypedSlots, TypedVariant, TypedRetainedIntent, TypedState, TypedEntry, TypedSubmitted, TypedIntent}
 use Rattle.archive_laws.specs.Cells.{every-replicate}
 use Rattle.archive_laws.specs.Bundles.{zero-bundle-typed}
 use Rattle.rules.specs.Parts.{currentFingerprint, intentOf, minExpiry}
 use Rattle.rules.specs.Rule.{Revision, tighten, acknowledge, attach, terminality, reopen}
 use Rattle.rules.specs.Steps.{withEntry, withSlots}
-use Rattle.rules.specs.Steps.Entry.{withJoined, revised, newEntry}
+use Rattle.rules.specs.Steps.Entry.{withJoined, revisedState, revised, newEntry}
 use Rattle.rules.specs.Steps.Slots.{present, issueAttempt, slotsIssued, slotsAside, attemptFinal, slotsFinal, resolved}
 use Rattle.rules_typed.specs.Every.{either}
 use Rattle.rules_typed.specs.Typing.{TypedRevision}
@@ -102,53 +104,18 @@ min-typed NoHeight (At y) h k = k
 min-typed (At x) NoHeight h k = h
 min-typed (At x) (At y) h k = either TypedOptionalHeight (ltb (y .0) (x .0)) (At y) (At x) k h
 
+revised-state-typed : (r : Revision) (p : RetainedIntent) (s : SubmissionState) → TypedRevision r → TypedRetainedIntent p → TypedState s → TypedState (revisedState r p s)
+unfolding revisedState
+revised-state-typed (tighten x) p s h v w = record { current = w .current; acknowledged = w .acknowledged; status = min-typed (s .status .expiry) x (w .status) h }
+revised-state-typed (acknowledge f) p s h v w = record { current = w .current; acknowledged = h; status = w .status }
+revised-state-typed (attach j) p s h v w = either TypedState (soundBundle j) (withJoined p j s) s
+    (record { current = record { bundle = h; applied-fee = v .fee-intent .amount }; acknowledged = w .acknowledged; status = w .status }) w
+revised-state-typed (terminality c) p s h v w = record { current = w .current; acknowledged = w .acknowledged; status = w .status }
+revised-state-typed reopen p s h v w = record { current = w .current; acknowledged = no-hash; status = w .status }
+
 pub revised-typed : (r : Revision) (e : SubmittedEntry) → TypedRevision r → TypedEntry e → TypedEntry (revised r e)
 unfolding revised
-revised-typed (tighten x) e h w = record {
-  id = w .id;
-  fingerprint = w .fingerprint;
-  base = w .base;
-  current = w .current;
-  fee-intent = w .fee-intent;
-  acknowledged = w .acknowledged;
-  status = min-typed (e .status .expiry) x (w .status) h;
-}
-revised-typed (acknowledge f) e h w = record {
-  id = w .id;
-  fingerprint = w .fingerprint;
-  base = w .base;
-  current = w .current;
-  fee-intent = w .fee-intent;
-  acknowledged = h;
-  status = w .status;
-}
-revised-typed (attach j) e h w = either TypedEntry (soundBundle j) (withJoined j e) e (record {
-  id = w .id;
-  fingerprint = w .fingerprint;
-  base = w .base;
-  current = record { bundle = h; applied-fee = w .fee-intent .amount };
-  fee-intent = w .fee-intent;
-  acknowledged = w .acknowledged;
-  status = w .status;
-}) w
-revised-typed (terminality c) e h w = record {
-  id = w .id;
-  fingerprint = w .fingerprint;
-  base = w .base;
-  current = w .current;
-  fee-intent = w .fee-intent;
-  acknowledged = w .acknowledged;
-  status = w .status;
-}
-revised-typed reopen e h w = record {
-  id = w .id;
-  fingerprint = w .fingerprint;
-  base = w .base;
-  current = w .current;
-  fee-intent = w .fee-intent;
-  acknowledged = no-hash;
-  status = w .status;
-}
+revised-typed r e h w = record { id = w .id; intent = w .intent; state = revised-state-typed r (e .intent) (e .state) h (w .intent) (w .state) }
 
 pub entry-within : (r : Revision) → TypedRevision r → (t : SubmittedTx) → TypedSubmitted t → TypedSubmitted (withEntry (revised r) t)
 entry-within r h t w = record { slots = w .slots; entry = revised-typed r (t .entry) h (w .entry) }
@@ -157,10 +124,6 @@ pub new-typed : (i : SubmissionId) (p : PendingSubmissionIntent) → TypedId i �
 unfolding newEntry baseVariant
 new-typed i p h w = record {
   id = h;
-  fingerprint = intent-typed p;
-  base = w .bundle;
-  current = record { bundle = zero-bundle-typed; applied-fee = omega arith };
-  fee-intent = w .fee-intent;
-  acknowledged = no-hash;
-  status = w .expiry;
+  intent = record { fingerprint = intent-typed p; base = w .bundle; fee-intent = w .fee-intent };
+  state = record { current = record { bundle = zero-bundle-typed; applied-fee = omega arith }; acknowledged = no-hash; status = w .expiry };
 }

@@ -46,18 +46,18 @@ slotsText s = slotText (ascii "  live attempt: ") (s .«active_attempt») ++ slo
 unfoldable pub factsText : SubmittedEntry → List ℕ
 unfolding resolutionText feeIntentText hashText chainText heightText
 factsText e =
-    resolutionText (e .status .«fee_resolution»)
-    ++ feeIntentText (e .«fee_intent»)
-    ++ hashText (ascii "  acknowledged: ") (e .«wallet_acknowledged_variant»)
-    ++ chainText (e .status .«chain_terminality»)
-    ++ heightText (ascii "  expiry height: ") (e .status .expiry)
+    resolutionText (e .state .status .«fee_resolution»)
+    ++ feeIntentText (e .intent .«fee_intent»)
+    ++ hashText (ascii "  acknowledged: ") (e .state .«wallet_acknowledged_variant»)
+    ++ chainText (e .state .status .«chain_terminality»)
+    ++ heightText (ascii "  expiry height: ") (e .state .status .expiry)
 
 unfoldable pub entryText : SubmittedEntry → List ℕ
 unfolding hexLine bundleText variantText factsText
 entryText e =
-    hexLine (ascii "  intent fingerprint: ") (e .«intent_fingerprint»)
-    ++ bundleText (ascii "  base bundle, spends: ") (e .«base_bundle»)
-    ++ variantText (e .«current_variant»)
+    hexLine (ascii "  intent fingerprint: ") (e .intent .«intent_fingerprint»)
+    ++ bundleText (ascii "  base bundle, spends: ") (e .intent .«base_bundle»)
+    ++ variantText (e .state .«current_variant»)
     ++ factsText e
 
 -- the i-th of n, from 1 on

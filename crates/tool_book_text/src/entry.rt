@@ -65,10 +65,10 @@ fn append_slots(out: &mut [u8], at: usize, s: AttemptSlots) -> usize
 fn append_facts(out: &mut [u8], at: usize, e: SubmittedEntry) -> usize
     ensures { λ r. ⌜ Fits (factsText e) at (now (out .entry)) (now (out .exit)) r ⌝ }
 {
-    let status = e.status;
+    let status = e.state.status;
     let resolution = status.fee_resolution;
-    let fee_intent = e.fee_intent;
-    let acknowledged = e.wallet_acknowledged_variant;
+    let fee_intent = e.intent.fee_intent;
+    let acknowledged = e.state.wallet_acknowledged_variant;
     let chain = status.chain_terminality;
     let expiry = status.expiry;
     let resolution_end = append_resolution(&mut *out, at, resolution);
@@ -81,9 +81,9 @@ fn append_facts(out: &mut [u8], at: usize, e: SubmittedEntry) -> usize
 fn append_entry(out: &mut [u8], at: usize, e: SubmittedEntry) -> usize
     ensures { λ r. ⌜ Fits (entryText e) at (now (out .entry)) (now (out .exit)) r ⌝ }
 {
-    let fingerprint = e.intent_fingerprint;
-    let base = e.base_bundle;
-    let variant = e.current_variant;
+    let fingerprint = e.intent.intent_fingerprint;
+    let base = e.intent.base_bundle;
+    let variant = e.state.current_variant;
     let fingerprint_end = append_hash_line(&mut *out, at, b"  intent fingerprint: ", &fingerprint);
     let base_end = append_bundle(&mut *out, fingerprint_end, b"  base bundle, spends: ", base);
     let variant_end = append_variant(&mut *out, base_end, variant);

@@ -10,20 +10,23 @@ use Rattle.archive_entry_write.proofs.append_facts.Tie as tie
 returns : tie.Need-returns
 unfolding encodeFacts
 returns c =
-    let the-resolution-number = c .before .before .before .before .before .before .before .before .before .before .before .before .before .before .before .before .before .before .before .before .before .resolution-number in
-    let the-append-byte = c .before .before .before .before .before .before .before .before .before .before .before .before .before .before .before .before .before .before .append-byte in
-    let the-chain-number = c .before .before .before .before .before .before .before .before .before .before .before .before .before .before .before .before .before .before .before .before .chain-number in
-    let the-append-byte2 = c .before .before .before .before .before .before .append-byte2 in
-    let the-append-fee-intent = c .before .before .before .before .before .before .before .before .before .before .before .before .before .before .append-fee-intent in
-    let the-append-hash = c .before .before .before .before .before .before .before .before .before .before .append-hash in
-    let the-append-height = c .before .before .append-height in
-    let m = fits-as (ap (be 1) (the-resolution-number .ensures)) (the-append-byte .ensures) in
-    let k = fits-as (ap (be 1) (the-chain-number .ensures)) (the-append-byte2 .ensures) in
-    fits-join (fits-join (fits-join (fits-join m (the-append-fee-intent .ensures)) (the-append-hash .ensures)) k) (the-append-height .ensures)
+    let end = c .before .before in
+    let chain = end .before .before .before .before in
+    let acknowledged = chain .before .before .before .before in
+    let fee-intent = acknowledged .before .before .before .before in
+    let mark = fee-intent .before .before .before .before in
+    let variant = mark .before .before .before .before in
+    let base = variant .before .before .before .before in
+    let fingerprint = base .before .before .before .before in
+    let numbers = fingerprint .before .before .before in
+    let m = fits-as (ap (be 1) (numbers .before .resolution-number .ensures)) (mark .append-byte .ensures) in
+    let k = fits-as (ap (be 1) (numbers .chain-number .ensures)) (chain .append-byte2 .ensures) in
+    let bundles = fits-join (fits-join (fingerprint .append-bytes .ensures) (base .append-bundle .ensures)) (variant .append-variant .ensures) in
+    fits-join (fits-join (fits-join (fits-join (fits-join bundles m) (fee-intent .append-fee-intent .ensures)) (acknowledged .append-hash .ensures)) k) (end .append-height .ensures)
 
 pub append-facts-spec : {M : Type 1} → statement M
 append-facts-spec =
     tie.close
     (tie.spec
-    (λ c κs. search needs) (λ c κs. search needs) (λ c κs. search needs) (λ c κs. search needs) (λ c κs. search needs) (λ c κs. search needs) (λ c κs. search needs)
-    (λ c. search needs) returns)
+    (λ c κs. search needs) (λ c κs. search needs) (λ c. search needs) (λ c κs. search needs) (λ c κs. search needs) (λ c κs. search needs) (λ c κs. search needs)
+    (λ c κs. search needs) (λ c κs. search needs) (λ c κs. search needs) (λ c κs. search needs) (λ c. search needs) returns)

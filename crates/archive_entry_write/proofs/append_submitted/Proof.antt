@@ -8,19 +8,10 @@ use Rattle.archive_entry_write.proofs.append_submitted.Tie as tie
 returns : tie.Need-returns
 unfolding encodeSubmitted
 returns c =
-    let the-append-number = c .before .before .before .before .before .before .before .before .before .before .before .before .before .before .before .before .before .before .before .before .before .before .before .append-number in
-    let the-append-slots = c .before .before .before .before .before .before .before .before .before .before .before .before .before .before .before .before .before .before .before .append-slots in
-    let the-append-bytes = c .before .before .before .before .before .before .before .before .before .before .before .before .before .before .append-bytes in
-    let the-append-bundle = c .before .before .before .before .before .before .before .before .before .before .append-bundle in
-    let the-append-variant = c .before .before .before .before .before .before .append-variant in
-    let the-append-facts = c .before .before .append-facts in
-    let slots = fits-join (the-append-number .ensures) (the-append-slots .ensures) in
-    let base = fits-join (fits-join slots (the-append-bytes .ensures)) (the-append-bundle .ensures) in
-    fits-join (fits-join base (the-append-variant .ensures)) (the-append-facts .ensures)
+    let facts = c .before .before in
+    let slots = facts .before .before .before .before in
+    let id = slots .before .before .before .before in
+    fits-join (fits-join (id .append-number .ensures) (slots .append-slots .ensures)) (facts .append-facts .ensures)
 
 pub append-submitted-spec : {M : Type 1} → statement M
-append-submitted-spec =
-    tie.close
-    (tie.spec
-    (λ c κs. search needs) (λ c κs. search needs) (λ c. search needs) (λ c κs. search needs) (λ c κs. search needs) (λ c κs. search needs) (λ c κs. search needs)
-    (λ c. search needs) returns)
+append-submitted-spec = tie.close (tie.spec (λ c κs. search needs) (λ c κs. search needs) (λ c κs. search needs) (λ c. search needs) returns)

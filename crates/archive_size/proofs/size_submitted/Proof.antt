@@ -1,4 +1,4 @@
--- Straight code: slots, bundle, variant and facts have the callees' sizes, and 40 bytes are the id and the intent fingerprint.
+-- Straight code: slots and facts have the callees' sizes, and 8 bytes are the id.
 use Prim.Native.Nat.{_-_}
 use Rattle.archive_size.specs.Lengths.{submitted-size}
 use borrow.Author.Needs.{needs}
@@ -6,20 +6,11 @@ use Rattle.archive_size.proofs.size_submitted.Statement.{statement}
 use Rattle.archive_size.proofs.size_submitted.Tie as tie
 
 returns : tie.Need-returns
-returns c = submitted-size ((c .before .before .before .before .before .before .before .before .before .before .before .args) .t) ((c .before .before .before .before .size-slot) .result) ((c .before .before .before .size-slot2) .result) ((c .before .before .size-bundle) .result) ((c .before .size-variant) .result) ((c .size-facts) .result) (search needs) ((c .before .before .before .before .size-slot) .ensures) ((c .before .before .before .size-slot2) .ensures) ((c .before .before .size-bundle) .ensures) ((c .before .size-variant) .ensures) ((c .size-facts) .ensures)
+returns c =
+    let completed = c .before in
+    let active = completed .before in
+    submitted-size (active .before .before .before .before .before .args .t) (active .size-slot .result) (completed .size-slot2 .result) (c .size-facts .result)
+    (active .size-slot .ensures) (completed .size-slot2 .ensures) (c .size-facts .ensures)
 
 pub size-submitted-spec : {M : Type 1} → statement M
-size-submitted-spec =
-    tie.close
-    (tie.spec
-    (λ c κs. search needs)
-    (λ c κs. search needs)
-    (λ c. search needs)
-    (λ c. search needs)
-    (λ c κs. search needs)
-    (λ c. search needs)
-    (λ c κs. search needs)
-    (λ c. search needs)
-    (λ c κs. search needs)
-    (λ c. search needs)
-    returns)
+size-submitted-spec = tie.close (tie.spec (λ c κs. search needs) (λ c κs. search needs) (λ c. search needs) (λ c. search needs) (λ c κs. search needs) (λ c. search needs) returns)

@@ -26,7 +26,7 @@ returns c =
     let e = o .before .before .submitted-at .ensures in
     let a = o .before .before .before .before .before .before .args in
     as-landed (coinsIn (a .observed .now)) (idsIn (a .spent .now)) (a .reorg) (a .rolled-back .now) (getD (view (a .b) .submitted) (a .k) zeroSubmitted) (a .k) (a .b) (c .halt .result)
-    (test-of (λ t. outputObserved (coinsIn (a .observed .now)) (t .entry)) e (o .output-observed .ensures) (c .before .if1 .taken))
+    (test-of (λ t. outputObserved (coinsIn (a .observed .now)) (t .entry .intent)) e (o .output-observed .ensures) (c .before .if1 .taken))
     (c .halt .ensures)
 
 returns-2 : tie.Need-returns-2
@@ -37,10 +37,10 @@ returns-2 c =
     let a = o .before .before .before .before .before .before .args in
     let u = getD (view (a .b) .submitted) (a .k) zeroSubmitted in
     as-spent (coinsIn (a .observed .now)) (idsIn (a .spent .now)) (a .reorg) (a .rolled-back .now) u (a .k) (a .b) (c .halt2 .result)
-    (test-of (λ t. outputObserved (coinsIn (a .observed .now)) (t .entry)) e (o .output-observed .ensures) (i .before .if1 .left))
-    (test-of (λ t. inputSpent (idsIn (a .spent .now)) (t .entry)) e (i .input-spent .ensures) (c .before .before .before .if2 .taken))
+    (test-of (λ t. outputObserved (coinsIn (a .observed .now)) (t .entry .intent)) e (o .output-observed .ensures) (i .before .if1 .left))
+    (test-of (λ t. inputSpent (idsIn (a .spent .now)) (t .entry .intent)) e (i .input-spent .ensures) (c .before .before .before .if2 .taken))
     (subst (λ (d : SubmissionChainTerminality). Judged (halt (idOf u) d) (a .k) (a .b) (c .halt2 .result))
-    (c .before .spent-as .ensures ∙ ap (λ (t : SubmittedTx). spentAs (a .reorg) (t .entry .status .«chain_terminality»)) e) (c .halt2 .ensures))
+    (c .before .spent-as .ensures ∙ ap (λ (t : SubmittedTx). spentAs (a .reorg) (t .entry .state .status .«chain_terminality»)) e) (c .halt2 .ensures))
 
 returns-3 : tie.Need-returns-3
 returns-3 c =
@@ -50,8 +50,8 @@ returns-3 c =
     let e = o .before .before .submitted-at .ensures in
     let a = o .before .before .before .before .before .before .args in
     as-active (coinsIn (a .observed .now)) (idsIn (a .spent .now)) (a .reorg) (a .rolled-back .now) (getD (view (a .b) .submitted) (a .k) zeroSubmitted) (a .k) (a .b) (c .reactivate .result)
-    (test-of (λ t. outputObserved (coinsIn (a .observed .now)) (t .entry)) e (o .output-observed .ensures) (i .before .if1 .left))
-    (test-of (λ t. inputSpent (idsIn (a .spent .now)) (t .entry)) e (i .input-spent .ensures) (r .before .if2 .left))
+    (test-of (λ t. outputObserved (coinsIn (a .observed .now)) (t .entry .intent)) e (o .output-observed .ensures) (i .before .if1 .left))
+    (test-of (λ t. inputSpent (idsIn (a .spent .now)) (t .entry .intent)) e (i .input-spent .ensures) (r .before .if2 .left))
     (test-of (λ t. elemb (idOf t) (a .rolled-back .now)) e (r .contains .ensures) (c .before .if3 .taken))
     (c .reactivate .ensures)
 
@@ -64,8 +64,8 @@ returns-4 c =
     let s = o .before .before .before .before .before .before in
     let a = s .args in
     as-before (coinsIn (a .observed .now)) (idsIn (a .spent .now)) (a .reorg) (a .rolled-back .now) (getD (view (a .b) .submitted) (a .k) zeroSubmitted) (a .k) (a .b) _
-    (test-of (λ t. outputObserved (coinsIn (a .observed .now)) (t .entry)) e (o .output-observed .ensures) (i .before .if1 .left))
-    (test-of (λ t. inputSpent (idsIn (a .spent .now)) (t .entry)) e (i .input-spent .ensures) (r .before .if2 .left))
+    (test-of (λ t. outputObserved (coinsIn (a .observed .now)) (t .entry .intent)) e (o .output-observed .ensures) (i .before .if1 .left))
+    (test-of (λ t. inputSpent (idsIn (a .spent .now)) (t .entry .intent)) e (i .input-spent .ensures) (r .before .if2 .left))
     (test-of (λ t. elemb (idOf t) (a .rolled-back .now)) e (r .contains .ensures) (c .if3 .left))
     (unchanged-by (a .b) (s .pre .0) (a .k))
 

@@ -8,10 +8,10 @@ use Rattle.part_chain_tests.proofs.spent_or_absent.Statement.{statement
 use Rattle.part_chain_tests.proofs.spent_or_absent.Tie as tie
 
 returns : tie.Need-returns
-returns c = ap (λ (t : Bool). t || outputObserved (coinsIn (c .before .before .before .before .args .absent .now)) (c .before .before .before .before .args .e)) (sym (c .if1 .taken) ∙ c .before .is-input-spent .ensures)
+returns c = ap (λ (t : Bool). t || outputObserved (coinsIn (c .before .before .before .before .args .absent .now)) (c .before .before .before .before .args .e .intent)) (sym (c .if1 .taken) ∙ c .before .is-input-spent .ensures)
 
 returns-2 : tie.Need-returns-2
-returns-2 c = c .output-observed .ensures ∙ ap (λ (t : Bool). t || outputObserved (coinsIn (c .before .before .before .before .before .args .absent .now)) (c .before .before .before .before .before .args .e)) (sym (c .before .if1 .left) ∙ c .before .before .is-input-spent .ensures)
+returns-2 c = c .output-observed .ensures ∙ ap (λ (t : Bool). t || outputObserved (coinsIn (c .before .before .before .before .before .args .absent .now)) (c .before .before .before .before .before .args .e .intent)) (sym (c .before .if1 .left) ∙ c .before .before .is-input-spent .ensures)
 
 pub spent-or-absent-spec : {M : Type 1} → statement M
 spent-or-absent-spec =

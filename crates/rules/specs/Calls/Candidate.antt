@@ -69,7 +69,7 @@ unnamed n c f b a [] = unknown n c f b a
 unnamed n c f b a (t ∷ ts) = known n c f t a
 
 abbrev pub plannedBy : ℕ → PendingDelivery → List ℕ → Book → Memory → OptionalId → Rule Memory
-plannedBy n c f b a NoId = unnamed n c f b a (filterb (λ t. eqs (t .entry .«intent_fingerprint») f) (b .submitted))
+plannedBy n c f b a NoId = unnamed n c f b a (filterb (λ t. eqs (t .entry .intent .«intent_fingerprint») f) (b .submitted))
 plannedBy n c f b a (Of i) = named n c f (i .0) a (pick idOf (i .0) (b .submitted))
 
 unfoldable pub candidate : ℕ → PendingDelivery → Memory → Rule Memory

@@ -22,8 +22,8 @@ outerInputIds b = filterb (λ i. not (among (map coinIdOf (expectedOutputCoins b
 unfoldable pub rolledBack : List (List ℕ) → List (List ℕ) → SubmittedEntry → Bool
 unfolding among expectedOutputCoins outerInputIds
 rolledBack absent inputs e =
-    not (activeEntry e) && (isInputSpent (e .status .«chain_terminality») || anyb (among absent) (expectedOutputCoins (e .«base_bundle»)))
-    && allb (among inputs) (outerInputIds (e .«base_bundle»))
+    not (activeEntry e) && (isInputSpent (e .state .status .«chain_terminality») || anyb (among absent) (expectedOutputCoins (e .intent .«base_bundle»)))
+    && allb (among inputs) (outerInputIds (e .intent .«base_bundle»))
 
 unfoldable pub causallyRolledBackIds : List ℕ → List ℕ → Rule (List ℕ)
 unfolding rolledBack

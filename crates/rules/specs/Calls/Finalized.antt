@@ -13,7 +13,7 @@ use Rattle.rules.specs.Parts.{currentBundle, currentAppliedFee, currentF
 unfoldable pub unusedFee : SubmissionDeliveryGoal → SubmittedEntry → FinalizedSubmission
 unfolding currentFingerprint currentAcknowledged
 unusedFee g e = record {
-  bundle = e .«base_bundle»;
+  bundle = e .intent .«base_bundle»;
   «applied_fee» = 0;
   warning = true;
   disposition = disposition.Unused;
@@ -38,9 +38,9 @@ unfoldable pub attachedFinal : SpendBundle → SubmittedEntry → FinalizedSubmi
 unfolding variantFingerprint holdsHash
 attachedFinal j e = record {
   bundle = j;
-  «applied_fee» = e .«fee_intent» .amount;
+  «applied_fee» = e .intent .«fee_intent» .amount;
   warning = false;
   disposition = disposition.Attached;
   «variant_fingerprint» = variantFingerprint j;
-  «should_broadcast» = not (holdsHash (e .«wallet_acknowledged_variant») (variantFingerprint j));
+  «should_broadcast» = not (holdsHash (e .state .«wallet_acknowledged_variant») (variantFingerprint j));
 }

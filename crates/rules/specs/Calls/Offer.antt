@@ -45,7 +45,7 @@ deliverable trigger g t =
 -- the queue entry of a retained submission's own intent
 unfoldable pub redelivery : DeliveryTrigger → SubmissionDeliveryGoal → SubmittedEntry → PendingDelivery
 redelivery trigger g e = record {
-  intent = record { id = Of (e .id); bundle = e .«base_bundle»; expiry = e .status .expiry; «fee_intent» = e .«fee_intent» };
+  intent = record { id = Of (e .id); bundle = e .intent .«base_bundle»; expiry = e .state .status .expiry; «fee_intent» = e .intent .«fee_intent» };
   trigger = trigger;
   goal = g;
 }

@@ -43,8 +43,8 @@ last64 = 18446744073709551615
 unfoldable pub missOf : PendingSubmissionIntent → List ℕ → SubmittedEntry → Option DrainFailureCause
 unfolding sameFeeIntent validate
 missOf p f e =
-    cond (sameFeeIntent (p .«fee_intent») (e .«fee_intent»))
-    (cond (validate e) (cond (eqs (e .«intent_fingerprint») f) none (some IntentDiffers)) (some InvalidRetainedState))
+    cond (sameFeeIntent (p .«fee_intent») (e .intent .«fee_intent»))
+    (cond (validate e) (cond (eqs (e .intent .«intent_fingerprint») f) none (some IntentDiffers)) (some InvalidRetainedState))
     (some FeeIntentDiffers)
 
 -- "emit if Active and, by goal, current variant unacknowledged (EnsureBroadcast) or fee unresolved (FeeUpgrade)"

@@ -5,7 +5,7 @@ use mathlib.Core.List.{List, [], _∷_}
 use Rattle.base_lists.specs.Lists.{anyb, elemb}
 use Rattle.base_coin_string.specs.CoinIds.{idListb, idsIn}
 use Rattle.base_coin_string.specs.CoinList.{coinsIn, coinListb}
-use Rattle.book.specs.declared.SubmittedEntry.{SubmittedEntry}
+use Rattle.book.specs.declared.RetainedIntent.{RetainedIntent}
 use Rattle.book.specs.declared.SubmittedTx.{SubmittedTx}
 use Rattle.book.specs.declared.SubmissionChainTerminality.{SubmissionChainTerminality}
 use Rattle.book.specs.declared.SubmissionChainTerminality.the-variants.{Active, InputSpent, Landed}
@@ -16,13 +16,13 @@ use Rattle.rules.specs.Doors.{idsOk, among}
 use Rattle.rules.specs.Parts.{isLanded}
 use Rattle.rules.specs.Rule.{done, terminality, unqueue, retire, unreplay, note, revise, setAside, Rule, undo, _>>=_, _>>_, book, step, endTurn}
 
-unfoldable pub outputObserved : List (List ℕ) → SubmittedEntry → Bool
+unfoldable pub outputObserved : List (List ℕ) → RetainedIntent → Bool
 unfolding among expectedOutputCoins
-outputObserved observed e = anyb (among observed) (expectedOutputCoins (e .«base_bundle»))
+outputObserved observed p = anyb (among observed) (expectedOutputCoins (p .«base_bundle»))
 
-unfoldable pub inputSpent : List (List ℕ) → SubmittedEntry → Bool
+unfoldable pub inputSpent : List (List ℕ) → RetainedIntent → Bool
 unfolding among inputCoinIds
-inputSpent spent e = anyb (among spent) (inputCoinIds (e .«base_bundle»))
+inputSpent spent p = anyb (among spent) (inputCoinIds (p .«base_bundle»))
 
 -- "InputSpent, except that Landed stays if not a reorg"
 abbrev pub spentAs : Bool → SubmissionChainTerminality → SubmissionChainTerminality
@@ -41,8 +41,8 @@ halt i c = do
 unfoldable pub judge : List (List ℕ) → List (List ℕ) → Bool → List ℕ → SubmittedTx → Rule (Unit {0})
 unfolding outputObserved inputSpent halt
 judge observed spent reorg back t =
-    cond (outputObserved observed (t .entry)) (halt (idOf t) Landed)
-    (cond (inputSpent spent (t .entry)) (halt (idOf t) (spentAs reorg (t .entry .status .«chain_terminality»)))
+    cond (outputObserved observed (t .entry .intent)) (halt (idOf t) Landed)
+    (cond (inputSpent spent (t .entry .intent)) (halt (idOf t) (spentAs reorg (t .entry .state .status .«chain_terminality»)))
     (cond (elemb (idOf t) back) (step (revise (idOf t) (terminality Active))) (done tt)))
 
 unfoldable pub judgeEach : List (List ℕ) → List (List ℕ) → Bool → List ℕ → List SubmittedTx → Rule (Unit {0})

@@ -16,11 +16,11 @@ use Rattle.rules.specs.Rule.{Rule, undo, _>>=_, _>>_, book}
 
 unfoldable pub isReconciled : List (List ℕ) → SubmittedEntry → Bool
 unfolding among expectedOutputCoins
-isReconciled outputs e = not (isLanded (e .status .«chain_terminality»)) || anyb (among outputs) (expectedOutputCoins (e .«base_bundle»))
+isReconciled outputs e = not (isLanded (e .state .status .«chain_terminality»)) || anyb (among outputs) (expectedOutputCoins (e .intent .«base_bundle»))
 
 unfoldable pub inputCoinsToReconcile : List (List ℕ) → Book → List (List ℕ)
 unfolding isReconciled risingCoins
-inputCoinsToReconcile outputs b = risingCoins (flatMap (λ t. inputCoins (t .entry .«base_bundle»)) (filterb (λ t. isReconciled outputs (t .entry)) (b .submitted)))
+inputCoinsToReconcile outputs b = risingCoins (flatMap (λ t. inputCoins (t .entry .intent .«base_bundle»)) (filterb (λ t. isReconciled outputs (t .entry)) (b .submitted)))
 
 unfoldable pub reconciliationInputCoins : List ℕ → ℕ → Rule (List ℕ)
 unfolding inputCoinsToReconcile encodeCoins writing

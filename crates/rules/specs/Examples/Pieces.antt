@@ -92,12 +92,12 @@ unfoldable pub entryOf : SubmissionFeeIntent → SubmissionChainTerminality → 
 unfolding zeroBundle baseVariant zeroHash
 entryOf f c = record {
   id = record { 0 = 1 };
-  «intent_fingerprint» = zeros 32;
-  «base_bundle» = zeroBundle;
-  «current_variant» = baseVariant;
-  «fee_intent» = f;
-  «wallet_acknowledged_variant» = zeroHash;
-  status = record { «fee_resolution» = NotRequested; «chain_terminality» = c; expiry = NoHeight };
+  intent = record { «intent_fingerprint» = zeros 32; «base_bundle» = zeroBundle; «fee_intent» = f };
+  state = record {
+    «current_variant» = baseVariant;
+    «wallet_acknowledged_variant» = zeroHash;
+    status = record { «fee_resolution» = NotRequested; «chain_terminality» = c; expiry = NoHeight };
+  };
 }
 
 -- one spend, of the coin 07, that makes no coin
@@ -105,15 +105,19 @@ unfoldable pub spending : SubmissionChainTerminality → SubmittedEntry
 unfolding zeroSpend zeroOutput baseVariant zeroHash zeroFeeIntent
 spending c = record {
   id = record { 0 = 1 };
-  «intent_fingerprint» = zeros 32;
-  «base_bundle» = record {
-    count = 1;
-    spends = record { «coin_len» = 1; coin = 7 ∷ zeros 72; digest = zeros 32; readable = true; «output_count» = 0; outputs = replicate 4 zeroOutput } ∷ replicate 3 zeroSpend;
+  intent = record {
+    «intent_fingerprint» = zeros 32;
+    «base_bundle» = record {
+      count = 1;
+      spends = record { «coin_len» = 1; coin = 7 ∷ zeros 72; digest = zeros 32; readable = true; «output_count» = 0; outputs = replicate 4 zeroOutput } ∷ replicate 3 zeroSpend;
+    };
+    «fee_intent» = zeroFeeIntent;
   };
-  «current_variant» = baseVariant;
-  «fee_intent» = zeroFeeIntent;
-  «wallet_acknowledged_variant» = zeroHash;
-  status = record { «fee_resolution» = NotRequested; «chain_terminality» = c; expiry = NoHeight };
+  state = record {
+    «current_variant» = baseVariant;
+    «wallet_acknowledged_variant» = zeroHash;
+    status = record { «fee_resolution» = NotRequested; «chain_terminality» = c; expiry = NoHeight };
+  };
 }
 
 -- the coin id of 07: its SHA-256
@@ -142,12 +146,12 @@ unfoldable pub seventh : SubmissionChainTerminality → SubmittedEntry
 unfolding zeroBundle baseVariant zeroHash zeroFeeIntent seventhIntent
 seventh c = record {
   id = record { 0 = 1 };
-  «intent_fingerprint» = seventhIntent;
-  «base_bundle» = zeroBundle;
-  «current_variant» = baseVariant;
-  «fee_intent» = zeroFeeIntent;
-  «wallet_acknowledged_variant» = zeroHash;
-  status = record { «fee_resolution» = NotRequested; «chain_terminality» = c; expiry = At (record { 0 = 9 }) };
+  intent = record { «intent_fingerprint» = seventhIntent; «base_bundle» = zeroBundle; «fee_intent» = zeroFeeIntent };
+  state = record {
+    «current_variant» = baseVariant;
+    «wallet_acknowledged_variant» = zeroHash;
+    status = record { «fee_resolution» = NotRequested; «chain_terminality» = c; expiry = At (record { 0 = 9 }) };
+  };
 }
 
 -- a fee of 3 to be attached
@@ -158,12 +162,12 @@ unfoldable pub feeOpen : SubmittedEntry
 unfolding zeroBundle baseVariant zeroHash feeOf3
 feeOpen = record {
   id = record { 0 = 1 };
-  «intent_fingerprint» = zeros 32;
-  «base_bundle» = zeroBundle;
-  «current_variant» = baseVariant;
-  «fee_intent» = feeOf3;
-  «wallet_acknowledged_variant» = zeroHash;
-  status = record { «fee_resolution» = Unresolved; «chain_terminality» = Active; expiry = NoHeight };
+  intent = record { «intent_fingerprint» = zeros 32; «base_bundle» = zeroBundle; «fee_intent» = feeOf3 };
+  state = record {
+    «current_variant» = baseVariant;
+    «wallet_acknowledged_variant» = zeroHash;
+    status = record { «fee_resolution» = Unresolved; «chain_terminality» = Active; expiry = NoHeight };
+  };
 }
 
 -- a live attempt that was drained with the empty bundle
@@ -191,18 +195,7 @@ holding e s is = record {
 }
 
 abbrev numbered : ℕ → SubmittedTx → SubmittedTx
-numbered i t = record {
-  slots = t .slots;
-  entry = record {
-    id = record { 0 = i };
-    «intent_fingerprint» = t .entry .«intent_fingerprint»;
-    «base_bundle» = t .entry .«base_bundle»;
-    «current_variant» = t .entry .«current_variant»;
-    «fee_intent» = t .entry .«fee_intent»;
-    «wallet_acknowledged_variant» = t .entry .«wallet_acknowledged_variant»;
-    status = t .entry .status;
-  };
-}
+numbered i t = record { slots = t .slots; entry = record { id = record { 0 = i }; intent = t .entry .intent; state = t .entry .state } }
 
 abbrev upTo : ℕ → List SubmittedTx → List SubmittedTx
 upTo zero ts = ts

@@ -73,6 +73,6 @@ handed t g e p = record {
   «predecessor_attempt_token» = tokenIn p;
   relationship = relationshipTo p g (currentFingerprint e);
   bundle = currentBundle e;
-  expiry = e .status .expiry;
+  expiry = e .state .status .expiry;
   «fee_intent» = openFeeIntent e;
 }

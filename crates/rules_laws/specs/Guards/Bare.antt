@@ -13,7 +13,7 @@ use Rattle.rules.specs.Rule.{done, Rule, undo, stop, look, act, turn, Outcome, 
 use Rattle.rules.specs.Rule.{Revision, tighten, acknowledge, attach, terminality, reopen, Note, enqueue, unqueue, retire, unreplay, unqueueAll, unretireAll, beginEpoch, endEpoch}
 use Rattle.rules.specs.Rule.{Step, note, revise, retain, emit, remove, setAside, finalise, replay}
 use Rattle.rules.specs.Steps.{withSubmitted, restOf, withRest, withEntry, noteBook, reviseBook, retainable, retained, retainBook, silent, onBook, runBook}
-use Rattle.rules.specs.Steps.Entry.{withJoined, revised}
+use Rattle.rules.specs.Steps.Entry.{withJoined, revisedState, withState, revised}
 use Rattle.rules.specs.Steps.Notes.{withPending, noted}
 use Rattle.rules_laws.specs.Held.{HeldTo}
 use Rattle.rules_laws.specs.Sound.Steps.{sound-step}
@@ -62,7 +62,7 @@ unfoldable pub bareRevision : Revision → SubmittedEntry → SubmittedEntry
 unfolding revised
 bareRevision (tighten x) e = revised (tighten x) e
 bareRevision (acknowledge f) e = revised (acknowledge f) e
-bareRevision (attach j) e = withJoined j e
+bareRevision (attach j) e = withState (λ p s. withJoined p j s) e
 bareRevision (terminality c) e = revised (terminality c) e
 bareRevision reopen e = revised reopen e
 
@@ -93,10 +93,10 @@ bare-note (beginEpoch x) b h = refl
 bare-note endEpoch b h = refl
 
 bare-revise : (i : ℕ) (r : Revision) (b : Book) → takesRevision r ≡ true → withSubmitted (change idOf i (withEntry (bareRevision r)) (b .submitted)) b ≡ reviseBook i r b
-unfolding bareRevision reviseBook revised
+unfolding bareRevision reviseBook revised revisedState
 bare-revise i (tighten x) b h = refl
 bare-revise i (acknowledge f) b h = refl
-bare-revise i (attach j) b h = ap (λ (t : Bool). withSubmitted (change idOf i (withEntry (λ e. cond t (withJoined j e) e)) (b .submitted)) b) (sym h)
+bare-revise i (attach j) b h = ap (λ (t : Bool). withSubmitted (change idOf i (withEntry (withState (λ p s. cond t (withJoined p j s) s))) (b .submitted)) b) (sym h)
 bare-revise i (terminality c) b h = refl
 bare-revise i reopen b h = refl
 

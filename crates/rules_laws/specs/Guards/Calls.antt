@@ -108,7 +108,7 @@ taken-withdraws r h (i ∷ is) b s = (refl, λ c x. (refl, λ d y. taken-withdra
 -- a retained submission's own intent is sound
 pub redelivery-sound : (trigger : DeliveryTrigger) (g : SubmissionDeliveryGoal) (e : SubmittedEntry) → soundEntry e ≡ true → soundDelivery (redelivery trigger g e) ≡ true
 unfolding soundDelivery soundIntent redelivery
-redelivery-sound trigger g e h = let s = sound-entry e h in and-both (s .base) (s .fee-intent)
+redelivery-sound trigger g e h = let s = sound-entry e h .intent in and-both (s .base) (s .fee-intent)
 
 taken-offerTo : (P : Unit {0} → Type 0) → P tt → (w : DeliveryTrigger) (g : SubmissionDeliveryGoal) (q : Bool) (ts : List SubmittedTx) → allb soundSubmitted ts ≡ true → (b : Book) → TakenTo P b (offerTo w g q ts)
 taken-offerTo P h w g q [] k b = h
@@ -201,7 +201,7 @@ module _ (P : Memory → Type 0) (h : (a : Memory) → P a) where
     taken-unnamed f a (t ∷ ts) b = taken-knownBy f t a (missOf (c .intent) f (t .entry)) b
 
     taken-planned : (f : List ℕ) (a : Memory) (i : OptionalId) (b : Book) → TakenTo P b (plannedBy n c f b a i)
-    taken-planned f a NoId b = taken-unnamed f a (filterb (λ t. eqs (t .entry .«intent_fingerprint») f) (b .submitted)) b
+    taken-planned f a NoId b = taken-unnamed f a (filterb (λ t. eqs (t .entry .intent .«intent_fingerprint») f) (b .submitted)) b
     taken-planned f a (Of i) b = taken-named f (i .0) a (pick idOf (i .0) (b .submitted)) b
 
     taken-one : (a : Memory) (b : Book) → TakenTo P b (oneCandidate n c a)
@@ -291,8 +291,8 @@ taken-judges observed spent reorg ids (t ∷ ts) b s = taken-bind Ends (judge ob
 
     one : AllTaken (judgeEach observed spent reorg ids ts) → TakenTo P b (judge observed spent reorg ids t)
     one h =
-        taken-cond P b (outputObserved observed (t .entry)) _ _ (λ e. taken-halt P h (idOf t) Landed b)
-        (λ e. taken-cond P b (inputSpent spent (t .entry)) _ _ (λ f. taken-halt P h (idOf t) (spentAs reorg (t .entry .status .«chain_terminality»)) b)
+        taken-cond P b (outputObserved observed (t .entry .intent)) _ _ (λ e. taken-halt P h (idOf t) Landed b)
+        (λ e. taken-cond P b (inputSpent spent (t .entry .intent)) _ _ (λ f. taken-halt P h (idOf t) (spentAs reorg (t .entry .state .status .«chain_terminality»)) b)
         (λ f. taken-cond P b (elemb (idOf t) ids) _ _ (λ g. (refl, λ c x. h)) (λ g. h)))
 
 taken-reconcile : (observed spent : List ℕ) (reorg : Bool) (ids : List ℕ) → AllTaken (reconcileChainTerminality observed spent reorg ids)
@@ -361,7 +361,7 @@ all-taken encode (Call.CausallyRolledBackIds absent inputs) = taken-map idsAre (
 all-taken encode (Call.AbsentOutputsForIds is absent room) =
     taken-map written (absentOutputsForIds is absent room)
     (λ b s. taken-cond Ends b (idsOk is && coinListb absent) _ _
-    (λ e. taken-writing room (encodeCoins (flatMap (λ t. absentOutputs (coinsIn absent) (t .entry)) (filterb (λ t. elemb (idOf t) is) (b .submitted)))) b s) (λ e. tt))
+    (λ e. taken-writing room (encodeCoins (flatMap (λ t. absentOutputs (coinsIn absent) (t .entry .intent)) (filterb (λ t. elemb (idOf t) is) (b .submitted)))) b s) (λ e. tt))
 all-taken encode (Call.CollectRollbackReplayIds is) = taken-map nothing (collectRollbackReplayIds is) (taken-collect is)
 all-taken encode Call.ClearLocalArtifacts = taken-map nothing clearLocalArtifacts taken-clear
 all-taken encode Call.RestoreRuntime = taken-map nothing restoreRuntime (λ b s. taken-setAsides (map idOf (b .submitted)) b s)

@@ -7,15 +7,18 @@ use Rattle.base_lists.specs.Laws.{and-split, and-both, trues}
 use Rattle.base_lists.specs.Sub.{Sub, sub-all, sub-none}
 use Rattle.book.specs.declared.SubmissionId.{SubmissionId}
 use Rattle.book.specs.declared.AttemptSlots.{AttemptSlots}
+use Rattle.book.specs.declared.RetainedIntent.{RetainedIntent}
+use Rattle.book.specs.declared.SubmissionState.{SubmissionState}
 use Rattle.book.specs.declared.SubmittedEntry.{SubmittedEntry}
 use Rattle.book.specs.declared.SubmittedTx.{SubmittedTx}
 use Rattle.book.specs.declared.PendingSubmissionIntent.{PendingSubmissionIntent}
 use Rattle.book.specs.declared.SubmissionDeliveryGoal.{SubmissionDeliveryGoal}
-use Rattle.book.specs.Sound.{soundBundle, readableBundle, soundFeeIntent, soundHash, soundAttempt, soundSlots, soundVariant, soundEntry, soundSubmitted, soundIntent, attemptToken, slotTokens}
+use Rattle.book.specs.Sound.{soundBundle, readableBundle, soundFeeIntent, soundHash, soundAttempt, soundSlots, soundVariant, soundRetainedIntent, soundState, soundEntry, soundSubmitted, soundIntent, attemptToken, slotTokens}
+use Rattle.book.specs.SoundLaws.{sound-state}
 use Rattle.book.specs.Zero.{zeroHash, noAttempt, noSlots, baseVariant}
 use Rattle.rules.specs.Rule.{Revision, tighten, acknowledge, attach, terminality, reopen}
 use Rattle.rules.specs.Steps.{withEntry, withSlots}
-use Rattle.rules.specs.Steps.Entry.{withJoined, revised, newEntry}
+use Rattle.rules.specs.Steps.Entry.{withJoined, revisedState, revised, newEntry}
 use Rattle.rules.specs.Steps.Slots.{present, issueAttempt, slotsIssued, slotsAside, attemptFinal, slotsFinal}
 
 sound-none : soundAttempt noAttempt ≡ true
@@ -99,27 +102,24 @@ sound-slots g keeps t h =
     let u = and-split (soundSlots (t .slots)) (soundEntry (t .entry)) h in
     and-both (keeps (t .slots) (u .0)) (u .1)
 
--- the parts of a sound entry
-abbrev entryParts : SubmittedEntry → List Bool
-entryParts e = readableBundle (e .«base_bundle») ∷ soundVariant (e .«current_variant») ∷ soundFeeIntent (e .«fee_intent») ∷ soundHash (e .«wallet_acknowledged_variant») ∷ []
+-- a revision keeps a sound state; the intent is not touched
+sound-revised-state : (r : Revision) (p : RetainedIntent) (s : SubmissionState) → soundState s ≡ true → soundState (revisedState r p s) ≡ true
+unfolding revisedState soundState
+sound-revised-state (tighten x) p s h = h
+sound-revised-state (acknowledge f) p s h = and-both (sound-state s h .current) (unfold soundHash in refl)
+sound-revised-state (attach j) p s h = go (soundBundle j) refl
+  where
+    go : (b : Bool) → soundBundle j ≡ b → soundState (cond b (withJoined p j s) s) ≡ true
+    go true q = and-both (unfold soundVariant in q) (sound-state s h .acknowledged)
+    go false q = h
+sound-revised-state (terminality c) p s h = h
+sound-revised-state reopen p s h = and-both (sound-state s h .current) sound-no-hash
 
 pub sound-revised : (r : Revision) (e : SubmittedEntry) → soundEntry e ≡ true → soundEntry (revised r e) ≡ true
 unfolding revised soundEntry
-sound-revised (tighten x) e h = h
-sound-revised (acknowledge f) e h =
-    let t = trues (soundBundle (e .«base_bundle»)) (entryParts e) h in
-    and-both (and-both (and-both (and-both (t .0) (t .1 .0)) (t .1 .1 .0)) (t .1 .1 .1 .0)) (unfold soundHash in refl)
-sound-revised (attach j) e h = go (soundBundle j) refl
-  where
-    go : (b : Bool) → soundBundle j ≡ b → soundEntry (cond b (withJoined j e) e) ≡ true
-    go true q =
-        let t = trues (soundBundle (e .«base_bundle»)) (entryParts e) h in
-        and-both (and-both (and-both (and-both (t .0) (t .1 .0)) (unfold soundVariant in q)) (t .1 .1 .1 .0)) (t .1 .1 .1 .1 .0)
-    go false q = h
-sound-revised (terminality c) e h = h
-sound-revised reopen e h =
-    let t = trues (soundBundle (e .«base_bundle»)) (entryParts e) h in
-    and-both (and-both (and-both (and-both (t .0) (t .1 .0)) (t .1 .1 .0)) (t .1 .1 .1 .0)) sound-no-hash
+sound-revised r e h =
+    let t = and-split (soundRetainedIntent (e .intent)) (soundState (e .state)) h in
+    and-both (t .0) (sound-revised-state r (e .intent) (e .state) (t .1))
 
 pub sound-entry : (r : Revision) (t : SubmittedTx) → soundSubmitted t ≡ true → soundSubmitted (withEntry (revised r) t) ≡ true
 unfolding soundSubmitted
@@ -129,19 +129,11 @@ sound-entry r t h =
 
 pub revised-id : (r : Revision) (e : SubmittedEntry) → revised r e .id ≡ e .id
 unfolding revised
-revised-id (tighten x) e = refl
-revised-id (acknowledge f) e = refl
-revised-id (attach j) e = go (soundBundle j)
-  where
-    go : (b : Bool) → cond b (withJoined j e) e .id ≡ e .id
-    go true = refl
-    go false = refl
-revised-id (terminality c) e = refl
-revised-id reopen e = refl
+revised-id r e = refl
 
 pub sound-new : (i : SubmissionId) (p : PendingSubmissionIntent) → soundIntent p ≡ true → readableBundle (p .bundle) ≡ true
     → soundSubmitted (record { slots = noSlots; entry = newEntry i p }) ≡ true
-unfolding soundSubmitted soundEntry newEntry soundIntent
+unfolding soundSubmitted soundEntry soundRetainedIntent soundState newEntry soundIntent
 sound-new i p h k =
     let t = and-split (soundBundle (p .bundle)) (soundFeeIntent (p .«fee_intent»)) h in
-    and-both sound-no-slots (and-both (and-both (and-both (and-both (t .0) k) sound-base) (t .1)) sound-no-hash)
+    and-both sound-no-slots (and-both (and-both (and-both (t .0) k) (t .1)) (and-both sound-base sound-no-hash))

@@ -194,7 +194,7 @@ module _ (P : Bool → Memory → Type 0) (h : (g : Bool) (a : Memory) → P g a
   paced-unnamed n c f b a (t ∷ ts) = paced-known n c f t a (missOf (c .intent) f (t .entry))
 
   paced-planned : (n : ℕ) (c : PendingDelivery) (f : List ℕ) (b : Book) (a : Memory) (i : OptionalId) → PacedTo P false (plannedBy n c f b a i)
-  paced-planned n c f b a NoId = paced-unnamed n c f b a (filterb (λ t. eqs (t .entry .«intent_fingerprint») f) (b .submitted))
+  paced-planned n c f b a NoId = paced-unnamed n c f b a (filterb (λ t. eqs (t .entry .intent .«intent_fingerprint») f) (b .submitted))
   paced-planned n c f b a (Of i) = paced-named n c f (i .0) a (pick idOf (i .0) (b .submitted))
 
   paced-one : (n : ℕ) (c : PendingDelivery) (a : Memory) → PacedTo P false (oneCandidate n c a)
@@ -283,8 +283,8 @@ paced-judges observed spent reorg ids (t ∷ ts) = paced-bind Settled false (jud
 
     one : Paced (judgeEach observed spent reorg ids ts) → PacedTo P false (judge observed spent reorg ids t)
     one h =
-        paced-cond P false (outputObserved observed (t .entry)) _ _ (paced-halt P (λ g. h) (idOf t) Landed)
-        (paced-cond P false (inputSpent spent (t .entry)) _ _ (paced-halt P (λ g. h) (idOf t) (spentAs reorg (t .entry .status .«chain_terminality»)))
+        paced-cond P false (outputObserved observed (t .entry .intent)) _ _ (paced-halt P (λ g. h) (idOf t) Landed)
+        (paced-cond P false (inputSpent spent (t .entry .intent)) _ _ (paced-halt P (λ g. h) (idOf t) (spentAs reorg (t .entry .state .status .«chain_terminality»)))
         (paced-cond P false (elemb (idOf t) ids) _ _ (refl, h) h))
 
 paced-reconcile : (observed spent : List ℕ) (reorg : Bool) (ids : List ℕ) → Paced (reconcileChainTerminality observed spent reorg ids)
@@ -354,7 +354,7 @@ paced encode (Call.CausallyRolledBackIds absent inputs) =
 paced encode (Call.AbsentOutputsForIds is absent room) =
     paced-map written (absentOutputsForIds is absent room)
     (paced-cond Settled false (idsOk is && coinListb absent) _ _
-    (λ b. paced-writing room (encodeCoins (flatMap (λ t. absentOutputs (coinsIn absent) (t .entry)) (filterb (λ t. elemb (idOf t) is) (b .submitted))))) (refl, refl))
+    (λ b. paced-writing room (encodeCoins (flatMap (λ t. absentOutputs (coinsIn absent) (t .entry .intent)) (filterb (λ t. elemb (idOf t) is) (b .submitted))))) (refl, refl))
 paced encode (Call.CollectRollbackReplayIds is) = paced-map nothing (collectRollbackReplayIds is) (paced-collect is)
 paced encode Call.ClearLocalArtifacts = paced-map nothing clearLocalArtifacts paced-clear
 paced encode Call.RestoreRuntime = paced-map nothing restoreRuntime (λ b. paced-setAsides (map idOf (b .submitted)))

@@ -9,7 +9,7 @@ use Rattle.book.specs.Sound.{soundBundle, idOf}
 use Rattle.rules.specs.Keyed.{pick, change, pick-change-same, pick-change-other}
 use Rattle.rules.specs.Rule.{Revision, tighten, acknowledge, attach, terminality, reopen}
 use Rattle.rules.specs.Steps.{withEntry, reviseBook, silent}
-use Rattle.rules.specs.Steps.Entry.{withJoined, revised}
+use Rattle.rules.specs.Steps.Entry.{revised}
 use Rattle.rules_ledger.specs.Law.{Law}
 use Rattle.rules_ledger.specs.Ledger.{Row, Ledger, entryId, rowId, withEntries}
 use Rattle.rules_ledger.specs.Tidy.{fits-map, PlaceIn, places-beside}
@@ -21,15 +21,7 @@ reviseLedger i r l = withEntries (change entryId i (revised r) (l .entries)) l
 
 keeps-id : (r : Revision) (e : SubmittedEntry) → entryId (revised r e) ≡ entryId e
 unfolding revised
-keeps-id (tighten x) e = refl
-keeps-id (acknowledge f) e = refl
-keeps-id (attach j) e = go (soundBundle j)
-  where
-    go : (t : Bool) → entryId (cond t (withJoined j e) e) ≡ entryId e
-    go true = refl
-    go false = refl
-keeps-id (terminality c) e = refl
-keeps-id reopen e = refl
+keeps-id r e = refl
 
 held : (r : Revision) (rows : List Row) (i : ℕ) (es : List SubmittedEntry)
     → change idOf i (withEntry (revised r)) (map (hold rows) es) ≡ map (hold rows) (change entryId i (revised r) es)

@@ -19,10 +19,9 @@ returns c =
     let read-hash = c .before .before .before .before .before .before .before .before .before .before .before .before .before .before .read-hash in
     let read-bundle = c .before .before .before .before .before .before .before .before .before .before .before .before .read-bundle in
     let read-variant = c .before .before .before .before .before .before .before .before .before .before .read-variant in
-    let facts = reads-then _ (read-resolution .ensures) (reads-then _ (read-fee-intent .ensures) (reads-then _ (read-optional-hash .ensures)
-    (reads-then _ (read-chain .ensures) (reads-then _ (read-height .ensures) ends)))) in
-    reads-then _ (read-new-id .ensures) (reads-then _ (read-slots .ensures) (reads-then _ (read-hash .ensures)
-    (reads-then _ (read-bundle .ensures) (reads-then _ (read-variant .ensures) (reads-then _ facts ends)))))
+    let facts = reads-then _ (read-hash .ensures) (reads-then _ (read-bundle .ensures) (reads-then _ (read-variant .ensures) (reads-then _ (read-resolution .ensures)
+    (reads-then _ (read-fee-intent .ensures) (reads-then _ (read-optional-hash .ensures) (reads-then _ (read-chain .ensures) (reads-then _ (read-height .ensures) ends))))))) in
+    reads-then _ (read-new-id .ensures) (reads-then _ (read-slots .ensures) (reads-then _ facts ends))
 
 pub read-submitted-spec : {M : Type 1} → statement M
 read-submitted-spec =

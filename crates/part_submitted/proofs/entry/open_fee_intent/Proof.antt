@@ -7,7 +7,7 @@ use Rattle.part_submitted.proofs.entry.open_fee_intent.Tie as tie
 
 returns : tie.Need-returns
 unfolding openFeeIntent
-returns c = cc
+returns c = rw (sym (c .before .before .fee-unresolved .ensures) ∙ c .before .if1 .taken)
 
 returns-2 : tie.Need-returns-2
 unfolding openFeeIntent

@@ -6,7 +6,7 @@ use Rattle.part_submitted.proofs.revise.attach.Tie as tie
 
 returns : tie.Need-returns
 unfolding revised
-returns c = rw (c .with-fee-attached .ensures, c .before .before .pre)
+returns c = rw (c .with-state .ensures, c .before .with-fee-attached .ensures, c .before .before .before .before .pre)
 
 pub attach-spec : {M : Type 1} → statement M
-attach-spec = tie.close (tie.spec (λ c κs. search needs) returns)
+attach-spec = tie.close (tie.spec (λ c κs. search needs) (λ c κs. search needs) returns)

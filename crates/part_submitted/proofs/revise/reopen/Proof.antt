@@ -6,7 +6,7 @@ use Rattle.part_submitted.proofs.revise.reopen.Tie as tie
 
 returns : tie.Need-returns
 unfolding revised
-returns c = rw (c .with-chain .ensures, c .before .before .zero .ensures)
+returns c = rw (c .with-state .ensures, c .before .with-chain .ensures, c .before .before .before .before .zero .ensures)
 
 pub reopen-spec : {M : Type 1} → statement M
-reopen-spec = tie.close (tie.spec (λ c κs. search needs) (λ c κs. search needs) returns)
+reopen-spec = tie.close (tie.spec (λ c κs. search needs) (λ c κs. search needs) (λ c κs. search needs) returns)

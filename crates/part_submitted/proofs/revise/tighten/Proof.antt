@@ -6,7 +6,7 @@ use Rattle.part_submitted.proofs.revise.tighten.Tie as tie
 
 returns : tie.Need-returns
 unfolding revised
-returns c = rw (c .with-expiry .ensures, c .before .min-expiry .ensures)
+returns c = rw (c .with-state .ensures, c .before .with-expiry .ensures, c .before .before .min-expiry .ensures)
 
 pub tighten-spec : {M : Type 1} → statement M
-tighten-spec = tie.close (tie.spec (λ c κs. search needs) (λ c κs. search needs) returns)
+tighten-spec = tie.close (tie.spec (λ c κs. search needs) (λ c κs. search needs) (λ c κs. search needs) returns)

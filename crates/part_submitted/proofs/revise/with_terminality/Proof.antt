@@ -6,7 +6,7 @@ use Rattle.part_submitted.proofs.revise.with_terminality.Tie as tie
 
 returns : tie.Need-returns
 unfolding revised
-returns c = rw (c .with-chain .ensures)
+returns c = rw (c .with-state .ensures, c .before .with-chain .ensures)
 
 pub with-terminality-spec : {M : Type 1} → statement M
-with-terminality-spec = tie.close (tie.spec (λ c κs. search needs) returns)
+with-terminality-spec = tie.close (tie.spec (λ c κs. search needs) (λ c κs. search needs) returns)
