@@ -87,7 +87,7 @@
 #define SUBMISSION_BOOK_INPUT_COINS_BYTES 4738
 #define SUBMISSION_BOOK_ABSENT_OUTPUTS_BYTES 18946
 
-/* stack of one call: measured (tests/c_api/stack.c; the largest is about 877,000), not proved */
+/* stack of one call: measured (tests/c_api/stack.c; the largest is about 823,000), not proved */
 #define SUBMISSION_BOOK_STACK_BYTES 1000000
 
 /* ---- limits */

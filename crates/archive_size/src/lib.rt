@@ -56,7 +56,12 @@ fn size_facts(e: SubmittedEntry) -> usize
     let a = e.state.wallet_acknowledged_variant;
     let status = e.state.status;
     let expiry = status.expiry;
-    34 + size_bundle(base) + size_variant(variant) + size_fee_intent(f) + size_hash(a) + size_height(expiry)
+    34
+        + size_bundle(base)
+        + size_variant(variant)
+        + size_fee_intent(f)
+        + size_hash(a)
+        + size_height(expiry)
 }
 
 fn size_submitted(t: SubmittedTx) -> usize

@@ -91,14 +91,14 @@ module _ (is : List ℕ) (m : Book) where
   unfolding collectRollbackReplayIds idsOk run
   collect-within l = ap (λ (t : Bool). runBook (cond t rounds (undo 2)) m) (le-leb (length is) 64 l)
 
-  -- by the cells of the named and of the fresh ids, the book after the marks, and the answer of the offers
-  pub collect-taken : length is ≤ 64 → {named : Ids16} → named ≡ ids16 (namedIn is m) → {fresh : Ids16} → fresh ≡ ids16 (withoutIds (m .replayed) (list16 named))
-      → {q : BookData} → Reached tt q (runBook (markAll (list16 fresh)) m)
-      → (t : Bool) (r : BookData) → Ends tt t r (runBook (offerAgain (list16 named)) (view q)) → Ends tt t r (runBook (collectRollbackReplayIds is) m)
-  collect-taken l {named} e {fresh} f {q} h t r k =
-      ends-as tt r (runBook (offerAgain (list16 named)) (view q)) t
+  -- by the answer of the offers, the cells of the ids offered, which are the named ones, and of the fresh ones, and the book after the marks
+  pub collect-taken : length is ≤ 64 → {offered fresh : Ids16} {q : BookData} (t : Bool) (r : BookData) → Ends tt t r (runBook (offerAgain (list16 offered)) (view q))
+      → offered ≡ ids16 (namedIn is m) → fresh ≡ ids16 (withoutIds (m .replayed) (list16 offered)) → Reached tt q (runBook (markAll (list16 fresh)) m)
+      → Ends tt t r (runBook (collectRollbackReplayIds is) m)
+  collect-taken l {offered} {fresh} {q} t r k e f h =
+      ends-as tt r (runBook (offerAgain (list16 offered)) (view q)) t
       (collect-within l
       ∙ ap (λ (ns : List ℕ). runBook (markEach m ns >>= (λ _. offerAgain ns)) m) (sym (list-is (namedIn is m) e))
-      ∙ ap (λ (w : Rule (Unit {0})). runBook (w >>= (λ _. offerAgain (list16 named))) m) (marks-are m (list16 named) ∙ ap markAll (sym (list-is (withoutIds (m .replayed) (list16 named)) f)))
-      ∙ bind-on (markAll (list16 fresh)) (λ _. offerAgain (list16 named)) m (h .outcome))
+      ∙ ap (λ (w : Rule (Unit {0})). runBook (w >>= (λ _. offerAgain (list16 offered))) m) (marks-are m (list16 offered) ∙ ap markAll (sym (list-is (withoutIds (m .replayed) (list16 offered)) f)))
+      ∙ bind-on (markAll (list16 fresh)) (λ _. offerAgain (list16 offered)) m (h .outcome))
       k

@@ -139,17 +139,19 @@ fn judge_each(
     requires { ⌜ soundb b ≡ true ⌝ }
     ensures { λ r. ⌜ r ≡ doneReply b (runBook (judgeEach (coinsIn (now (observed .entry))) (idsIn (now (spent .entry))) reorg (now («rolled_back» .entry)) (view b .submitted)) (view b)) ⌝ }
 {
-    let mut out = b;
+    let mut next = Retired {
+        full: false,
+        book: b,
+    };
     let mut k = 0;
     while k < b.submitted_count {
-        let next = judge(out, k, observed, spent, reorg, rolled_back);
+        next = judge(next.book, k, observed, spent, reorg, rolled_back);
         if next.full {
             return refused_done(b, 10);
         }
-        let judged = next.book;
-        out = judged;
         k += 1;
     }
+    let out = next.book;
     DoneReply {
         answer: CallAnswer::Done,
         book: out,

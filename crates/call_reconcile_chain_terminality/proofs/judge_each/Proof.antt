@@ -18,12 +18,12 @@ use Rattle.call_reconcile_chain_terminality.proofs.judge_each.Statement
 use Rattle.call_reconcile_chain_terminality.proofs.judge_each.Tie as tie
 
 abbrev Inv-loop : tie.InvT-loop
-Inv-loop b observed spent reorg rolled-back out₀ k₀ out k =
-    (k ≤ b .«submitted_count») × (b .«submitted_count» ≡ length (view out .submitted)) × (soundb out ≡ true)
-    × Left (coinsIn observed) (idsIn spent) reorg rolled-back (runBook (judgeEach (coinsIn observed) (idsIn spent) reorg rolled-back (view b .submitted)) (view b)) k out
+Inv-loop b observed spent reorg rolled-back next₀ k₀ next k =
+    (k ≤ b .«submitted_count») × (b .«submitted_count» ≡ length (view (next .book) .submitted)) × (soundb (next .book) ≡ true)
+    × Left (coinsIn observed) (idsIn spent) reorg rolled-back (runBook (judgeEach (coinsIn observed) (idsIn spent) reorg rolled-back (view b .submitted)) (view b)) k (next .book)
 
 abbrev μ-loop : tie.MeasureT-loop
-μ-loop b observed spent reorg rolled-back out₀ k₀ out k = b .«submitted_count» - k
+μ-loop b observed spent reorg rolled-back next₀ k₀ next k = b .«submitted_count» - k
 
 loop-holds : tie.Need-loop-holds Inv-loop μ-loop
 loop-holds c = let s = c .before .before .before in
@@ -43,19 +43,19 @@ returns c =
 
 loop-again : tie.Need-loop-again Inv-loop μ-loop
 loop-again c =
-    let j = c .before .before in
+    let j = c .before in
     let v = j .before .before .before .loop .inv in
     let a = j .before .before .before .before .before .before .before .args in
-    let y = j .judge .ensures .kept (c .before .if2 .left) in (
+    let y = j .judge .ensures .kept (c .if2 .left) in (
       search needs,
       v .1 ∙ sym (y .count),
       y .sound,
-      left-turn (coinsIn (a .observed .now)) (idsIn (a .spent .now)) (a .reorg) (a .rolled-back .now) (v .3) (j .judge .result) (omega (arith, v .1, j .before .if1 .taken)) (j .judge .ensures) (c .before .if2 .left),
+      left-turn (coinsIn (a .observed .now)) (idsIn (a .spent .now)) (a .reorg) (a .rolled-back .now) (v .3) (j .judge .result) (omega (arith, v .1, j .before .if1 .taken)) (j .judge .ensures) (c .if2 .left),
     )
 
 returns-2 : tie.Need-returns-2 Inv-loop μ-loop
-returns-2 c = let l = c .before .before .loop in let v = l .inv in let a = c .before .before .before .before .before .before .args in
-    done-reply (a .b) (l .out) (v .2) (left-done (coinsIn (a .observed .now)) (idsIn (a .spent .now)) (a .reorg) (a .rolled-back .now) (v .3) (omega (arith, v .1, c .if1 .left)))
+returns-2 c = let p = c .before in let l = p .before .before .loop in let v = l .inv in let a = p .before .before .before .before .before .before .args in
+    done-reply (a .b) (l .next .book) (v .2) (left-done (coinsIn (a .observed .now)) (idsIn (a .spent .now)) (a .reorg) (a .rolled-back .now) (v .3) (omega (arith, v .1, p .if1 .left)))
 
 pub judge-each-spec : {M : Type 1} → statement M
 judge-each-spec =
