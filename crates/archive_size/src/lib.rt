@@ -50,9 +50,10 @@ fn size_variant(v: SubmissionBroadcastVariant) -> usize
 fn size_facts(e: SubmittedEntry) -> usize
     ensures { λ r. ⌜ Size (encodeFacts (e .intent) (e .state)) 2272 r ⌝ }
 {
-    let base = e.intent.base_bundle;
+    let intent = e.intent;
+    let base = intent.base_bundle;
     let variant = e.state.current_variant;
-    let f = e.intent.fee_intent;
+    let f = intent.fee_intent;
     let a = e.state.wallet_acknowledged_variant;
     let status = e.state.status;
     let expiry = status.expiry;

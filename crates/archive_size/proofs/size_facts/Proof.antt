@@ -11,7 +11,7 @@ returns c =
     let fee = hash .before in
     let variant = fee .before in
     let bundle = variant .before in
-    let e = bundle .before .before .before .before .before .before .args .e in
+    let e = bundle .before .before .before .before .before .before .before .args .e in
     facts-size (e .intent) (e .state)
     (bundle .size-bundle .result) (variant .size-variant .result) (fee .size-fee-intent .result) (hash .size-hash .result) (c .size-height .result) (search needs)
     (bundle .size-bundle .ensures) (variant .size-variant .ensures) (fee .size-fee-intent .ensures) (hash .size-hash .ensures) (c .size-height .ensures)

@@ -23,8 +23,8 @@ submitted-at-requires c κs = let s = c .before .before .before in (sound-normal
 returns : tie.Need-returns
 returns c =
     let o = c .before .before in
-    let e = o .before .before .submitted-at .ensures in
-    let a = o .before .before .before .before .before .before .args in
+    let e = o .before .before .before .submitted-at .ensures in
+    let a = o .before .before .before .before .before .before .before .args in
     as-landed (coinsIn (a .observed .now)) (idsIn (a .spent .now)) (a .reorg) (a .rolled-back .now) (getD (view (a .b) .submitted) (a .k) zeroSubmitted) (a .k) (a .b) (c .halt .result)
     (test-of (λ t. outputObserved (coinsIn (a .observed .now)) (t .entry .intent)) e (o .output-observed .ensures) (c .before .if1 .taken))
     (c .halt .ensures)
@@ -33,8 +33,8 @@ returns-2 : tie.Need-returns-2
 returns-2 c =
     let i = c .before .before .before .before in
     let o = i .before .before in
-    let e = o .before .before .submitted-at .ensures in
-    let a = o .before .before .before .before .before .before .args in
+    let e = o .before .before .before .submitted-at .ensures in
+    let a = o .before .before .before .before .before .before .before .args in
     let u = getD (view (a .b) .submitted) (a .k) zeroSubmitted in
     as-spent (coinsIn (a .observed .now)) (idsIn (a .spent .now)) (a .reorg) (a .rolled-back .now) u (a .k) (a .b) (c .halt2 .result)
     (test-of (λ t. outputObserved (coinsIn (a .observed .now)) (t .entry .intent)) e (o .output-observed .ensures) (i .before .if1 .left))
@@ -47,8 +47,8 @@ returns-3 c =
     let r = c .before .before in
     let i = r .before .before in
     let o = i .before .before in
-    let e = o .before .before .submitted-at .ensures in
-    let a = o .before .before .before .before .before .before .args in
+    let e = o .before .before .before .submitted-at .ensures in
+    let a = o .before .before .before .before .before .before .before .args in
     as-active (coinsIn (a .observed .now)) (idsIn (a .spent .now)) (a .reorg) (a .rolled-back .now) (getD (view (a .b) .submitted) (a .k) zeroSubmitted) (a .k) (a .b) (c .reactivate .result)
     (test-of (λ t. outputObserved (coinsIn (a .observed .now)) (t .entry .intent)) e (o .output-observed .ensures) (i .before .if1 .left))
     (test-of (λ t. inputSpent (idsIn (a .spent .now)) (t .entry .intent)) e (i .input-spent .ensures) (r .before .if2 .left))
@@ -60,8 +60,8 @@ returns-4 c =
     let r = c .before in
     let i = r .before .before in
     let o = i .before .before in
-    let e = o .before .before .submitted-at .ensures in
-    let s = o .before .before .before .before .before .before in
+    let e = o .before .before .before .submitted-at .ensures in
+    let s = o .before .before .before .before .before .before .before in
     let a = s .args in
     as-before (coinsIn (a .observed .now)) (idsIn (a .spent .now)) (a .reorg) (a .rolled-back .now) (getD (view (a .b) .submitted) (a .k) zeroSubmitted) (a .k) (a .b) _
     (test-of (λ t. outputObserved (coinsIn (a .observed .now)) (t .entry .intent)) e (o .output-observed .ensures) (i .before .if1 .left))

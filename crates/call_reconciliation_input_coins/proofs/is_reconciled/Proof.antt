@@ -12,8 +12,8 @@ returns c = let a = c .before .before .before .before .args in
     not-landed (coinsIn (a .outputs .now)) (a .e) (sym (c .before .is-landed .ensures) ∙ not-true (c .before .is-landed .result) (c .if1 .taken))
 
 returns-2 : tie.Need-returns-2
-returns-2 c = let a = c .before .before .before .before .before .args in
-    c .output-observed .ensures ∙ landed (coinsIn (a .outputs .now)) (a .e) (sym (c .before .before .is-landed .ensures) ∙ not-false (c .before .before .is-landed .result) (c .before .if1 .left))
+returns-2 c = let left = c .before .before in let a = left .before .before .before .before .args in
+    c .output-observed .ensures ∙ landed (coinsIn (a .outputs .now)) (a .e) (sym (left .before .is-landed .ensures) ∙ not-false (left .before .is-landed .result) (left .if1 .left))
 
 pub is-reconciled-spec : {M : Type 1} → statement M
 is-reconciled-spec = tie.close (tie.spec (λ c κs. search needs) returns (λ c κs. search needs) returns-2)

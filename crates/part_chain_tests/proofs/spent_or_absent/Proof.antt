@@ -8,10 +8,12 @@ use Rattle.part_chain_tests.proofs.spent_or_absent.Statement.{statement
 use Rattle.part_chain_tests.proofs.spent_or_absent.Tie as tie
 
 returns : tie.Need-returns
-returns c = ap (λ (t : Bool). t || outputObserved (coinsIn (c .before .before .before .before .args .absent .now)) (c .before .before .before .before .args .e .intent)) (sym (c .if1 .taken) ∙ c .before .is-input-spent .ensures)
+returns c = let a = c .before .before .before .before .args in
+    ap (λ (t : Bool). t || outputObserved (coinsIn (a .absent .now)) (a .e .intent)) (sym (c .if1 .taken) ∙ c .before .is-input-spent .ensures)
 
 returns-2 : tie.Need-returns-2
-returns-2 c = c .output-observed .ensures ∙ ap (λ (t : Bool). t || outputObserved (coinsIn (c .before .before .before .before .before .args .absent .now)) (c .before .before .before .before .before .args .e .intent)) (sym (c .before .if1 .left) ∙ c .before .before .is-input-spent .ensures)
+returns-2 c = let left = c .before .before in let a = left .before .before .before .before .args in
+    c .output-observed .ensures ∙ ap (λ (t : Bool). t || outputObserved (coinsIn (a .absent .now)) (a .e .intent)) (sym (left .if1 .left) ∙ left .before .is-input-spent .ensures)
 
 pub spent-or-absent-spec : {M : Type 1} → statement M
 spent-or-absent-spec =
