@@ -5,6 +5,7 @@ use lib.ListN.{take}
 use Rattle.book.specs.declared.BookData.{BookData}
 use Rattle.archive_form.specs.Parse.{readArchive, ArchiveRead, book, broken}
 use Rattle.archive_form.specs.Specimen.{openedBytes, opened-cut}
+use Rattle.book.specs.Refusals as refusals
 
 -- a refusal has its number and its place
 pub data ReadAnswer : Type 0 where
@@ -13,7 +14,7 @@ pub data ReadAnswer : Type 0 where
 
 abbrev pub readAnswer : ArchiveRead → ReadAnswer
 readAnswer (book b) = read b
-readAnswer (broken e) = refused 13 e
+readAnswer (broken e) = refused refusals.noArchive e
 
 -- cut short in the second number
 pub cut-refused : readAnswer (readArchive (take 16 openedBytes)) ≡ refused 13 9

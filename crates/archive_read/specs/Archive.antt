@@ -24,6 +24,7 @@ use Rattle.archive_form.specs.Answer as answer
 use Rattle.archive_form.specs.Parse.{parseNumbers, parseDelivery, parseRetired, parseHeight, parseReplayed, parseModel, parseWhole, readArchive, archiveRead, ArchiveRead, book, broken}
 use Rattle.archive_read.specs.Sections.{ReadsRetained}
 use Rattle.archive_read.specs.declared.ReadArchive.{ReadArchive}
+use Rattle.book.specs.Refusals as refusals
 
 -- the empty book whose two numbers are 0
 unfoldable pub zeroBook : BookData
@@ -44,7 +45,7 @@ archiveAnswer (broken e) = record { ok = false; place = e; book = zeroBook }
 
 -- paper 01's number and values of what is returned: the book; or 13, with its place
 abbrev pub answerOf : ReadArchive → answer.ReadAnswer
-answerOf r = cond (r .ok) (answer.read (r .book)) (answer.refused 13 (r .place))
+answerOf r = cond (r .ok) (answer.read (r .book)) (answer.refused refusals.noArchive (r .place))
 
 -- what the reader promises
 pub record Answered (x : ArchiveRead) (r : ReadArchive) : Type 0 where

@@ -12,6 +12,7 @@ use Rattle.codec_forms.specs.Wire.{pick, overlay}
 use Rattle.codec_forms.specs.Puts.{Puts, puts-overlay}
 use Rattle.archive_write_checked.specs.declared.Wrote.{Wrote}
 use Rattle.archive_write_checked.specs.declared.Wrote.the-variants.{Unsound, Short, Bytes}
+use Rattle.book.specs.Refusals as refusals
 
 -- paper 01's number and values for each case of `Wrote`
 pub data WriteAnswer : Type 0 where
@@ -19,13 +20,13 @@ pub data WriteAnswer : Type 0 where
   wrote : ℕ → WriteAnswer
 
 abbrev pub answerOf : Wrote → WriteAnswer
-answerOf Unsound = refused 1
-answerOf Short = refused 12
+answerOf Unsound = refused refusals.noBook
+answerOf Short = refused refusals.shortBuffer
 answerOf (Bytes n) = wrote n
 
 -- the answer for a buffer d and an archive l: 1, "book not sound"; 12, "buffer shorter than needed"
 unfoldable pub writeAnswer : Bool → List ℕ → List ℕ → WriteAnswer
-writeAnswer sound d l = pick sound (pick (leb (length l) (length d)) (wrote (length l)) (refused 12)) (refused 1)
+writeAnswer sound d l = pick sound (pick (leb (length l) (length d)) (wrote (length l)) (refused refusals.shortBuffer)) (refused refusals.noBook)
 
 -- the buffer afterwards
 unfoldable pub leftIn : Bool → List ℕ → List ℕ → List ℕ
@@ -40,7 +41,7 @@ pub short : (s : Bool) (d l : List ℕ) → s ≡ true → length d < length l �
 unfolding writeAnswer leftIn
 short s d l e h =
     let q = lt-leb (length l) (length d) h in (
-      sym (ap (λ (b : Bool). writeAnswer b d l) e ∙ ap (λ (b : Bool). pick b (wrote (length l)) (refused 12)) q),
+      sym (ap (λ (b : Bool). writeAnswer b d l) e ∙ ap (λ (b : Bool). pick b (wrote (length l)) (refused refusals.shortBuffer)) q),
       sym (ap (λ (b : Bool). leftIn b d l) e ∙ ap (λ (b : Bool). pick b (overlay l d) d) q),
     )
 
@@ -49,6 +50,6 @@ unfolding writeAnswer leftIn
 whole s d d′ l n e h p =
     let q = le-leb (length l) (length d) h in
     let o = puts-overlay p in (
-      ap wrote (o .0) ∙ sym (ap (λ (b : Bool). writeAnswer b d l) e ∙ ap (λ (b : Bool). pick b (wrote (length l)) (refused 12)) q),
+      ap wrote (o .0) ∙ sym (ap (λ (b : Bool). writeAnswer b d l) e ∙ ap (λ (b : Bool). pick b (wrote (length l)) (refused refusals.shortBuffer)) q),
       o .1 ∙ sym (ap (λ (b : Bool). leftIn b d l) e ∙ ap (λ (b : Bool). pick b (overlay l d) d) q),
     )

@@ -6,3 +6,4 @@ pub mod ZeroLaws
 pub mod SoundLaws
 pub mod Counted
 pub mod Specimens
+pub mod Refusals

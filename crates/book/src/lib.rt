@@ -3,6 +3,7 @@
 // an optional number is an enum.
 
 mod kinds;
+pub mod refusals;
 pub mod zero;
 
 // An attempt token, a submission id and a height are types of their own, so that none is taken for another.

@@ -23,6 +23,7 @@ use Rattle.part_sound_laws.specs.Acts.{act-full, act-silent}
 use Rattle.part_sound_laws.specs.Room.{full-retire}
 use Rattle.part_attempt_answers.specs.Answers.{status-ended, of-read}
 use Rattle.part_attempt_answers.specs.Live.{at}
+use Rattle.book.specs.Refusals as refusals
 
 -- the book without the submission
 module _ (b : BookData) (sound : soundb b ≡ true) (i : ℕ) {rest : BookData} (gone : rest ≡ back (removeBook i (view b))) where
@@ -50,7 +51,7 @@ module _ (b : BookData) (sound : soundb b ≡ true) (i : ℕ) {rest : BookData} 
     unfolding onBook
     removing = act-silent (remove i) (act (note (retire i)) ending) (view b) refl refl
 
-    full-run : x .full ≡ true → runBook (act (remove i) (act (note (retire i)) ending)) (view b) ≡ undone 10
+    full-run : x .full ≡ true → runBook (act (remove i) (act (note (retire i)) ending)) (view b) ≡ undone refusals.full
     unfolding onBook
     full-run e = removing ∙ act-full (note (retire i)) ending (removeBook i (view b)) (limit ∙ e)
 
@@ -65,7 +66,7 @@ module _ (b : BookData) (sound : soundb b ≡ true) (i : ℕ) {rest : BookData} 
 
 module _ (b : BookData) (sound : soundb b ≡ true) (k : ℕ) {s : SubmittedTx} (read : s ≡ at (view b) k) {rest : BookData}
     (gone : rest ≡ back (removeBook (idOf s) (view b))) {x : Retired} (retired : x ≡ retiring (idOf s) (view rest)) where
-  pub abandon-full : x .full ≡ true → statusReply b (undone 10) ≡ statusReply b (runBook (abandonLive (at (view b) k)) (view b))
+  pub abandon-full : x .full ≡ true → statusReply b (undone refusals.full) ≡ statusReply b (runBook (abandonLive (at (view b) k)) (view b))
   unfolding abandonLive withdraw ending
   abandon-full e = ap (statusReply b) (of-read abandonLive (view b) read (sym (full-run b sound (idOf s) gone retired e)))
 

@@ -1,6 +1,7 @@
 // `abandon_attempt`: the submission of a live attempt is removed and retired.
 use book::BookData;
 use book::Token;
+use book::refusals::FULL;
 use book_answers::SubmissionAttemptStatus;
 use part_attempt_answers::live_place;
 use part_attempt_answers::status_done;
@@ -44,7 +45,7 @@ fn abandon_live(b: BookData, k: usize) -> StatusReply
     let rest = remove_submitted(b, id);
     let retired = retire(rest, id);
     if retired.full {
-        return status_refused(b, 10);
+        return status_refused(b, FULL);
     }
     let left = retired.book;
     status_done(left, SubmissionAttemptStatus::Applied)

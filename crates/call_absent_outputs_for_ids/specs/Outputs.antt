@@ -26,6 +26,7 @@ use Rattle.rules.specs.Calls.AbsentOutputsForIds.{absentOutputs, absentOutputsF
 use Rattle.part_coin_lists.specs.declared.Placed.{Placed}
 use Rattle.part_coin_lists.specs.Writing.{PutCoins, Listed, put-none, put-join, encode-coins}
 use Rattle.part_written_answers.specs.Answers.{let-in, turned-away}
+use Rattle.book.specs.Refusals as refusals
 
 -- the absent outputs of a submission, if it is listed
 abbrev pub absentOf : List ℕ → List (List ℕ) → SubmittedTx → List (List ℕ)
@@ -110,12 +111,12 @@ short-of p = omega (arith, p .few, p .listed .count, p .listed .put .short)
 
 -- ---- the answers
 module _ (is absent : List ℕ) (room : ℕ) (m : Book) where
-  pub many-ids : 64 < length is → runBook (absentOutputsForIds is absent room) m ≡ undone 2
+  pub many-ids : 64 < length is → runBook (absentOutputsForIds is absent room) m ≡ undone refusals.badList
   unfolding absentOutputsForIds
   many-ids h = turned-away (λ b. writing room (encodeCoins (absentOfAll is (coinsIn absent) (b .submitted)))) m (ap (λ (t : Bool). t && coinListb absent) (lt-leb (length is) 64 h))
 
   module _ (h : length is ≤ 64) where
-    pub outputs-bad : coinListb absent ≡ false → runBook (absentOutputsForIds is absent room) m ≡ undone 2
+    pub outputs-bad : coinListb absent ≡ false → runBook (absentOutputsForIds is absent room) m ≡ undone refusals.badList
     unfolding absentOutputsForIds
     outputs-bad e = turned-away (λ b. writing room (encodeCoins (absentOfAll is (coinsIn absent) (b .submitted)))) m (ap (λ (t : Bool). t && coinListb absent) (le-leb (length is) 64 h) ∙ e)
 

@@ -15,6 +15,7 @@ use base_coin_string::is_coin_list;
 use base_lists::contains;
 use book::BookData;
 use book::SubmittedTx;
+use book::refusals::BAD_LIST;
 use book_coins::expected_output_coins;
 use part_coin_lists::Placed;
 use part_coin_lists::put_listed;
@@ -66,11 +67,11 @@ pub fn absent_outputs_for_ids_sound(
     ensures { λ r. ⌜ (r ≡ writtenReply b (runBook (absentOutputsForIds (now (ids .entry)) (now (absent .entry)) (length (now (out .entry)))) (view b))) × (now (out .exit) ≡ bufferLeft (now (out .entry)) (runBook (absentOutputsForIds (now (ids .entry)) (now (absent .entry)) (length (now (out .entry)))) (view b))) ⌝ }
 {
     if 64 < ids.len() {
-        return refused_written(b, 2);
+        return refused_written(b, BAD_LIST);
     }
     let whole = is_coin_list(absent);
     if !whole {
-        return refused_written(b, 2);
+        return refused_written(b, BAD_LIST);
     }
     let mut list = [0u8; 18944];
     let p = put_all_absent(&mut list, b, ids, absent);

@@ -25,6 +25,7 @@ use Rattle.part_sound_laws.specs.Holds.{holds-sound, holds-lists}
 use Rattle.part_attempt_answers.specs.Answers.{status-ended, of-read}
 use Rattle.part_attempt_answers.specs.Live.{at}
 use Rattle.part_attempt_answers.specs.Stored.{revise-mark}
+use Rattle.book.specs.Refusals as refusals
 
 -- the attempt of a submission
 abbrev finalised : SubmittedTx → Bool
@@ -45,17 +46,17 @@ acknowledging s = do
   done Applied
 
 module _ (s : SubmittedTx) (m : Book) where
-  unfinalised-run : finalised s ≡ false → undone 6 ≡ runBook (acknowledgeLive s) m
+  unfinalised-run : finalised s ≡ false → undone refusals.notFinalized ≡ runBook (acknowledgeLive s) m
   unfolding acknowledgeLive run
-  unfinalised-run e = sym (ap (λ (t : Bool). runBook (cond (not t) (undo 6) (cond (eqs (currentFingerprint (s .entry)) (final s)) (acknowledging s) (undo 8))) m) e)
+  unfinalised-run e = sym (ap (λ (t : Bool). runBook (cond (not t) (undo refusals.notFinalized) (cond (eqs (currentFingerprint (s .entry)) (final s)) (acknowledging s) (undo refusals.staleVariant))) m) e)
 
-  tested : {t : Bool} → finalised s ≡ true → eqs (currentFingerprint (s .entry)) (final s) ≡ t → runBook (acknowledgeLive s) m ≡ runBook (cond t (acknowledging s) (undo 8)) m
+  tested : {t : Bool} → finalised s ≡ true → eqs (currentFingerprint (s .entry)) (final s) ≡ t → runBook (acknowledgeLive s) m ≡ runBook (cond t (acknowledging s) (undo refusals.staleVariant)) m
   unfolding acknowledgeLive
   tested e q =
-      ap (λ (x : Bool). runBook (cond (not x) (undo 6) (cond (eqs (currentFingerprint (s .entry)) (final s)) (acknowledging s) (undo 8))) m) e
-      ∙ ap (λ (x : Bool). runBook (cond x (acknowledging s) (undo 8)) m) q
+      ap (λ (x : Bool). runBook (cond (not x) (undo refusals.notFinalized) (cond (eqs (currentFingerprint (s .entry)) (final s)) (acknowledging s) (undo refusals.staleVariant))) m) e
+      ∙ ap (λ (x : Bool). runBook (cond x (acknowledging s) (undo refusals.staleVariant)) m) q
 
-  other-run : finalised s ≡ true → eqs (currentFingerprint (s .entry)) (final s) ≡ false → undone 8 ≡ runBook (acknowledgeLive s) m
+  other-run : finalised s ≡ true → eqs (currentFingerprint (s .entry)) (final s) ≡ false → undone refusals.staleVariant ≡ runBook (acknowledgeLive s) m
   unfolding run
   other-run e q = sym (tested e q)
 
@@ -68,11 +69,11 @@ module _ (b : BookData) (sound : soundb b ≡ true) (k : ℕ) (within : k < leng
       (sym (revise-mark (view b) k (holds-lists (holds-sound b sound) .ids) within (acknowledge (final (at (view b) k))) slotsAside))
 
   module _ {s : SubmittedTx} (read : s ≡ at (view b) k) where
-    pub acknowledge-unfinalised : finalised s ≡ false → statusReply b (undone 6) ≡ statusReply b (runBook (acknowledgeLive (at (view b) k)) (view b))
+    pub acknowledge-unfinalised : finalised s ≡ false → statusReply b (undone refusals.notFinalized) ≡ statusReply b (runBook (acknowledgeLive (at (view b) k)) (view b))
     acknowledge-unfinalised e = ap (statusReply b) (of-read acknowledgeLive (view b) read (unfinalised-run s (view b) e))
 
     pub acknowledge-other : finalised s ≡ true → eqs (currentFingerprint (s .entry)) (final s) ≡ false
-        → statusReply b (undone 8) ≡ statusReply b (runBook (acknowledgeLive (at (view b) k)) (view b))
+        → statusReply b (undone refusals.staleVariant) ≡ statusReply b (runBook (acknowledgeLive (at (view b) k)) (view b))
     acknowledge-other e q = ap (statusReply b) (of-read acknowledgeLive (view b) read (other-run s (view b) e q))
 
     acknowledge-run : finalised s ≡ true → eqs (currentFingerprint (s .entry)) (final s) ≡ true

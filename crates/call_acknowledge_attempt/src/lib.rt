@@ -3,6 +3,8 @@ use base_lists::same32;
 use book::BookData;
 use book::SubmittedTx;
 use book::Token;
+use book::refusals::NOT_FINALIZED;
+use book::refusals::STALE_VARIANT;
 use book_answers::SubmissionAttemptStatus;
 use part_attempt_answers::live_place;
 use part_attempt_answers::status_done;
@@ -49,14 +51,14 @@ fn acknowledge_live(mut b: BookData, k: usize) -> StatusReply
     let s = b.submitted[k];
     let a = s.slots.active_attempt.attempt;
     if !a.finalized_variant_fingerprint.present {
-        return status_refused(b, 6);
+        return status_refused(b, NOT_FINALIZED);
     }
     let e = s.entry;
     let f = resolved_variant_fingerprint(a);
     let current = current_variant_fingerprint(e);
     let same = same32(&current, &f);
     if !same {
-        return status_refused(b, 8);
+        return status_refused(b, STALE_VARIANT);
     }
     let id = e.id;
     let next = acknowledged_aside(s, f);

@@ -22,6 +22,7 @@ use Rattle.rules.specs.Calls.CausallyRolledBackIds.{rolledBack, causallyRolledB
 use Rattle.part_ids.specs.IdLaws.{counted16, list-is}
 use Rattle.part_replies.specs.Reply.{idsReply}
 use Rattle.part_replies.specs.declared.CallAnswer.the-variants.{Done}
+use Rattle.book.specs.Refusals as refusals
 
 abbrev pub isRolledBack : List (List ℕ) → List (List ℕ) → SubmittedTx → Bool
 isRolledBack absent inputs t = rolledBack absent inputs (t .entry)
@@ -56,12 +57,12 @@ module _ (absent inputs : List ℕ) where
   answer m = rising (rolledBackIds (coinsIn absent) (idsIn inputs) m)
 
   abbrev by-doors : Book → Bool → Outcome Book (List ℕ)
-  by-doors m t = runBook (cond t (look (λ b. done (answer b))) (undo 2)) m
+  by-doors m t = runBook (cond t (look (λ b. done (answer b))) (undo refusals.badList)) m
 
   pub lists-told : {c l t : Bool} → c ≡ coinListb absent → l ≡ idListb inputs → (c && l) ≡ t → doors ≡ t
   lists-told p q h = sym (λ j. p j && q j) ∙ h
 
-  pub rolled-back-shut : (m : Book) → doors ≡ false → undone 2 ≡ runBook (causallyRolledBackIds absent inputs) m
+  pub rolled-back-shut : (m : Book) → doors ≡ false → undone refusals.badList ≡ runBook (causallyRolledBackIds absent inputs) m
   unfolding run causallyRolledBackIds
   rolled-back-shut m e = sym (ap (by-doors m) e)
 

@@ -13,6 +13,7 @@ use base_coin_string::is_coin_list;
 use base_coin_string::is_id_list;
 use book::BookData;
 use book::Ids16;
+use book::refusals::BAD_LIST;
 use part_chain_tests::rolled_back;
 use part_ids::empty16;
 use part_ids::push16;
@@ -53,7 +54,7 @@ pub fn causally_rolled_back_ids_sound(b: BookData, absent: &[u8], inputs: &[u8])
     let live = is_id_list(inputs);
     let ok = coins & live;
     if !ok {
-        return refused_ids(b, 2);
+        return refused_ids(b, BAD_LIST);
     }
     let ids = widened(rising16(rolled_back_ids(b, absent, inputs)));
     IdsReply {

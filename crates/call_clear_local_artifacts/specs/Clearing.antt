@@ -32,6 +32,7 @@ use Rattle.part_withdraw.specs.IdLaws.{ids-fit}
 use Rattle.part_withdraw.specs.After.{then-full, then-on}
 use Rattle.part_withdraw.specs.Withdrawal.{Withdrawal}
 use Rattle.part_withdraw.specs.declared.Withdrawn.{Withdrawn}
+use Rattle.book.specs.Refusals as refusals
 
 pub all-fit : (m : Book) → Fits m → length (rising (map idOf (m .submitted))) ≤ 16
 all-fit m f = let l = rising-length (map idOf (m .submitted)) in let k = ids-fit m f in omega arith
@@ -44,7 +45,7 @@ module _ (b : BookData) {gone : Ids16} (g : gone ≡ ids16 (rising (map idOf (vi
   unfolding clearLocalArtifacts run
   clear-run = refl
 
-  pub clear-full : w .full ≡ true → doneReply b (undone 10) ≡ doneReply b (runBook clearLocalArtifacts (view b))
+  pub clear-full : w .full ≡ true → doneReply b (undone refusals.full) ≡ doneReply b (runBook clearLocalArtifacts (view b))
   clear-full f = ap (doneReply b) (sym (clear-run ∙ then-full b (rising (map idOf (view b .submitted))) g h clearing f))
 
   module _ (f : w .full ≡ false) {u : BookData} (e : u ≡ back (noteBook unqueueAll (view (w .book)))) where

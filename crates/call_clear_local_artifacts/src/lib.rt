@@ -1,6 +1,7 @@
 // `clear_local_artifacts`: all submissions are withdrawn, the queue is emptied and the replay epoch ended.
 use book::BookData;
 use book::Ids16;
+use book::refusals::FULL;
 use part_change::clear_pending;
 use part_change::set_epoch;
 use part_ids::rising16;
@@ -38,7 +39,7 @@ pub fn clear_local_artifacts_sound(b: BookData) -> DoneReply
     let left = withdraw_each(b, gone);
     let kept = left.book;
     if left.full {
-        return refused_done(b, 10);
+        return refused_done(b, FULL);
     }
     let unqueued = clear_pending(kept);
     let none = clear();

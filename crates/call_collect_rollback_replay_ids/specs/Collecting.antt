@@ -25,6 +25,7 @@ use Rattle.part_lookup.specs.Normal.{sound-normal}
 use Rattle.part_offer.specs.Ends.{Reached, Ends, ends-as, bind-on, bind-turn}
 use Rattle.part_offer.specs.Each.{Each}
 use Rattle.call_collect_rollback_replay_ids.specs.Marking.{markOne}
+use Rattle.book.specs.Refusals as refusals
 
 -- "all named ones": the retained ids that the list has, in retained order
 abbrev pub namedIn : List ℕ → Book → List ℕ
@@ -83,13 +84,13 @@ module _ (is : List ℕ) (m : Book) where
   abbrev rounds : Rule (Unit {0})
   rounds = book >>= (λ b. markEach b (namedIn is b) >>= (λ _. offerAgain (namedIn is b)))
 
-  pub collect-long : 64 < length is → runBook (collectRollbackReplayIds is) m ≡ undone 2
+  pub collect-long : 64 < length is → runBook (collectRollbackReplayIds is) m ≡ undone refusals.badList
   unfolding collectRollbackReplayIds idsOk run
-  collect-long l = ap (λ (t : Bool). runBook (cond t rounds (undo 2)) m) (lt-leb (length is) 64 l)
+  collect-long l = ap (λ (t : Bool). runBook (cond t rounds (undo refusals.badList)) m) (lt-leb (length is) 64 l)
 
   collect-within : length is ≤ 64 → runBook (collectRollbackReplayIds is) m ≡ runBook (markEach m (namedIn is m) >>= (λ _. offerAgain (namedIn is m))) m
   unfolding collectRollbackReplayIds idsOk run
-  collect-within l = ap (λ (t : Bool). runBook (cond t rounds (undo 2)) m) (le-leb (length is) 64 l)
+  collect-within l = ap (λ (t : Bool). runBook (cond t rounds (undo refusals.badList)) m) (le-leb (length is) 64 l)
 
   -- by the answer of the offers, the cells of the ids offered, which are the named ones, and of the fresh ones, and the book after the marks
   pub collect-taken : length is ≤ 64 → {offered fresh : Ids16} {q : BookData} (t : Bool) (r : BookData) → Ends tt t r (runBook (offerAgain (list16 offered)) (view q))

@@ -5,6 +5,7 @@ use book::DeliveryTrigger;
 use book::Ids16;
 use book::SubmissionDeliveryGoal;
 use book::SubmissionId;
+use book::refusals::BAD_LIST;
 use part_change::set_epoch;
 use part_change::store_submitted;
 use part_ids::among16;
@@ -139,7 +140,7 @@ pub fn collect_rollback_replay_ids_sound(b: BookData, ids: &[u64]) -> DoneReply
     ensures { λ r. ⌜ r ≡ doneReply b (runBook (collectRollbackReplayIds (now (ids .entry))) (view b)) ⌝ }
 {
     if ids.len() > 64 {
-        return refused(b, 2);
+        return refused(b, BAD_LIST);
     }
     let named = named_ids(b, ids);
     let fresh = unmarked(b, named);

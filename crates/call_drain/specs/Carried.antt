@@ -22,6 +22,7 @@ use Rattle.part_plan.specs.declared.SubmittedPlace.{SubmittedPlace}
 use Rattle.part_plan.specs.declared.SubmissionPlanDelta.{SubmissionPlanDelta}
 use Rattle.part_change.specs.Parts.{putSubmitted}
 use Rattle.call_drain.specs.ListLaws.{putAt}
+use Rattle.book.specs.Refusals as refusals
 
 -- ---- the lists
 -- t in the place p, and the numbers with it
@@ -66,8 +67,8 @@ drainedIn Issued p = p .submission ∷ []
 
 -- what the rules come to where the plan is carried out: 10, nothing is left; 11, the submission is stored
 abbrev pub outcomeBy : PlanAnswer → SubmissionPlanDelta → Memory → Book → Outcome Book Memory
-outcomeBy Full p a m = undone 10
-outcomeBy Exhausted p a m = stopped (placed (p .place) (p .tx) m) [] 11
+outcomeBy Full p a m = undone refusals.full
+outcomeBy Exhausted p a m = stopped (placed (p .place) (p .tx) m) [] refusals.noToken
 outcomeBy (Planned k) p a m = ended (bookBy k p m) (drainedIn k p) (memoryBy k p a)
 
 -- ---- the cells

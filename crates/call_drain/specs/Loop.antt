@@ -40,6 +40,7 @@ use Rattle.call_drain.specs.Planned.{candidatePlan}
 use Rattle.call_drain.specs.Carried.{placed, bookBy, memoryBy, drainedIn, outcomeBy, InPlace, FitsBy, AnswerFits, storedIn, carriedBy, isStoring, stored-fits}
 use Rattle.call_drain.specs.Answers.{answersOf, answersBy, finishedWith, Room, room, Few, few-more, after-is}
 use Rattle.call_drain.specs.Rules.{Carries, one-carries}
+use Rattle.book.specs.Refusals as refusals
 
 -- ---- the cells that a plan leaves
 module _ (b : BookData) (h : Normal b) where
@@ -85,9 +86,9 @@ whole b = drainReply b (runBook drain (view b))
 
 -- what a candidate that is not planned leaves: 10, the book as it was; 11, the book so far with its submission
 abbrev pub awayBy : PlanAnswer → SubmissionPlanDelta → BookData → BookData → DrainReply
-awayBy Full p b book = drainReply b (undone 10)
-awayBy Exhausted p b book = drainReply (storedIn p book) (undone 11)
-awayBy (Planned k) p b book = drainReply b (undone 10)
+awayBy Full p b book = drainReply b (undone refusals.full)
+awayBy Exhausted p b book = drainReply (storedIn p book) (undone refusals.noToken)
+awayBy (Planned k) p b book = drainReply b (undone refusals.full)
 
 abbrev pub isPlanned : PlanAnswer → Bool
 isPlanned Full = false
@@ -185,7 +186,7 @@ module _ {b book : BookData} {answers : DrainAnswers} {i : ℕ} (v : Running b b
   turned-away Exhausted e h =
       let f = subst (λ (y : PlanAnswer). AnswerFits y p (view book)) e plan-fits in
       let q : storedIn p book ≡ back (placed (p .place) (p .tx) (v .m)) = stored-is book (holds-normal (v .holds)) p f ∙ ap (λ (m : Book). back (placed (p .place) (p .tx) m)) (holds-view (v .holds)) in
-      ap (λ (y : BookData). drainReply y (undone 11)) q
+      ap (λ (y : BookData). drainReply y (undone refusals.noToken)) q
       ∙ sym (cut ∙ ap (λ (y : PlanAnswer). drainReply b (logged (v .xs) (followed (λ x. x) onBook more (outcomeBy y p (v .a) (v .m))))) e)
   turned-away (Planned k) e h = absurd (true≢false h)
 

@@ -54,6 +54,7 @@ use Rattle.part_plan.specs.Plan.{failing, storing, failureAt, tokenTaken, issue
 use Rattle.call_drain.specs.ListLaws.{putAt, put-set, put-end, put-within, get-put, set-put}
 use Rattle.call_drain.specs.Planned.{placeOn, foundPlan, unnamedPlan, planBy, candidatePlan}
 use Rattle.call_drain.specs.Carried.{placed, withdrawn, outcomeBy, InPlace, AnswerFits}
+use Rattle.book.specs.Refusals as refusals
 
 -- the rules come to what carrying out the plan q makes, and q can be carried out
 pub record Carries (o : Outcome Book Memory) (q : SubmissionPlanDelta) (a : Memory) (m : Book) : Type 0 where
@@ -118,11 +119,11 @@ module _ (p : SubmittedPlace) (t : SubmittedTx) (g : SubmissionDeliveryGoal) (a 
   unfolding deliver deliverPlan run
   deliver-carries = by-emitted (elemb (idOf t) (a .emitted))
     where
-      by-token : (u : Bool) → Carries (runBook (cond u (stop 11) (act (emit (idOf t) g) (done (withEmitted (idOf t) a)))) (placed p t m)) (cond u (storing Exhausted p t) (issuePlan p t g)) a m
+      by-token : (u : Bool) → Carries (runBook (cond u (stop refusals.noToken) (act (emit (idOf t) g) (done (withEmitted (idOf t) a)))) (placed p t m)) (cond u (storing Exhausted p t) (issuePlan p t g)) a m
       by-token true = record { outcome = refl; fits = fits }
       by-token false = issue-carries
 
-      by-emitted : (u : Bool) → Carries (runBook (cond u (done a) (look (λ b. cond (eqb (b .nextToken .0) last64) (stop 11) (act (emit (idOf t) g) (done (withEmitted (idOf t) a)))))) (placed p t m))
+      by-emitted : (u : Bool) → Carries (runBook (cond u (done a) (look (λ b. cond (eqb (b .nextToken .0) last64) (stop refusals.noToken) (act (emit (idOf t) g) (done (withEmitted (idOf t) a)))))) (placed p t m))
           (cond u (storing (Planned Stored) p t) (cond (eqb (p .«next_token» .0) last64) (storing Exhausted p t) (issuePlan p t g))) a m
       by-emitted true = record { outcome = refl; fits = fits }
       by-emitted false = by-token (eqb (p .«next_token» .0) last64)

@@ -15,9 +15,10 @@ use Rattle.part_lookup.specs.Normal.{sound-normal}
 use Rattle.part_change.specs.Changes.{retiring}
 use Rattle.part_change.specs.declared.Retired.{Retired}
 use Rattle.part_sound_laws.specs.RetireLaws.{retire-book, run-full, run-retired}
+use Rattle.book.specs.Refusals as refusals
 
 module _ (b : BookData) (s : soundb b ≡ true) (i : ℕ) {x : Retired} (e : x ≡ retiring i (view b)) where
-  pub emit-full : x .full ≡ true → doneReply b (undone 10) ≡ doneReply b (runBook (emitRetirement i) (view b))
+  pub emit-full : x .full ≡ true → doneReply b (undone refusals.full) ≡ doneReply b (runBook (emitRetirement i) (view b))
   unfolding emitRetirement
   emit-full f = ap (doneReply b) (sym (run-full i (view b) (sound-normal b s .fits) e (turn (done tt)) f))
 

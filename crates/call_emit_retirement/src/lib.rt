@@ -8,6 +8,7 @@ ghost use Rattle.rules.specs.Calls.EmitRetirement.{emitRetirement};
 ghost use Rattle.part_replies.specs.Reply.{doneReply};
 use book::BookData;
 use book::SubmissionId;
+use book::refusals::FULL;
 use part_change::retire;
 use part_replies::CallAnswer;
 use part_replies::DoneReply;
@@ -20,7 +21,7 @@ pub fn emit_retirement_sound(b: BookData, id: SubmissionId) -> DoneReply
 {
     let next = retire(b, id);
     if next.full {
-        return refused_done(b, 10);
+        return refused_done(b, FULL);
     }
     let retired = next.book;
     DoneReply {

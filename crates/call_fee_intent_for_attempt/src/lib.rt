@@ -2,6 +2,7 @@
 use book::BookData;
 use book::SubmissionFeeIntent;
 use book::Token;
+use book::refusals::UNKNOWN_TOKEN;
 use part_attempt_answers::is_never_issued;
 use part_attempt_answers::live_place;
 use part_lookup::AttemptPlace;
@@ -40,7 +41,7 @@ fn fee_intent_inactive(b: BookData, place: AttemptPlace) -> FeeIntentReply
 {
     let never = is_never_issued(place);
     if never {
-        return fee_intent_refused(b, 4);
+        return fee_intent_refused(b, UNKNOWN_TOKEN);
     }
     FeeIntentReply {
         answer: CallAnswer::Done,

@@ -21,6 +21,7 @@ use Rattle.call_finalize_attempt.specs.Ready.{Standing}
 use Rattle.call_finalize_attempt.specs.Decision.{decision, byTests}
 use Rattle.call_finalize_attempt.specs.Finalizing.{finalize-answer, attach-answer}
 use Rattle.call_finalize_attempt.specs.Tests.{fee-attached, fee-unused, fee-current, fee-unasked}
+use Rattle.book.specs.Refusals as refusals
 
 -- the reply where the submission is stored at its place
 abbrev pub stored : BookData → ℕ → Decision → FinalizeReply
@@ -28,7 +29,7 @@ stored b k d = record { answer = Done; present = true; finalized = d .last; book
 
 module _ (b : BookData) (k : ℕ) (s : SubmittedTx) (h : Standing b k s) (source : SubmissionFeeSource) (j : SpendBundle) where
   abbrev reply : Decision → FinalizeReply
-  reply d = cond (d .refused) (finalizeReply b (undone 9)) (stored b k d)
+  reply d = cond (d .refused) (finalizeReply b (undone refusals.unrequestedFee)) (stored b k d)
 
   abbrev ruled : FinalizeReply
   ruled = finalizeReply b (runBook (finalizeWith source j s) (view b))
@@ -44,8 +45,8 @@ module _ (b : BookData) (k : ℕ) (s : SubmittedTx) (h : Standing b k s) (source
   by-decision = by-tests (feeUnresolved (s .entry)) (isJoined source) (isNotRequested source) refl refl refl
 
   module _ {d : Decision} (e : d ≡ decision source j s) where
-    pub decided-refused : d .refused ≡ true → finalizeReply b (undone 9) ≡ ruled
-    decided-refused t = ap {B = FinalizeReply} (λ (x : Bool). cond x (finalizeReply b (undone 9)) (stored b k d)) (sym t) ∙ ap reply e ∙ by-decision
+    pub decided-refused : d .refused ≡ true → finalizeReply b (undone refusals.unrequestedFee) ≡ ruled
+    decided-refused t = ap {B = FinalizeReply} (λ (x : Bool). cond x (finalizeReply b (undone refusals.unrequestedFee)) (stored b k d)) (sym t) ∙ ap reply e ∙ by-decision
 
     pub decided-stored : d .refused ≡ false → stored b k d ≡ ruled
-    decided-stored t = ap {B = FinalizeReply} (λ (x : Bool). cond x (finalizeReply b (undone 9)) (stored b k d)) (sym t) ∙ ap reply e ∙ by-decision
+    decided-stored t = ap {B = FinalizeReply} (λ (x : Bool). cond x (finalizeReply b (undone refusals.unrequestedFee)) (stored b k d)) (sym t) ∙ ap reply e ∙ by-decision

@@ -18,6 +18,7 @@ use Rattle.rules.specs.Calls.Common.{withLive}
 use Rattle.rules.specs.Calls.Finalized.{unusedFee, currentFinal}
 use Rattle.rules.specs.Calls.FinalizeAttempt.{isJoined, isNotRequested, finalizeAs, finalizeWith, finalizeLive, soundSource, finalizeAttempt}
 use Rattle.call_finalize_attempt.specs.Finalizing.{attaching}
+use Rattle.book.specs.Refusals as refusals
 
 -- ---- the joined bundle
 module _ (source : SubmissionFeeSource) (j : SpendBundle) where
@@ -30,11 +31,11 @@ module _ (source : SubmissionFeeSource) (j : SpendBundle) where
   unjoined-zero p e = ap (λ (x : Bool). cond x (soundBundle j) (isZeroBundle j)) (sym e ∙ p)
 
   module _ (t : ℕ) (m : Book) where
-    by-source : {x : Bool} → soundSource source j ≡ x → runBook (finalizeAttempt t source j) m ≡ runBook (cond x (withLive t none (finalizeLive source j)) (undo 3)) m
+    by-source : {x : Bool} → soundSource source j ≡ x → runBook (finalizeAttempt t source j) m ≡ runBook (cond x (withLive t none (finalizeLive source j)) (undo refusals.badValue)) m
     unfolding finalizeAttempt
-    by-source e = ap (λ (x : Bool). runBook (cond x (withLive t none (finalizeLive source j)) (undo 3)) m) e
+    by-source e = ap (λ (x : Bool). runBook (cond x (withLive t none (finalizeLive source j)) (undo refusals.badValue)) m) e
 
-    pub source-unsound : soundSource source j ≡ false → undone 3 ≡ runBook (finalizeAttempt t source j) m
+    pub source-unsound : soundSource source j ≡ false → undone refusals.badValue ≡ runBook (finalizeAttempt t source j) m
     unfolding run
     source-unsound e = sym (by-source e)
 
@@ -50,24 +51,24 @@ module _ (source : SubmissionFeeSource) (j : SpendBundle) (s : SubmittedTx) (m :
   unchanged = eqs (currentFingerprint (s .entry)) (s .slots .«active_attempt» .attempt .«drained_variant_fingerprint»)
 
   by-tests : {a v e : Bool} → finalised ≡ a → validate (s .entry) ≡ v → unchanged ≡ e
-      → runBook (finalizeLive source j s) m ≡ runBook (cond a (undo 5) (cond (not v) (undo 7) (cond e (finalizeWith source j s) (undo 8)))) m
+      → runBook (finalizeLive source j s) m ≡ runBook (cond a (undo refusals.alreadyFinalized) (cond (not v) (undo refusals.invalidSubmission) (cond e (finalizeWith source j s) (undo refusals.staleVariant)))) m
   unfolding finalizeLive
   by-tests {a} {v} p q r =
-      ap (λ (x : Bool). runBook (cond x (undo 5) (cond (not (validate (s .entry))) (undo 7) (cond unchanged (finalizeWith source j s) (undo 8)))) m) p
-      ∙ ap (λ (x : Bool). runBook (cond a (undo 5) (cond (not x) (undo 7) (cond unchanged (finalizeWith source j s) (undo 8)))) m) q
-      ∙ ap (λ (x : Bool). runBook (cond a (undo 5) (cond (not v) (undo 7) (cond x (finalizeWith source j s) (undo 8)))) m) r
+      ap (λ (x : Bool). runBook (cond x (undo refusals.alreadyFinalized) (cond (not (validate (s .entry))) (undo refusals.invalidSubmission) (cond unchanged (finalizeWith source j s) (undo refusals.staleVariant)))) m) p
+      ∙ ap (λ (x : Bool). runBook (cond a (undo refusals.alreadyFinalized) (cond (not x) (undo refusals.invalidSubmission) (cond unchanged (finalizeWith source j s) (undo refusals.staleVariant)))) m) q
+      ∙ ap (λ (x : Bool). runBook (cond a (undo refusals.alreadyFinalized) (cond (not v) (undo refusals.invalidSubmission) (cond x (finalizeWith source j s) (undo refusals.staleVariant)))) m) r
 
-  pub live-finalised : finalised ≡ true → undone 5 ≡ runBook (finalizeLive source j s) m
+  pub live-finalised : finalised ≡ true → undone refusals.alreadyFinalized ≡ runBook (finalizeLive source j s) m
   unfolding run
   live-finalised p = sym (by-tests p refl refl)
 
   module _ (p : finalised ≡ false) where
-    pub live-invalid : validate (s .entry) ≡ false → undone 7 ≡ runBook (finalizeLive source j s) m
+    pub live-invalid : validate (s .entry) ≡ false → undone refusals.invalidSubmission ≡ runBook (finalizeLive source j s) m
     unfolding run
     live-invalid q = sym (by-tests p q refl)
 
     module _ (q : validate (s .entry) ≡ true) where
-      pub live-other : unchanged ≡ false → undone 8 ≡ runBook (finalizeLive source j s) m
+      pub live-other : unchanged ≡ false → undone refusals.staleVariant ≡ runBook (finalizeLive source j s) m
       unfolding run
       live-other r = sym (by-tests p q r)
 
@@ -82,12 +83,12 @@ module _ (source : SubmissionFeeSource) (j : SpendBundle) (s : SubmittedTx) (m :
   current = finalizeAs (idOf s) (currentFinal (s .slots .«active_attempt» .attempt .goal) (s .entry))
 
   by-fee : {o t n : Bool} → feeUnresolved (s .entry) ≡ o → isJoined source ≡ t → isNotRequested source ≡ n
-      → runBook (finalizeWith source j s) m ≡ runBook (cond o (cond t (attaching j s) unused) (cond n current (undo 9))) m
+      → runBook (finalizeWith source j s) m ≡ runBook (cond o (cond t (attaching j s) unused) (cond n current (undo refusals.unrequestedFee))) m
   unfolding finalizeWith
   by-fee {o} {t} p q r =
-      ap (λ (x : Bool). runBook (cond x (cond (isJoined source) (attaching j s) unused) (cond (isNotRequested source) current (undo 9))) m) p
-      ∙ ap (λ (x : Bool). runBook (cond o (cond x (attaching j s) unused) (cond (isNotRequested source) current (undo 9))) m) q
-      ∙ ap (λ (x : Bool). runBook (cond o (cond t (attaching j s) unused) (cond x current (undo 9))) m) r
+      ap (λ (x : Bool). runBook (cond x (cond (isJoined source) (attaching j s) unused) (cond (isNotRequested source) current (undo refusals.unrequestedFee))) m) p
+      ∙ ap (λ (x : Bool). runBook (cond o (cond x (attaching j s) unused) (cond (isNotRequested source) current (undo refusals.unrequestedFee))) m) q
+      ∙ ap (λ (x : Bool). runBook (cond o (cond t (attaching j s) unused) (cond x current (undo refusals.unrequestedFee))) m) r
 
   pub fee-attached : feeUnresolved (s .entry) ≡ true → isJoined source ≡ true → runBook (attaching j s) m ≡ runBook (finalizeWith source j s) m
   fee-attached p q = sym (by-fee p q refl)
@@ -98,6 +99,6 @@ module _ (source : SubmissionFeeSource) (j : SpendBundle) (s : SubmittedTx) (m :
   pub fee-current : feeUnresolved (s .entry) ≡ false → isNotRequested source ≡ true → runBook current m ≡ runBook (finalizeWith source j s) m
   fee-current p r = sym (by-fee p refl r)
 
-  pub fee-unasked : feeUnresolved (s .entry) ≡ false → isNotRequested source ≡ false → undone 9 ≡ runBook (finalizeWith source j s) m
+  pub fee-unasked : feeUnresolved (s .entry) ≡ false → isNotRequested source ≡ false → undone refusals.unrequestedFee ≡ runBook (finalizeWith source j s) m
   unfolding run
   fee-unasked p r = sym (by-fee p refl r)

@@ -7,6 +7,12 @@ use book::SubmissionDeliveryGoal;
 use book::SubmittedEntry;
 use book::SubmittedTx;
 use book::Token;
+use book::refusals::ALREADY_FINALIZED;
+use book::refusals::BAD_VALUE;
+use book::refusals::INVALID_SUBMISSION;
+use book::refusals::STALE_VARIANT;
+use book::refusals::UNKNOWN_TOKEN;
+use book::refusals::UNREQUESTED_FEE;
 use book_answers::FeeSourceDisposition;
 use book_answers::FinalizedSubmission;
 use book_answers::SubmissionFeeSource;
@@ -98,7 +104,7 @@ fn finalize_inactive(b: BookData, place: AttemptPlace) -> FinalizeReply
 {
     let never = is_never_issued(place);
     if never {
-        return finalize_refused(b, 4);
+        return finalize_refused(b, UNKNOWN_TOKEN);
     }
     FinalizeReply {
         answer: CallAnswer::Done,
@@ -259,7 +265,7 @@ pub fn finalize_attempt_sound(
 {
     let sound = is_sound_source(source, joined);
     if !sound {
-        return finalize_refused(b, 3);
+        return finalize_refused(b, BAD_VALUE);
     }
     let place = find_attempt(b, t);
     let live = live_place(place);
@@ -282,22 +288,22 @@ fn finalize_live(
     let s = b.submitted[k];
     let a = s.slots.active_attempt.attempt;
     if a.finalized_variant_fingerprint.present {
-        return finalize_refused(b, 5);
+        return finalize_refused(b, ALREADY_FINALIZED);
     }
     let e = s.entry;
     let valid = validate(e);
     if !valid {
-        return finalize_refused(b, 7);
+        return finalize_refused(b, INVALID_SUBMISSION);
     }
     let f = current_variant_fingerprint(e);
     let drained = a.drained_variant_fingerprint;
     let same = same32(&f, &drained);
     if !same {
-        return finalize_refused(b, 8);
+        return finalize_refused(b, STALE_VARIANT);
     }
     let d = decide(s, f, source, joined);
     if d.refused {
-        return finalize_refused(b, 9);
+        return finalize_refused(b, UNREQUESTED_FEE);
     }
     let last = d.last;
     let next = d.next;

@@ -1,6 +1,7 @@
 // `queue`: a delivery is put into the queue.
 use book::BookData;
 use book::PendingDelivery;
+use book::refusals::BAD_VALUE;
 use book_sound::is_sound_delivery;
 use part_offer::enqueue;
 use part_offer::refused;
@@ -21,7 +22,7 @@ pub fn queue_sound(b: BookData, d: PendingDelivery) -> DoneReply
 {
     let sound = is_sound_delivery(d);
     if !sound {
-        return refused(b, 3);
+        return refused(b, BAD_VALUE);
     }
     settled(b, enqueue(b, d))
 }

@@ -22,6 +22,7 @@ use Rattle.rules.specs.Calls.Offer.{offer, goalFor}
 use Rattle.rules.specs.Calls.QueueRebroadcastEpoch.{rebroadcastOf, rebroadcast, queueRebroadcastEpoch}
 use Rattle.part_offer.specs.Ends.{bind-turn}
 use Rattle.part_offer.specs.Each.{Each}
+use Rattle.book.specs.Refusals as refusals
 
 -- one id of the list
 abbrev pub rebroadcastOne : DeliveryTrigger → ℕ → Rule (Unit {0})
@@ -46,10 +47,10 @@ module _ (b : BookData) (trigger : DeliveryTrigger) (i : ℕ) where
       ∙ ap (λ (j : ℕ). runBook (offer j trigger (goalFor (t .entry))) (view b)) (eqb-true (idOf t) i (first-passes (hasId i) (view b .submitted) zeroSubmitted f))
 
 module _ (is : List ℕ) (trigger : DeliveryTrigger) (m : Book) where
-  pub epoch-long : 64 < length is → runBook (queueRebroadcastEpoch is trigger) m ≡ undone 2
+  pub epoch-long : 64 < length is → runBook (queueRebroadcastEpoch is trigger) m ≡ undone refusals.badList
   unfolding queueRebroadcastEpoch idsOk run
-  epoch-long l = ap (λ (t : Bool). runBook (cond t (rebroadcast trigger is) (undo 2)) m) (lt-leb (length is) 64 l)
+  epoch-long l = ap (λ (t : Bool). runBook (cond t (rebroadcast trigger is) (undo refusals.badList)) m) (lt-leb (length is) 64 l)
 
   pub epoch-taken : length is ≤ 64 → runBook (queueRebroadcastEpoch is trigger) m ≡ runBook (rebroadcast trigger is) m
   unfolding queueRebroadcastEpoch idsOk
-  epoch-taken l = ap (λ (t : Bool). runBook (cond t (rebroadcast trigger is) (undo 2)) m) (le-leb (length is) 64 l)
+  epoch-taken l = ap (λ (t : Bool). runBook (cond t (rebroadcast trigger is) (undo refusals.badList)) m) (le-leb (length is) 64 l)

@@ -2,6 +2,7 @@
 use book::BookData;
 use book::DeliveryTrigger;
 use book::SubmissionId;
+use book::refusals::BAD_LIST;
 use part_lookup::Place;
 use part_lookup::position_of;
 use part_lookup::submitted_at;
@@ -68,7 +69,7 @@ pub fn queue_rebroadcast_epoch_sound(
     ensures { λ r. ⌜ r ≡ doneReply b (runBook (queueRebroadcastEpoch (now (ids .entry)) trigger) (view b)) ⌝ }
 {
     if ids.len() > 64 {
-        return refused(b, 2);
+        return refused(b, BAD_LIST);
     }
     settled(b, rebroadcast(b, ids, trigger))
 }

@@ -37,6 +37,7 @@ use Rattle.part_change.specs.ChangeLaws.{unqueued-fits, revise-at}
 use Rattle.part_change.specs.declared.Retired.{Retired}
 use Rattle.part_sound_laws.specs.Holds.{Holds, holds-sound, holds-view, holds-lists, holds-soundb, holds-quiet, sound-stepped}
 use Rattle.part_sound_laws.specs.RetireLaws.{retire-limit, retire-book}
+use Rattle.book.specs.Refusals as refusals
 
 -- the terminality anew, and the live attempt set aside
 abbrev pub haltedTx : SubmissionChainTerminality → SubmittedTx → SubmittedTx
@@ -54,7 +55,7 @@ pub record Kept (r : Rule (Unit {0})) (k : ℕ) (b out : BookData) : Type 0 wher
 
 pub record Judged (r : Rule (Unit {0})) (k : ℕ) (b : BookData) (x : Retired) : Type 0 where
   pub kept : x .full ≡ false → Kept r k b (x .book)
-  pub over : x .full ≡ true → runBook r (view b) ≡ undone 10
+  pub over : x .full ≡ true → runBook r (view b) ≡ undone refusals.full
 
 -- a judgement that stores at k and keeps the book sound
 pub kept-store : (r : Rule (Unit {0})) (k : ℕ) (b : BookData) {out : BookData} {m : Book} (u : SubmittedTx)
@@ -90,7 +91,7 @@ module _ (i : ℕ) (c : SubmissionChainTerminality) (m : Book) where
   abbrev by-room : Bool → Outcome Book (Unit {0})
   by-room t = logged [] (logged [] (logged [] (logged [] (guarded t (logged [] (ended retiredBook [] tt))))))
 
-  halt-over : full retiredBook ≡ true → runBook (halt i c) m ≡ undone 10
+  halt-over : full retiredBook ≡ true → runBook (halt i c) m ≡ undone refusals.full
   unfolding run halt onBook
   halt-over e = ap by-room e
 

@@ -25,6 +25,7 @@ use Rattle.part_replies.specs.declared.CallAnswer.the-variants.{Done}
 use Rattle.part_change.specs.declared.Retired.{Retired}
 use Rattle.part_sound_laws.specs.Acts.{logged-none, run-turn}
 use Rattle.call_reconcile_chain_terminality.specs.Halt.{reactivateRule, Judged}
+use Rattle.book.specs.Refusals as refusals
 
 -- a test that was made of an element read, of the element as it stands in the list
 pub test-of : {A : Type 0} (p : A → Bool) {x y : A} {t r : Bool} → x ≡ y → r ≡ p x → r ≡ t → p y ≡ t
@@ -77,7 +78,7 @@ module _ (observed spent : List (List ℕ)) (reorg : Bool) (ids : List ℕ) wher
         ∙ each-step (getD (view out .submitted) k zeroSubmitted) (drop (k + 1) (view out .submitted)) (view out)
 
     module _ (x : Retired) (h : k < length (view out .submitted)) (j : Judged (judge observed spent reorg ids (getD (view out .submitted) k zeroSubmitted)) k out x) where
-      pub left-over : x .full ≡ true → w ≡ undone 10
+      pub left-over : x .full ≡ true → w ≡ undone refusals.full
       left-over f = next h ∙ ap (followed (λ b. b) onBook (λ _. endTurn >>= (λ _. judgeEach observed spent reorg ids (drop (k + 1) (view out .submitted))))) (j .over f)
 
       pub left-turn : x .full ≡ false → Left w (k + 1) (x .book)
@@ -109,12 +110,12 @@ module _ (observed spent : List ℕ) (reorg : Bool) (ids : List ℕ) (m : Book) 
   lists-told p q h = sym (λ j. p j && q j && leb (length ids) 64) ∙ h
 
   abbrev by-doors : Bool → Outcome Book (Unit {0})
-  by-doors t = runBook (cond t (look (λ b. judgeEach (coinsIn observed) (idsIn spent) reorg ids (b .submitted))) (undo 2)) m
+  by-doors t = runBook (cond t (look (λ b. judgeEach (coinsIn observed) (idsIn spent) reorg ids (b .submitted))) (undo refusals.badList)) m
 
   pub reconcile-open : doors ≡ true → runBook (judgeEach (coinsIn observed) (idsIn spent) reorg ids (m .submitted)) m ≡ runBook (reconcileChainTerminality observed spent reorg ids) m
   unfolding run reconcileChainTerminality
   reconcile-open e = sym (ap by-doors e)
 
-  pub reconcile-shut : doors ≡ false → undone 2 ≡ runBook (reconcileChainTerminality observed spent reorg ids) m
+  pub reconcile-shut : doors ≡ false → undone refusals.badList ≡ runBook (reconcileChainTerminality observed spent reorg ids) m
   unfolding run reconcileChainTerminality
   reconcile-shut e = sym (ap by-doors e)

@@ -21,6 +21,8 @@ use book::BookData;
 use book::SubmissionChainTerminality;
 use book::SubmissionId;
 use book::SubmittedTx;
+use book::refusals::BAD_LIST;
+use book::refusals::FULL;
 use part_chain_tests::input_spent;
 use part_chain_tests::is_landed;
 use part_chain_tests::output_observed;
@@ -147,7 +149,7 @@ fn judge_each(
     while k < b.submitted_count {
         next = judge(next.book, k, observed, spent, reorg, rolled_back);
         if next.full {
-            return refused_done(b, 10);
+            return refused_done(b, FULL);
         }
         k += 1;
     }
@@ -172,7 +174,7 @@ pub fn reconcile_chain_terminality_sound(
     let ids = is_id_list(spent);
     let ok = coins & ids & (rolled_back.len() <= 64);
     if !ok {
-        return refused_done(b, 2);
+        return refused_done(b, BAD_LIST);
     }
     judge_each(b, observed, spent, reorg, rolled_back)
 }

@@ -24,6 +24,7 @@ use Rattle.part_coin_lists.specs.Coins.{coinsOf, insertAll, InsertedInputs, ris
 use Rattle.part_coin_lists.specs.ListLaws.{fold-append}
 use Rattle.part_coin_lists.specs.Writing.{encode-coins}
 use Rattle.part_written_answers.specs.Answers.{let-in, turned-away}
+use Rattle.book.specs.Refusals as refusals
 
 abbrev pub inputsOf : SubmittedTx → List (List ℕ)
 inputsOf t = inputCoins (t .entry .intent .«base_bundle»)
@@ -88,7 +89,7 @@ to-reconcile outputs m = refl
 
 -- ---- the answers
 module _ (outputs : List ℕ) (room : ℕ) (m : Book) where
-  pub inputs-bad : coinListb outputs ≡ false → runBook (reconciliationInputCoins outputs room) m ≡ undone 2
+  pub inputs-bad : coinListb outputs ≡ false → runBook (reconciliationInputCoins outputs room) m ≡ undone refusals.badList
   unfolding reconciliationInputCoins
   inputs-bad e = turned-away (λ b. writing room (encodeCoins (inputCoinsToReconcile (coinsIn outputs) b))) m e
 

@@ -15,6 +15,7 @@ use base_coin_string::is_coin_list;
 use book::BookData;
 use book::SubmittedEntry;
 use book::SubmittedTx;
+use book::refusals::BAD_LIST;
 use part_chain_tests::is_landed;
 use part_chain_tests::output_observed;
 use part_coin_lists::Coins64;
@@ -73,7 +74,7 @@ pub fn reconciliation_input_coins_sound(b: BookData, outputs: &[u8], out: &mut [
 {
     let whole = is_coin_list(outputs);
     if !whole {
-        return refused_written(b, 2);
+        return refused_written(b, BAD_LIST);
     }
     let coins = input_coins_to_reconcile(b, outputs);
     let mut list = [0u8; 4736];

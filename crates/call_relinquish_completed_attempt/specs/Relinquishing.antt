@@ -15,6 +15,7 @@ use Rattle.part_lookup.specs.declared.AttemptPlace.the-variants.{Live, SetAside
 use Rattle.part_lookup.specs.Lookup.{attemptPlace}
 use Rattle.part_lookup.specs.LookupLaws.{foundAt}
 use Rattle.part_attempt_answers.specs.Live.{isNeverIssued, find-by}
+use Rattle.book.specs.Refusals as refusals
 
 abbrev pub isSetAside : AttemptPlace → Bool
 isSetAside (Live k) = false
@@ -23,21 +24,21 @@ isSetAside Gone = false
 isSetAside NeverIssued = false
 
 module _ (t : ℕ) (m : Book) {p : AttemptPlace} (here : p ≡ attemptPlace t m) where
-  relinquish-run : cond (isNeverIssued p) (undone 4) (ended m [] (cond (isSetAside p) Applied Stale)) ≡ runBook (relinquishCompletedAttempt t) m
+  relinquish-run : cond (isNeverIssued p) (undone refusals.unknownToken) (ended m [] (cond (isSetAside p) Applied Stale)) ≡ runBook (relinquishCompletedAttempt t) m
   unfolding relinquishCompletedAttempt run
   relinquish-run = go p ∙ ap (λ (x : Found). runBook (relinquishBy x) m) (sym (find-by t m here))
     where
-      go : (x : AttemptPlace) → cond (isNeverIssued x) (undone 4) (ended m [] (cond (isSetAside x) Applied Stale)) ≡ runBook (relinquishBy (foundAt m x)) m
+      go : (x : AttemptPlace) → cond (isNeverIssued x) (undone refusals.unknownToken) (ended m [] (cond (isSetAside x) Applied Stale)) ≡ runBook (relinquishBy (foundAt m x)) m
       go (Live k) = refl
       go (SetAside k) = refl
       go Gone = refl
       go NeverIssued = refl
 
-  pub relinquish-never : isNeverIssued p ≡ true → undone 4 ≡ runBook (relinquishCompletedAttempt t) m
-  relinquish-never e = sym (ap (λ (x : Bool). cond x (undone 4) (ended m [] (cond (isSetAside p) Applied Stale))) e) ∙ relinquish-run
+  pub relinquish-never : isNeverIssued p ≡ true → undone refusals.unknownToken ≡ runBook (relinquishCompletedAttempt t) m
+  relinquish-never e = sym (ap (λ (x : Bool). cond x (undone refusals.unknownToken) (ended m [] (cond (isSetAside p) Applied Stale))) e) ∙ relinquish-run
 
   pub relinquish-issued : {aside : Bool} → isNeverIssued p ≡ false → isSetAside p ≡ aside → ended m [] (cond aside Applied Stale) ≡ runBook (relinquishCompletedAttempt t) m
   relinquish-issued {aside} e q =
-      sym (ap {B = Outcome Book SubmissionAttemptStatus} (λ (x : Bool). cond (isNeverIssued p) (undone 4) (ended m [] (cond x Applied Stale))) q
-      ∙ ap {B = Outcome Book SubmissionAttemptStatus} (λ (x : Bool). cond x (undone 4) (ended m [] (cond aside Applied Stale))) e)
+      sym (ap {B = Outcome Book SubmissionAttemptStatus} (λ (x : Bool). cond (isNeverIssued p) (undone refusals.unknownToken) (ended m [] (cond x Applied Stale))) q
+      ∙ ap {B = Outcome Book SubmissionAttemptStatus} (λ (x : Bool). cond x (undone refusals.unknownToken) (ended m [] (cond aside Applied Stale))) e)
       ∙ relinquish-run

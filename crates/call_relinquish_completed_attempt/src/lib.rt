@@ -1,6 +1,7 @@
 // `relinquish_completed_attempt`: nothing changes.
 use book::BookData;
 use book::Token;
+use book::refusals::UNKNOWN_TOKEN;
 use book_answers::SubmissionAttemptStatus;
 use part_attempt_answers::is_never_issued;
 use part_attempt_answers::status_done;
@@ -24,7 +25,7 @@ pub fn relinquish_completed_attempt_sound(b: BookData, t: Token) -> StatusReply
     let place = find_attempt(b, t);
     let unknown = is_never_issued(place);
     if unknown {
-        return status_refused(b, 4);
+        return status_refused(b, UNKNOWN_TOKEN);
     }
     let aside = is_set_aside(place);
     if aside {

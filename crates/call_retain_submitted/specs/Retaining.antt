@@ -21,12 +21,13 @@ use Rattle.part_sound_laws.specs.Holds.{holds-sound}
 use Rattle.part_withdraw.specs.After.{then-full, then-on}
 use Rattle.part_withdraw.specs.Withdrawal.{Withdrawal}
 use Rattle.part_withdraw.specs.declared.Withdrawn.{Withdrawn}
+use Rattle.book.specs.Refusals as refusals
 
 module _ (b : BookData) (is : List ℕ) where
   abbrev withIds : Bool → Rule (List ℕ)
-  withIds t = cond t (look (λ m. withdrawEach (toRemove is m) >> done (toRemove is m))) (undo 2)
+  withIds t = cond t (look (λ m. withdrawEach (toRemove is m) >> done (toRemove is m))) (undo refusals.badList)
 
-  pub retain-many : 64 < length is → idsReply b (undone 2) ≡ idsReply b (runBook (retainSubmitted is) (view b))
+  pub retain-many : 64 < length is → idsReply b (undone refusals.badList) ≡ idsReply b (runBook (retainSubmitted is) (view b))
   unfolding retainSubmitted idsOk run
   retain-many h = ap (idsReply b) (sym (ap (λ (t : Bool). runBook (withIds t) (view b)) (lt-leb (length is) 64 h)))
 
@@ -35,7 +36,7 @@ module _ (b : BookData) (is : List ℕ) where
     unfolding retainSubmitted idsOk run
     few-run = ap (λ (t : Bool). runBook (withIds t) (view b)) (le-leb (length is) 64 few)
 
-    pub retain-full : w .full ≡ true → idsReply b (undone 10) ≡ idsReply b (runBook (retainSubmitted is) (view b))
+    pub retain-full : w .full ≡ true → idsReply b (undone refusals.full) ≡ idsReply b (runBook (retainSubmitted is) (view b))
     retain-full f = ap (idsReply b) (sym (few-run ∙ then-full b (toRemove is (view b)) g h (done (toRemove is (view b))) f))
 
     pub retain-is : w .full ≡ false → {x : Ids64} → x ≡ ids64 (list16 gone) → record { answer = Done; ids = x; book = w .book } ≡ idsReply b (runBook (retainSubmitted is) (view b))

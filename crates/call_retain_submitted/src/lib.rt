@@ -1,6 +1,8 @@
 // `retain_submitted`: the submissions whose ids are named are withdrawn, and their ids answered, rising.
 use book::BookData;
 use book::Ids16;
+use book::refusals::BAD_LIST;
+use book::refusals::FULL;
 use part_ids::among16;
 use part_ids::rising16;
 use part_ids::widened;
@@ -33,13 +35,13 @@ pub fn retain_submitted_sound(b: BookData, ids: &[u64]) -> IdsReply
     ensures { λ r. ⌜ r ≡ idsReply b (runBook (retainSubmitted (now (ids .entry))) (view b)) ⌝ }
 {
     if 64 < ids.len() {
-        return refused_ids(b, 2);
+        return refused_ids(b, BAD_LIST);
     }
     let gone = to_remove(b, ids);
     let left = withdraw_each(b, gone);
     let out = left.book;
     if left.full {
-        return refused_ids(b, 10);
+        return refused_ids(b, FULL);
     }
     let answered = widened(gone);
     IdsReply {

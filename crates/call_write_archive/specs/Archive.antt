@@ -24,6 +24,7 @@ use Rattle.part_replies.specs.declared.CallAnswer.the-variants.{Done}
 use Rattle.part_replies.specs.declared.WrittenReply.{WrittenReply}
 use Rattle.part_replies.specs.Reply.{writtenReply}
 use Rattle.part_written_answers.specs.Answers.{Answers, answers-as, refused-is, writes, too-short}
+use Rattle.book.specs.Refusals as refusals
 
 writes-archive : (room : ℕ) (m : Book) → runBook (writeArchive encodeModel room) m ≡ runBook (writing room (encodeModel m)) m
 unfolding run writeArchive
@@ -36,15 +37,15 @@ module _ (b : BookData) (h : soundb b ≡ true) (d : List ℕ) {d′ : List ℕ}
   rules = writes-archive (length d) (view b)
 
   -- a buffer that is too short
-  pub archive-short : {r : WrittenReply} → w ≡ Short → r ≡ writtenReply b (undone 12) → Answers b d d′ r (runBook (writeArchive encodeModel (length d)) (view b))
+  pub archive-short : {r : WrittenReply} → w ≡ Short → r ≡ writtenReply b (undone refusals.shortBuffer) → Answers b d d′ r (runBook (writeArchive encodeModel (length d)) (view b))
   unfolding writeAnswer leftIn
   archive-short {r} e q = go (leb (length (encodeBook b)) (length d)) refl (sym answer ∙ ap answerOf e) left
     where
-      go : (t : Bool) → leb (length (encodeBook b)) (length d) ≡ t → pick t (wrote (length (encodeBook b))) (refused 12) ≡ refused 12 → d′ ≡ pick t (overlay (encodeBook b) d) d
+      go : (t : Bool) → leb (length (encodeBook b)) (length d) ≡ t → pick t (wrote (length (encodeBook b))) (refused refusals.shortBuffer) ≡ refused refusals.shortBuffer → d′ ≡ pick t (overlay (encodeBook b) d) d
           → Answers b d d′ r (runBook (writeArchive encodeModel (length d)) (view b))
       go true p x y = let z : _≡_ {A = ℕ} 0 1 = cc in absurd (omega arith)
       go false p x y =
-          let a = refused-is b d 12 (rules ∙ too-short (length d) (encodeBook b) (view b) (leb-false _ _ p)) q in
+          let a = refused-is b d refusals.shortBuffer (rules ∙ too-short (length d) (encodeBook b) (view b) (leb-false _ _ p)) q in
           (a .0, y ∙ a .1)
 
   -- the whole archive
@@ -52,7 +53,7 @@ module _ (b : BookData) (h : soundb b ≡ true) (d : List ℕ) {d′ : List ℕ}
   unfolding writeAnswer leftIn
   archive-written {n} e = go (leb (length (encodeBook b)) (length d)) refl (sym answer ∙ ap answerOf e) left
     where
-      go : (t : Bool) → leb (length (encodeBook b)) (length d) ≡ t → pick t (wrote (length (encodeBook b))) (refused 12) ≡ wrote n → d′ ≡ pick t (overlay (encodeBook b) d) d
+      go : (t : Bool) → leb (length (encodeBook b)) (length d) ≡ t → pick t (wrote (length (encodeBook b))) (refused refusals.shortBuffer) ≡ wrote n → d′ ≡ pick t (overlay (encodeBook b) d) d
           → Answers b d d′ (record { answer = Done; length = n; book = b }) (runBook (writeArchive encodeModel (length d)) (view b))
       go true p x y =
           let k : n ≡ length (encodeBook b) = cc in
@@ -64,6 +65,6 @@ module _ (b : BookData) (h : soundb b ≡ true) (d : List ℕ) {d′ : List ℕ}
   unfolding writeAnswer
   archive-sound e = go (leb (length (encodeBook b)) (length d)) (sym answer ∙ ap answerOf e)
     where
-      go : (t : Bool) → pick t (wrote (length (encodeBook b))) (refused 12) ≡ refused 1 → ⊥
+      go : (t : Bool) → pick t (wrote (length (encodeBook b))) (refused refusals.shortBuffer) ≡ refused refusals.noBook → ⊥
       go true x = let z : _≡_ {A = ℕ} 0 1 = cc in omega arith
       go false x = let z : _≡_ {A = ℕ} 0 1 = cc in omega arith

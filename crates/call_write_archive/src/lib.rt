@@ -11,6 +11,8 @@ ghost use Rattle.part_replies.specs.Reply.{writtenReply, bufferLeft};
 use archive_write_checked::Wrote;
 use archive_write_checked::write_if_sound;
 use book::BookData;
+use book::refusals::NO_BOOK;
+use book::refusals::SHORT_BUFFER;
 use part_replies::CallAnswer;
 use part_replies::WrittenReply;
 use part_written_answers::refused_written;
@@ -21,8 +23,8 @@ pub fn write_archive_sound(b: BookData, out: &mut [u8]) -> WrittenReply
 {
     let wrote = write_if_sound(b, true, out);
     match wrote {
-        Wrote::Unsound => refused_written(b, 1),
-        Wrote::Short => refused_written(b, 12),
+        Wrote::Unsound => refused_written(b, NO_BOOK),
+        Wrote::Short => refused_written(b, SHORT_BUFFER),
         Wrote::Bytes(n) => {
             WrittenReply {
                 answer: CallAnswer::Done,

@@ -17,6 +17,7 @@ use Rattle.part_lookup.specs.declared.AttemptPlace.{AttemptPlace}
 use Rattle.part_lookup.specs.declared.AttemptPlace.the-variants.{Live, SetAside, Gone, NeverIssued}
 use Rattle.part_lookup.specs.Lookup.{attemptPlace}
 use Rattle.part_lookup.specs.LookupLaws.{foundAt, find-is, live-found}
+use Rattle.book.specs.Refusals as refusals
 
 -- ---- what is asked of a place
 abbrev pub livePlace : AttemptPlace → Place
@@ -33,14 +34,14 @@ isNeverIssued NeverIssued = true
 
 -- a token that is not live: the value of an inactive one; 4, not live and not below next token
 abbrev pub inactive : {A : Type 0} → Book → A → AttemptPlace → Outcome Book A
-inactive m v p = cond (isNeverIssued p) (undone 4) (ended m [] v)
+inactive m v p = cond (isNeverIssued p) (undone refusals.unknownToken) (ended m [] v)
 
 module _ {A : Type 0} (m : Book) (v : A) (p : AttemptPlace) {t : Bool} (told : t ≡ isNeverIssued p) where
-  pub inactive-never : t ≡ true → undone 4 ≡ inactive m v p
-  inactive-never e = ap {B = Outcome Book A} (λ (x : Bool). cond x (undone 4) (ended m [] v)) (sym e ∙ told)
+  pub inactive-never : t ≡ true → undone refusals.unknownToken ≡ inactive m v p
+  inactive-never e = ap {B = Outcome Book A} (λ (x : Bool). cond x (undone refusals.unknownToken) (ended m [] v)) (sym e ∙ told)
 
   pub inactive-issued : t ≡ false → ended m [] v ≡ inactive m v p
-  inactive-issued e = ap {B = Outcome Book A} (λ (x : Bool). cond x (undone 4) (ended m [] v)) (sym e ∙ told)
+  inactive-issued e = ap {B = Outcome Book A} (λ (x : Bool). cond x (undone refusals.unknownToken) (ended m [] v)) (sym e ∙ told)
 
 -- the submission at a place
 abbrev pub at : Book → ℕ → SubmittedTx

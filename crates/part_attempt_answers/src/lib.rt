@@ -1,5 +1,6 @@
 // What the calls of one attempt token share: the place of a live attempt, and the answers that are a status.
 use book::BookData;
+use book::refusals::UNKNOWN_TOKEN;
 use book_answers::SubmissionAttemptStatus;
 use part_lookup::AttemptPlace;
 use part_lookup::Place;
@@ -63,7 +64,7 @@ pub fn status_inactive(b: BookData, place: AttemptPlace) -> StatusReply
 {
     let never = is_never_issued(place);
     if never {
-        return status_refused(b, 4);
+        return status_refused(b, UNKNOWN_TOKEN);
     }
     status_done(b, SubmissionAttemptStatus::Stale)
 }

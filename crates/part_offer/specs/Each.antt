@@ -8,6 +8,7 @@ use Rattle.book.specs.Sound.{soundb}
 use Rattle.rules.specs.Rule.{Rule, done, _>>=_, Outcome, undone, run}
 use Rattle.rules.specs.Steps.{runBook}
 use Rattle.part_offer.specs.Ends.{Reached, Ends, ends-full, ends-on, bind-full, bind-on}
+use Rattle.book.specs.Refusals as refusals
 
 -- the rules r on the sound book q come to w, what the whole comes to
 pub record Left {A : Type 0} (w : Outcome Book A) (q : BookData) (r : Rule A) : Type 0 where
@@ -24,7 +25,7 @@ pub record Each {X A : Type 0} (every : List X → Rule A) (one : X → Rule (Un
 
 module _ {X A : Type 0} {every : List X → Rule A} {one : X → Rule (Unit {0})} {a : A} (each : Each every one a) {w : Outcome Book A} {q : BookData} where
   -- the turn of x, refused as full
-  pub each-full : {x : X} {xs xs′ : List X} (next : BookData) {t : Bool} → Left w q (every xs) → xs ≡ x ∷ xs′ → t ≡ true → Ends tt t next (runBook (one x) (view q)) → w ≡ undone 10
+  pub each-full : {x : X} {xs xs′ : List X} (next : BookData) {t : Bool} → Left w q (every xs) → xs ≡ x ∷ xs′ → t ≡ true → Ends tt t next (runBook (one x) (view q)) → w ≡ undone refusals.full
   each-full {x} {xs} {xs′} next l e t h =
       l .rest ∙ ap (λ (ys : List X). runBook (every ys) (view q)) e ∙ each .more x xs′ (view q)
       ∙ bind-full (one x) (λ _. every xs′) (view q) (ends-full tt next (runBook (one x) (view q)) t h)

@@ -13,6 +13,7 @@ use Rattle.part_replies.specs.Reply.{doneReply}
 use Rattle.part_replies.specs.declared.CallAnswer.the-variants.{Done, Refused}
 use Rattle.part_replies.specs.declared.DoneReply.{DoneReply}
 use Rattle.part_sound_laws.specs.Acts.{logged-none}
+use Rattle.book.specs.Refusals as refusals
 
 -- the rules ended with a, and q holds the sound lists that they left
 pub record Reached {A : Type 0} (a : A) (q : BookData) (o : Outcome Book A) : Type 0 where
@@ -20,14 +21,14 @@ pub record Reached {A : Type 0} (a : A) (q : BookData) (o : Outcome Book A) : Ty
   pub outcome : o ≡ ended (view q) [] a
 
 abbrev pub Ends : {A : Type 0} → A → Bool → BookData → Outcome Book A → Type 0
-Ends a true q o = o ≡ undone 10
+Ends a true q o = o ≡ undone refusals.full
 Ends a false q o = Reached a q o
 
 module _ {A : Type 0} (a : A) (q : BookData) (o : Outcome Book A) where
-  pub ends-full : {t : Bool} → t ≡ true → Ends a t q o → o ≡ undone 10
+  pub ends-full : {t : Bool} → t ≡ true → Ends a t q o → o ≡ undone refusals.full
   ends-full e h = subst (λ (t : Bool). Ends a t q o) e h
 
-  pub full-ends : {t : Bool} → t ≡ true → o ≡ undone 10 → Ends a t q o
+  pub full-ends : {t : Bool} → t ≡ true → o ≡ undone refusals.full → Ends a t q o
   full-ends e h = subst (λ (t : Bool). Ends a t q o) (sym e) h
 
   pub ends-on : {t : Bool} → t ≡ false → Ends a t q o → Reached a q o
@@ -42,7 +43,7 @@ stays a q o h e = record { sound = h; outcome = e }
 
 -- ---- rules and what follows them
 module _ {A B : Type 0} (m : Rule A) (k : A → Rule B) (b : Book) where
-  pub bind-full : runBook m b ≡ undone 10 → runBook (m >>= k) b ≡ undone 10
+  pub bind-full : runBook m b ≡ undone refusals.full → runBook (m >>= k) b ≡ undone refusals.full
   bind-full e = run-bind (λ (x : Book). x) onBook m k b ∙ ap (followed (λ (x : Book). x) onBook k) e
 
   pub bind-on : {a : A} {q : Book} → runBook m b ≡ ended q [] a → runBook (m >>= k) b ≡ runBook (k a) q
@@ -69,7 +70,7 @@ abbrev pub refusedReply : BookData → ℕ → DoneReply
 refusedReply b n = record { answer = Refused n; book = b }
 
 abbrev pub settledReply : BookData → Bool → BookData → DoneReply
-settledReply b true q = refusedReply b 10
+settledReply b true q = refusedReply b refusals.full
 settledReply b false q = record { answer = Done; book = q }
 
 -- the reply of a refusal
@@ -77,7 +78,7 @@ pub refused-is : (b : BookData) (n : ℕ) (o : Outcome Book (Unit {0})) → o �
 refused-is b n o e = ap (doneReply b) (sym e)
 
 pub settled-is : (b : BookData) (t : Bool) (q : BookData) (o : Outcome Book (Unit {0})) → Ends tt t q o → settledReply b t q ≡ doneReply b o
-settled-is b true q o h = refused-is b 10 o h
+settled-is b true q o h = refused-is b refusals.full o h
 settled-is b false q o h =
     ap {B = DoneReply} (λ (x : BookData). record { answer = Done; book = x }) (sym (back-view q (h .sound)))
     ∙ ap (doneReply b) (sym (h .outcome))

@@ -29,13 +29,14 @@ use Rattle.part_sound_laws.specs.Acts.{act-full, act-silent}
 use Rattle.part_sound_laws.specs.Holds.{Holds, holds-sound, holds-view, holds-soundb, holds-step}
 use Rattle.part_sound_laws.specs.Room.{full-enqueue}
 use Rattle.part_offer.specs.Ends.{Reached}
+use Rattle.book.specs.Refusals as refusals
 
 -- ---- one more entry
 module _ (b : BookData) (h : soundb b ≡ true) (d : PendingDelivery) (s : soundDelivery d ≡ true) where
   abbrev queued : Rule (Unit {0})
   queued = step (note (enqueue d))
 
-  pub enqueue-full : b .«pending_count» ≡ 16 → runBook queued (view b) ≡ undone 10
+  pub enqueue-full : b .«pending_count» ≡ 16 → runBook queued (view b) ≡ undone refusals.full
   unfolding onBook
   enqueue-full e =
       let c : b .«pending_count» ≡ length (view b .pending) = pending-are b (sound-normal b h) .count in

@@ -8,6 +8,7 @@ use book::SubmissionDeliveryGoal;
 use book::SubmissionId;
 use book::SubmittedEntry;
 use book::SubmittedTx;
+use book::refusals::FULL;
 use part_change::push_pending;
 use part_lookup::Place;
 use part_lookup::is_queued;
@@ -161,7 +162,7 @@ pub fn settled(b: BookData, o: Offered) -> DoneReply
 {
     let out = o.book;
     if o.full {
-        return refused(b, 10);
+        return refused(b, FULL);
     }
     DoneReply {
         answer: CallAnswer::Done,

@@ -31,12 +31,13 @@ use Rattle.part_replies.specs.declared.FeeIntentReply.{FeeIntentReply}
 use Rattle.part_replies.specs.declared.FinalizeReply.{FinalizeReply}
 use Rattle.part_replies.specs.declared.WrittenReply.{WrittenReply}
 use Rattle.book_answers.specs.Zero.{zeroFinal}
+use Rattle.book.specs.Refusals as refusals
 
 -- ---- shared by all
 -- the rules behind the door: 1, book not sound
 unfoldable pub outcomeOf : {A : Type 0} → BookData → Rule A → Outcome Book A
 unfolding soundb view run onBook full
-outcomeOf b r = cond (soundb b) (runBook r (view b)) (undone 1)
+outcomeOf b r = cond (soundb b) (runBook r (view b)) (undone refusals.noBook)
 
 abbrev pub answerOf : {A : Type 0} → Outcome Book A → CallAnswer
 answerOf (ended m xs v) = Done

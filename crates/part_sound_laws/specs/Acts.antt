@@ -6,6 +6,7 @@ use Rattle.book.specs.Model.{Book}
 use Rattle.book_answers.specs.declared.DrainedSubmission.{DrainedSubmission}
 use Rattle.rules.specs.Rule.{Step, Rule, act, turn, Outcome, ended, undone, stopped, logged, guarded, grows, full, run}
 use Rattle.rules.specs.Steps.{onBook, runBook}
+use Rattle.book.specs.Refusals as refusals
 
 pub logged-none : {A : Type 0} (k : Outcome Book A) → logged [] k ≡ k
 logged-none (ended s xs a) = refl
@@ -13,7 +14,7 @@ logged-none (undone n) = refl
 logged-none (stopped s xs n) = refl
 
 module _ {A : Type 0} (p : Step) (r : Rule A) (m : Book) where
-  pub act-full : (grows p && full (onBook p m .after)) ≡ true → runBook (act p r) m ≡ undone 10
+  pub act-full : (grows p && full (onBook p m .after)) ≡ true → runBook (act p r) m ≡ undone refusals.full
   unfolding run
   act-full e = ap (λ (t : Bool). guarded t (logged (onBook p m .out) (runBook r (onBook p m .after)))) e
 

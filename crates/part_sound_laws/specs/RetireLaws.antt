@@ -10,6 +10,7 @@ use Rattle.part_change.specs.Changes.{retiring}
 use Rattle.part_change.specs.declared.Retired.{Retired}
 use Rattle.part_sound_laws.specs.Acts.{act-full, act-silent}
 use Rattle.part_sound_laws.specs.Room.{full-retire}
+use Rattle.book.specs.Refusals as refusals
 
 module _ (i : ℕ) (m : Book) (f : Fits m) {x : Retired} (e : x ≡ retiring i m) where
   pub retire-limit : {t : Bool} → x .full ≡ t → full (noteBook (retire i) m) ≡ t
@@ -23,7 +24,7 @@ module _ (i : ℕ) (m : Book) (f : Fits m) {x : Retired} (e : x ≡ retiring i m
       ∙ ap (λ (t : Bool). back (cond t m (noteBook (retire i) m))) (sym (ap (λ (y : Retired). y .full) e) ∙ h)
 
   module _ {A : Type 0} (r : Rule A) where
-    pub run-full : x .full ≡ true → runBook (act (note (retire i)) r) m ≡ undone 10
+    pub run-full : x .full ≡ true → runBook (act (note (retire i)) r) m ≡ undone refusals.full
     unfolding onBook
     run-full h = act-full (note (retire i)) r m (retire-limit h)
 

@@ -18,6 +18,7 @@ use Rattle.part_sound_laws.specs.Holds.{Holds, holds-sound, holds-view, holds-n
 use Rattle.part_sound_laws.specs.Acts.{act-silent}
 use Rattle.part_sound_laws.specs.RetireLaws.{retire-limit, retire-book, run-full, run-retired}
 use Rattle.part_withdraw.specs.Withdrawal.{Withdrawal}
+use Rattle.book.specs.Refusals as refusals
 
 -- ---- one id
 module _ (b : BookData) (s : soundb b ≡ true) (i : ℕ) where
@@ -50,7 +51,7 @@ module _ (b : BookData) (s : soundb b ≡ true) (i : ℕ) where
       unfolding withdrawEach withdraw onBook
       first = act-silent (remove i) (act (note (retire i)) (turn (withdrawEach is))) (view b) refl refl
 
-      pub withdraw-full : x .full ≡ true → runBook (withdrawEach (i ∷ is)) (view b) ≡ undone 10
+      pub withdraw-full : x .full ≡ true → runBook (withdrawEach (i ∷ is)) (view b) ≡ undone refusals.full
       withdraw-full f = first ∙ run-full i kept (kept-holds refl .sound .fits) e (turn (withdrawEach is)) f
 
       pub withdraw-on : x .full ≡ false → runBook (withdrawEach (i ∷ is)) (view b) ≡ runBook (withdrawEach is) (view (x .book))

@@ -10,10 +10,11 @@ use Rattle.rules.specs.Rule.{Outcome, ended, undone}
 use Rattle.rules.specs.Steps.{runBook}
 use Rattle.rules.specs.Calls.Common.{withdrawEach}
 use Rattle.part_withdraw.specs.declared.Withdrawn.{Withdrawn}
+use Rattle.book.specs.Refusals as refusals
 
 -- refusal 10, "full": after some id there are more than 64 retirements
 abbrev pub outcomeBy : Bool → BookData → Outcome Book (Unit {0})
-outcomeBy full b = cond full (undone 10) (ended (view b) [] tt)
+outcomeBy full b = cond full (undone refusals.full) (ended (view b) [] tt)
 
 pub record Withdrawal (b : BookData) (ids : List ℕ) (w : Withdrawn) : Type 0 where
   pub outcome : runBook (withdrawEach ids) (view b) ≡ outcomeBy (w .full) (w .book)

@@ -23,6 +23,7 @@ use Rattle.part_replies.specs.declared.CallAnswer.the-variants.{Done}
 use Rattle.part_replies.specs.declared.WrittenReply.{WrittenReply}
 use Rattle.part_replies.specs.Reply.{writtenReply, bufferLeft}
 use Rattle.part_coin_lists.specs.Writing.{PutCoins}
+use Rattle.book.specs.Refusals as refusals
 
 -- the reply r and the buffer d′, that was d, are those of the outcome o
 abbrev pub Answers : BookData → List ℕ → List ℕ → WrittenReply → Outcome Book (List ℕ) → Type 0
@@ -43,28 +44,28 @@ written-is b h s {d} {d′} {n} p =
 -- writing: whole, or 12
 pub writes : (room : ℕ) (s : List ℕ) (m : Book) → length s ≤ room → runBook (writing room s) m ≡ ended m [] s
 unfolding run writing
-writes room s m h = ap (λ (t : Bool). runBook (cond t (done s) (undo 12)) m) (le-leb (length s) room h)
+writes room s m h = ap (λ (t : Bool). runBook (cond t (done s) (undo refusals.shortBuffer)) m) (le-leb (length s) room h)
 
-pub too-short : (room : ℕ) (s : List ℕ) (m : Book) → room < length s → runBook (writing room s) m ≡ undone 12
+pub too-short : (room : ℕ) (s : List ℕ) (m : Book) → room < length s → runBook (writing room s) m ≡ undone refusals.shortBuffer
 unfolding run writing
-too-short room s m h = ap (λ (t : Bool). runBook (cond t (done s) (undo 12)) m) (lt-leb (length s) room h)
+too-short room s m h = ap (λ (t : Bool). runBook (cond t (done s) (undo refusals.shortBuffer)) m) (lt-leb (length s) room h)
 
 -- rules behind a test of what is handed in
 module _ (k : Book → Rule (List ℕ)) (m : Book) where
-  pub let-in : {t : Bool} → t ≡ true → runBook (cond t (look k) (undo 2)) m ≡ runBook (k m) m
+  pub let-in : {t : Bool} → t ≡ true → runBook (cond t (look k) (undo refusals.badList)) m ≡ runBook (k m) m
   unfolding run
-  let-in e = ap (λ (t : Bool). runBook (cond t (look k) (undo 2)) m) e
+  let-in e = ap (λ (t : Bool). runBook (cond t (look k) (undo refusals.badList)) m) e
 
-  pub turned-away : {t : Bool} → t ≡ false → runBook (cond t (look k) (undo 2)) m ≡ undone 2
+  pub turned-away : {t : Bool} → t ≡ false → runBook (cond t (look k) (undo refusals.badList)) m ≡ undone refusals.badList
   unfolding run
-  turned-away e = ap (λ (t : Bool). runBook (cond t (look k) (undo 2)) m) e
+  turned-away e = ap (λ (t : Bool). runBook (cond t (look k) (undo refusals.badList)) m) e
 
 -- ---- a coin list of its count and its coins
 module _ (count : ℕ) (coins d : List ℕ) (m : Book) where
   list-length : length (be 2 count ++ coins) ≡ length coins + 2
   list-length = length-append (be 2 count) coins ∙ omega (arith, be-length 2 count)
 
-  pub list-short : length d < length coins + 2 → runBook (writing (length d) (be 2 count ++ coins)) m ≡ undone 12
+  pub list-short : length d < length coins + 2 → runBook (writing (length d) (be 2 count ++ coins)) m ≡ undone refusals.shortBuffer
   list-short h = too-short (length d) (be 2 count ++ coins) m (omega (arith, list-length))
 
   module _ (h : length coins + 2 ≤ length d) where

@@ -13,6 +13,7 @@ ghost use Rattle.rules.specs.Steps.{runBook};
 ghost use Rattle.rules.specs.Calls.Common.{writing};
 ghost use Rattle.part_replies.specs.Reply.{writtenReply, bufferLeft};
 use book::BookData;
+use book::refusals::SHORT_BUFFER;
 use codec_forms::write::put_bytes;
 use part_coin_lists::put_count;
 use part_replies::CallAnswer;
@@ -36,7 +37,7 @@ pub fn write_list(b: BookData, count: usize, coins: &[u8], out: &mut [u8]) -> Wr
 {
     let n = coins.len() + 2;
     if out.len() < n {
-        return refused_written(b, 12);
+        return refused_written(b, SHORT_BUFFER);
     }
     let at = put_count(&mut *out, count);
     let end = put_bytes(out, at, coins);

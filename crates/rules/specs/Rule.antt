@@ -15,6 +15,7 @@ use Rattle.book.specs.declared.SubmissionChainTerminality.{SubmissionChainTermi
 use Rattle.book.specs.declared.PendingSubmissionIntent.{PendingSubmissionIntent}
 use Rattle.book.specs.declared.PendingDelivery.{PendingDelivery}
 use Rattle.book_answers.specs.declared.DrainedSubmission.{DrainedSubmission}
+use Rattle.book.specs.Refusals as refusals
 
 -- a change of the other facts of one submission
 pub data Revision : Type 0 where
@@ -99,7 +100,7 @@ logged xs (stopped s ys n) = stopped s (xs ++ ys) n
 
 -- refused as full
 abbrev pub guarded : {S A : Type 0} → Bool → Outcome S A → Outcome S A
-guarded true k = undone 10
+guarded true k = undone refusals.full
 guarded false k = k
 
 -- only these steps make a list longer

@@ -64,16 +64,17 @@ use Rattle.rules.specs.Calls.QueueRetainedDelivery.{queueRetainedDelivery}
 use Rattle.rules.specs.Calls.FeeIntentForAttempt.{feeIntentForAttempt}
 use Rattle.rules.specs.Calls.ClearLocalArtifacts.{clearLocalArtifacts}
 use Rattle.rules_answers.specs.Kind.{kindOf, isDrain, asksRoom}
+use Rattle.book.specs.Refusals as refusals
 
 -- a number with which no call is turned away; w says whether 12 may be one
 abbrev pub noRefusal : Bool → ℕ → Bool
-noRefusal w n = eqb n 0 || (not w && eqb n 12)
+noRefusal w n = eqb n 0 || (not w && eqb n refusals.shortBuffer)
 
 -- ---- rule trees; d says whether they may end with their steps kept, and w whether they may refuse 12
 abbrev pub TurnsBy : {A : Type 0} → Bool → Bool → Rule A → Type 0
 TurnsBy d w (done a) = Unit {0}
 TurnsBy d w (undo n) = noRefusal w n ≡ false
-TurnsBy d w (stop n) = (d ≡ true) × (n ≡ 11)
+TurnsBy d w (stop n) = (d ≡ true) × (n ≡ refusals.noToken)
 TurnsBy d w (look k) = (b : Book) → TurnsBy d w (k b)
 TurnsBy d w (act p r) = TurnsBy d w r
 TurnsBy d w (turn r) = TurnsBy d w r
@@ -82,9 +83,9 @@ TurnsBy d w (turn r) = TurnsBy d w r
 abbrev pub TurnedAway : {A : Type 0} → Bool → Bool → Outcome Book A → Type 0
 TurnedAway d w (ended m xs a) = Unit {0}
 TurnedAway d w (undone n) = noRefusal w n ≡ false
-TurnedAway d w (stopped m xs n) = (d ≡ true) × (n ≡ 11)
+TurnedAway d w (stopped m xs n) = (d ≡ true) × (n ≡ refusals.noToken)
 
-full-turns : (w : Bool) → noRefusal w 10 ≡ false
+full-turns : (w : Bool) → noRefusal w refusals.full ≡ false
 full-turns true = refl
 full-turns false = refl
 
@@ -269,11 +270,11 @@ turns-writing : (room : ℕ) (s : List ℕ) → TurnsBy false true (writing room
 unfolding writing
 turns-writing room s = go (leb (length s) room)
   where
-    go : (t : Bool) → TurnsBy false true (cond t (done s) (undo 12))
+    go : (t : Bool) → TurnsBy false true (cond t (done s) (undo refusals.shortBuffer))
     go true = tt
     go false = refl
 
-turns-asked : {A : Type 0} (t : Bool) (k : Book → Rule A) → ((b : Book) → TurnsBy false true (k b)) → TurnsBy false true (cond t (look k) (undo 2))
+turns-asked : {A : Type 0} (t : Bool) (k : Book → Rule A) → ((b : Book) → TurnsBy false true (k b)) → TurnsBy false true (cond t (look k) (undo refusals.badList))
 turns-asked true k h = h
 turns-asked false k h = refl
 

@@ -72,6 +72,7 @@ use Rattle.rules.specs.Calls.WriteArchive.{writeArchive}
 use Rattle.rules_typed.specs.Every.{every-filter, every-image, every-rising}
 use Rattle.rules_typed.specs.Parts.{variant-typed, current-typed, resolved-typed}
 use Rattle.rules_typed.specs.Typing.{Within, TypedTo, Then, TypedCall, typed-bind, typed-map, typed-cond}
+use Rattle.book.specs.Refusals as refusals
 
 -- no demand where the rules end
 abbrev Ends : {A : Type 0} → A → Type 0
@@ -153,7 +154,7 @@ typed-live t v k h b w = typed-byLive v k b (λ s x. h s x b w) (find t b) (find
 
 typed-writing : (room : ℕ) (s : List ℕ) → Kept (writing room s)
 unfolding writing
-typed-writing room s b w = typed-cond Ends b (leb (length s) room) (done s) (undo 12) tt tt
+typed-writing room s b w = typed-cond Ends b (leb (length s) room) (done s) (undo refusals.shortBuffer) tt tt
 
 -- ---- queue
 typed-queue : (d : PendingDelivery) → TypedDelivery d → Kept (queue d)
@@ -192,7 +193,7 @@ module _ (P : Memory → Type 0) (h : (a : Memory) → P a) where
   unfolding deliver
   typed-deliver i g a b w = typed-cond P b (elemb i (a .emitted)) _ _ (h a) (go (eqb (b .nextToken .0) last64) refl)
     where
-      go : (t : Bool) → eqb (b .nextToken .0) last64 ≡ t → TypedTo P b (cond t (stop 11) (step (emit i g) >>= λ _. done (withEmitted i a)))
+      go : (t : Bool) → eqb (b .nextToken .0) last64 ≡ t → TypedTo P b (cond t (stop refusals.noToken) (step (emit i g) >>= λ _. done (withEmitted i a)))
       go true e = tt
       go false e = (next-fits (b .nextToken .0) (w .token) e, λ c x. h (withEmitted i a))
 

@@ -45,10 +45,11 @@ use Rattle.submission.specs.declared.SubmissionBook.{SubmissionBook}
 use Rattle.submission.specs.Answers.{doneAnswer, statusAnswer, idsAnswer, flagAnswer, heightAnswer, attemptAnswer, feeIntentAnswer, finalizeAnswer, writtenAnswer, drainAnswer}
 use Rattle.submission.specs.Book.{bookOf, outcome, next}
 use Rattle.submission.specs.Door.{sound-open, door-open}
+use Rattle.book.specs.Refusals as refusals
 
 -- a method answers by the rules r of its call c, whose answer `rules` makes into a value: it comes to what the call comes to in a list
 module _ {A : Type 0} (s : SubmissionBook) (c : Call) (f : A → Value) (r : Rule A) (e : rules encodeModel c ≡ f <$> r) where
-  behind-door : (t : Bool) → cond t (runBook (f <$> r) (view (s .parts))) (undone 1) ≡ mapped f (cond t (runBook r (view (s .parts))) (undone 1))
+  behind-door : (t : Bool) → cond t (runBook (f <$> r) (view (s .parts))) (undone refusals.noBook) ≡ mapped f (cond t (runBook r (view (s .parts))) (undone refusals.noBook))
   behind-door true = run-map (λ b. b) onBook f r (view (s .parts))
   behind-door false = refl
 

@@ -15,6 +15,7 @@ use Rattle.submission.specs.declared.SubmissionBook.{SubmissionBook}
 use Rattle.submission.specs.declared.WrittenAnswer.{WrittenAnswer}
 use Rattle.submission.specs.Book.{bufferAfter}
 use Rattle.submission.specs.Answers.{writtenGiven, writtenAnswer}
+use Rattle.book.specs.Refusals as refusals
 
 abbrev numberBy : Bool → ℕ
 numberBy true = 0
@@ -25,7 +26,7 @@ abbrev pub doorNumber : BookData → ℕ
 doorNumber b = numberBy (soundb b)
 
 abbrev behind : {A : Type 0} → Rule A → Book → Bool → Outcome Book A
-behind r m t = cond t (runBook r m) (undone 1)
+behind r m t = cond t (runBook r m) (undone refusals.noBook)
 
 sound-by : (t : Bool) → numberBy t ≡ 0 → t ≡ true
 sound-by true e = refl

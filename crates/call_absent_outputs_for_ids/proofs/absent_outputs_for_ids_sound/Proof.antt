@@ -10,14 +10,15 @@ use mathlib.Core.Path.{sym, _∙_}
 use lib.ListN.{length}
 use Rattle.call_absent_outputs_for_ids.proofs.absent_outputs_for_ids_sound.Statement.{statement}
 use Rattle.call_absent_outputs_for_ids.proofs.absent_outputs_for_ids_sound.Tie as tie
+use Rattle.book.specs.Refusals as refusals
 
 returns : tie.Need-returns
 returns c = let a = c .before .before .before .before .before .args in let d = a .out .now in
-    refused-is (a .b) d 2 (many-ids (a .ids .now) (a .absent .now) (length d) (view (a .b)) (c .before .if1 .taken)) (c .refused-written .ensures)
+    refused-is (a .b) d refusals.badList (many-ids (a .ids .now) (a .absent .now) (length d) (view (a .b)) (c .before .if1 .taken)) (c .refused-written .ensures)
 
 returns-2 : tie.Need-returns-2
 returns-2 c = let t = c .before .before in let a = t .before .before .before .before .before .args in let d = a .out .now in let l = t .is-coin-list in
-    refused-is (a .b) d 2 (outputs-bad (a .ids .now) (a .absent .now) (length d) (view (a .b)) (t .before .if1 .left) (sym (l .ensures) ∙ not-true (l .result) (c .before .if2 .taken))) (c .refused-written2 .ensures)
+    refused-is (a .b) d refusals.badList (outputs-bad (a .ids .now) (a .absent .now) (length d) (view (a .b)) (t .before .if1 .left) (sym (l .ensures) ∙ not-true (l .result) (c .before .if2 .taken))) (c .refused-written2 .ensures)
 
 put-all-absent-requires : tie.Need-put-all-absent-requires
 put-all-absent-requires c κs = let s = c .before .before .before .before .before .before .before in (sound-normal (s .args .b) (s .pre), search needs)

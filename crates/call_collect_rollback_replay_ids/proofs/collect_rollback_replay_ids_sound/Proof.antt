@@ -11,11 +11,12 @@ use Rattle.part_offer.specs.Ends.{refused-is, settled-is}
 use Rattle.call_collect_rollback_replay_ids.specs.Collecting.{namedIn, named-fit, fresh-fit, collect-long, collect-taken}
 use Rattle.call_collect_rollback_replay_ids.proofs.collect_rollback_replay_ids_sound.Statement.{statement}
 use Rattle.call_collect_rollback_replay_ids.proofs.collect_rollback_replay_ids_sound.Tie as tie
+use Rattle.book.specs.Refusals as refusals
 
 returns : tie.Need-returns
 returns c = let a = c .before .before .before .args in
     c .refused .ensures
-    ∙ refused-is (a .b) 2 (runBook (collectRollbackReplayIds (a .ids .now)) (view (a .b))) (collect-long (a .ids .now) (view (a .b)) (c .before .if1 .taken))
+    ∙ refused-is (a .b) refusals.badList (runBook (collectRollbackReplayIds (a .ids .now)) (view (a .b))) (collect-long (a .ids .now) (view (a .b)) (c .before .if1 .taken))
 
 unmarked-requires : tie.Need-unmarked-requires
 unmarked-requires c κs =

@@ -9,11 +9,12 @@ use Rattle.call_queue.specs.Queueing.{queue-damaged, queue-taken}
 use borrow.Author.Needs.{needs}
 use Rattle.call_queue.proofs.queue_sound.Statement.{statement}
 use Rattle.call_queue.proofs.queue_sound.Tie as tie
+use Rattle.book.specs.Refusals as refusals
 
 returns : tie.Need-returns
 returns c = let t = c .before .before .is-sound-delivery in let a = c .before .before .before .args in
     c .refused .ensures
-    ∙ refused-is (a .b) 3 (runBook (rules.queue (a .d)) (view (a .b))) (queue-damaged (a .d) (view (a .b)) (sym (t .ensures) ∙ not-true (t .result) (c .before .if1 .taken)))
+    ∙ refused-is (a .b) refusals.badValue (runBook (rules.queue (a .d)) (view (a .b))) (queue-damaged (a .d) (view (a .b)) (sym (t .ensures) ∙ not-true (t .result) (c .before .if1 .taken)))
 
 enqueue-requires : tie.Need-enqueue-requires
 enqueue-requires c κs = let t = c .before .is-sound-delivery in (c .before .before .pre, sym (t .ensures) ∙ not-false (t .result) (c .if1 .left))

@@ -8,9 +8,10 @@ use Rattle.call_queue_rebroadcast_epoch.specs.Rebroadcast.{epoch-long, e
 use borrow.Author.Needs.{needs}
 use Rattle.call_queue_rebroadcast_epoch.proofs.queue_rebroadcast_epoch_sound.Statement.{statement}
 use Rattle.call_queue_rebroadcast_epoch.proofs.queue_rebroadcast_epoch_sound.Tie as tie
+use Rattle.book.specs.Refusals as refusals
 
 returns : tie.Need-returns
-returns c = c .refused .ensures ∙ refused-is (c .before .before .before .args .b) 2 (runBook (rules.queueRebroadcastEpoch (c .before .before .before .args .ids .now) (c .before .before .before .args .trigger)) (view (c .before .before .before .args .b))) (epoch-long (c .before .before .before .args .ids .now) (c .before .before .before .args .trigger) (view (c .before .before .before .args .b)) (c .before .if1 .taken))
+returns c = c .refused .ensures ∙ refused-is (c .before .before .before .args .b) refusals.badList (runBook (rules.queueRebroadcastEpoch (c .before .before .before .args .ids .now) (c .before .before .before .args .trigger)) (view (c .before .before .before .args .b))) (epoch-long (c .before .before .before .args .ids .now) (c .before .before .before .args .trigger) (view (c .before .before .before .args .b)) (c .before .if1 .taken))
 
 rebroadcast-requires : tie.Need-rebroadcast-requires
 rebroadcast-requires c κs = c .before .before .pre

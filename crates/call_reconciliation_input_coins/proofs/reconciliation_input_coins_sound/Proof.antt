@@ -12,10 +12,11 @@ use mathlib.Core.Path.{sym, ap, _∙_}
 use lib.ListN.{length}
 use Rattle.call_reconciliation_input_coins.proofs.reconciliation_input_coins_sound.Statement.{statement}
 use Rattle.call_reconciliation_input_coins.proofs.reconciliation_input_coins_sound.Tie as tie
+use Rattle.book.specs.Refusals as refusals
 
 returns : tie.Need-returns
 returns c = let a = c .before .before .before .before .before .args in let d = a .out .now in let l = c .before .before .is-coin-list in
-    refused-is (a .b) d 2 (inputs-bad (a .outputs .now) (length d) (view (a .b)) (sym (l .ensures) ∙ not-true (l .result) (c .before .if1 .taken))) (c .refused-written .ensures)
+    refused-is (a .b) d refusals.badList (inputs-bad (a .outputs .now) (length d) (view (a .b)) (sym (l .ensures) ∙ not-true (l .result) (c .before .if1 .taken))) (c .refused-written .ensures)
 
 input-coins-to-reconcile-requires : tie.Need-input-coins-to-reconcile-requires
 input-coins-to-reconcile-requires c κs = let s = c .before .before .before .before in sound-normal (s .args .b) (s .pre)

@@ -5,10 +5,11 @@ use mathlib.Core.Path.{refl}
 use borrow.Author.Needs.{needs}
 use Rattle.part_written_answers.proofs.write_list.Statement.{statement}
 use Rattle.part_written_answers.proofs.write_list.Tie as tie
+use Rattle.book.specs.Refusals as refusals
 
 returns : tie.Need-returns
 returns c = let a = c .before .before .before .before .args in
-    refused-is (a .b) (a .out .now) 12 (list-short (a .count) (a .coins .now) (a .out .now) (view (a .b)) (c .before .if1 .taken)) (c .refused-written .ensures)
+    refused-is (a .b) (a .out .now) refusals.shortBuffer (list-short (a .count) (a .coins .now) (a .out .now) (view (a .b)) (c .before .if1 .taken)) (c .refused-written .ensures)
 
 put-bytes-requires : tie.Need-put-bytes-requires
 put-bytes-requires c κs = let a = c .before .before .before .before .before .before .before .before .args in

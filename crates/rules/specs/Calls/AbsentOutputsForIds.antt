@@ -11,6 +11,7 @@ use Rattle.rules.specs.Calls.Common.{writing}
 use Rattle.rules.specs.CoinLists.{encodeCoins}
 use Rattle.rules.specs.Doors.{idsOk, among}
 use Rattle.rules.specs.Rule.{Rule, undo, _>>=_, _>>_, book}
+use Rattle.book.specs.Refusals as refusals
 
 unfoldable pub absentOutputs : List (List ℕ) → RetainedIntent → List (List ℕ)
 unfolding among expectedOutputCoins
@@ -22,4 +23,4 @@ absentOutputsForIds is absent room = cond (idsOk is && coinListb absent)
     (do
       b ← book
       writing room (encodeCoins (flatMap (λ t. absentOutputs (coinsIn absent) (t .entry .intent)) (filterb (λ t. elemb (idOf t) is) (b .submitted)))))
-    (undo 2)
+    (undo refusals.badList)

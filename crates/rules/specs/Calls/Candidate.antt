@@ -20,12 +20,13 @@ use Rattle.rules.specs.Calls.Plan.{Memory, withEmitted, withRemoved, wit
 use Rattle.rules.specs.Keyed.{pick}
 use Rattle.rules.specs.Parts.{intentOf}
 use Rattle.rules.specs.Rule.{done, tighten, revise, retain, emit, Rule, stop, _>>=_, _>>_, book, step}
+use Rattle.book.specs.Refusals as refusals
 
 -- "An id is emitted once a drain"; 11: "token needed, next token 2^64 − 1"
 unfoldable pub deliver : ℕ → SubmissionDeliveryGoal → Memory → Rule Memory
 deliver i g a = cond (elemb i (a .emitted)) (done a) (do
   b ← book
-  cond (eqb (b .nextToken .0) last64) (stop 11) (do
+  cond (eqb (b .nextToken .0) last64) (stop refusals.noToken) (do
     step (emit i g)
     done (withEmitted i a)))
 

@@ -13,6 +13,7 @@ use Rattle.book_coins.specs.Coins.{inputCoinIds, expectedOutputCoins}
 use Rattle.rules.specs.Doors.{among}
 use Rattle.rules.specs.Parts.{activeEntry, isInputSpent}
 use Rattle.rules.specs.Rule.{done, Rule, undo, _>>=_, _>>_, book}
+use Rattle.book.specs.Refusals as refusals
 
 -- "Coins created and consumed inside this bundle are recreated on replay"
 unfoldable pub outerInputIds : SpendBundle → List (List ℕ)
@@ -31,4 +32,4 @@ causallyRolledBackIds absent inputs = cond (coinListb absent && idListb inputs)
     (do
       b ← book
       done (rising (map idOf (filterb (λ t. rolledBack (coinsIn absent) (idsIn inputs) (t .entry)) (b .submitted)))))
-    (undo 2)
+    (undo refusals.badList)

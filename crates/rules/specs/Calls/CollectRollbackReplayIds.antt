@@ -10,6 +10,7 @@ use Rattle.book.specs.Sound.{idOf}
 use Rattle.rules.specs.Calls.Offer.{offer}
 use Rattle.rules.specs.Doors.{idsOk}
 use Rattle.rules.specs.Rule.{done, reopen, revise, replay, Rule, undo, _>>=_, _>>_, book, step, endTurn}
+use Rattle.book.specs.Refusals as refusals
 
 unfoldable pub markEach : Book → List ℕ → Rule (Unit {0})
 markEach b [] = done tt
@@ -34,4 +35,4 @@ collectRollbackReplayIds is = cond (idsOk is)
       b ← book
       markEach b (filterb (λ i. elemb i is) (map idOf (b .submitted)))
       offerAgain (filterb (λ i. elemb i is) (map idOf (b .submitted))))
-    (undo 2)
+    (undo refusals.badList)

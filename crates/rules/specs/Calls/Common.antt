@@ -9,6 +9,7 @@ use Rattle.book.specs.declared.OptionalAttempt.{OptionalAttempt}
 use Rattle.book.specs.declared.SubmittedTx.{SubmittedTx}
 use Rattle.book.specs.Model.{Book}
 use Rattle.rules.specs.Rule.{done, retire, note, remove, Rule, undo, _>>=_, _>>_, book, step, endTurn}
+use Rattle.book.specs.Refusals as refusals
 
 -- ---- finding a token
 pub data Found : Type 0 where
@@ -41,7 +42,7 @@ abbrev pub byLive : {A : Type 0} → A → (SubmittedTx → Rule A) → Found �
 byLive inactive k (live s) = k s
 byLive inactive k aside = done inactive
 byLive inactive k gone = done inactive
-byLive inactive k neverIssued = undo 4
+byLive inactive k neverIssued = undo refusals.unknownToken
 
 unfoldable pub withLive : {A : Type 0} → ℕ → A → (SubmittedTx → Rule A) → Rule A
 unfolding find
@@ -66,4 +67,4 @@ withdrawEach (i ∷ is) = do
 -- ---- writing into a lent buffer
 -- refusal 12: "buffer shorter than needed"
 unfoldable pub writing : ℕ → List ℕ → Rule (List ℕ)
-writing room s = cond (leb (length s) room) (done s) (undo 12)
+writing room s = cond (leb (length s) room) (done s) (undo refusals.shortBuffer)

@@ -14,6 +14,7 @@ use Rattle.rules.specs.Calls.Common.{withLive}
 use Rattle.rules.specs.Calls.Finalized.{unusedFee, currentFinal, attachedFinal}
 use Rattle.rules.specs.Parts.{currentFingerprint, feeUnresolved, validate}
 use Rattle.rules.specs.Rule.{done, attach, revise, finalise, Rule, undo, _>>=_, _>>_, step}
+use Rattle.book.specs.Refusals as refusals
 
 abbrev pub isJoined : SubmissionFeeSource → Bool
 isJoined NotRequested = false
@@ -41,14 +42,14 @@ finalizeWith source j t =
       step (revise (idOf t) (attach j))
       finalizeAs (idOf t) (attachedFinal j (t .entry)))
     (finalizeAs (idOf t) (unusedFee (t .slots .«active_attempt» .attempt .goal) (t .entry))))
-    (cond (isNotRequested source) (finalizeAs (idOf t) (currentFinal (t .slots .«active_attempt» .attempt .goal) (t .entry))) (undo 9))
+    (cond (isNotRequested source) (finalizeAs (idOf t) (currentFinal (t .slots .«active_attempt» .attempt .goal) (t .entry))) (undo refusals.unrequestedFee))
 
 unfoldable pub finalizeLive : SubmissionFeeSource → SpendBundle → SubmittedTx → Rule (Option FinalizedSubmission)
 unfolding validate currentFingerprint finalizeWith
 finalizeLive source j t =
-    cond (t .slots .«active_attempt» .attempt .«finalized_variant_fingerprint» .present) (undo 5)
-    (cond (not (validate (t .entry))) (undo 7)
-    (cond (eqs (currentFingerprint (t .entry)) (t .slots .«active_attempt» .attempt .«drained_variant_fingerprint»)) (finalizeWith source j t) (undo 8)))
+    cond (t .slots .«active_attempt» .attempt .«finalized_variant_fingerprint» .present) (undo refusals.alreadyFinalized)
+    (cond (not (validate (t .entry))) (undo refusals.invalidSubmission)
+    (cond (eqs (currentFingerprint (t .entry)) (t .slots .«active_attempt» .attempt .«drained_variant_fingerprint»)) (finalizeWith source j t) (undo refusals.staleVariant)))
 
 -- the joined bundle is sound; with any other source it is unused, and zero
 unfoldable pub soundSource : SubmissionFeeSource → SpendBundle → Bool
@@ -57,4 +58,4 @@ soundSource source j = cond (isJoined source) (soundBundle j) (isZeroBundle j)
 
 unfoldable pub finalizeAttempt : ℕ → SubmissionFeeSource → SpendBundle → Rule (Option FinalizedSubmission)
 unfolding soundSource withLive finalizeLive
-finalizeAttempt t source j = cond (soundSource source j) (withLive t none (finalizeLive source j)) (undo 3)
+finalizeAttempt t source j = cond (soundSource source j) (withLive t none (finalizeLive source j)) (undo refusals.badValue)

@@ -3,6 +3,7 @@ use mathlib.Core.Bool.{cond}
 use Rattle.book.specs.declared.PendingDelivery.{PendingDelivery}
 use Rattle.book.specs.Sound.{soundDelivery}
 use Rattle.rules.specs.Rule.{enqueue, note, Rule, undo, _>>=_, _>>_, step, endTurn}
+use Rattle.book.specs.Refusals as refusals
 
 unfoldable pub queue : PendingDelivery → Rule (Unit {0})
 unfolding soundDelivery
@@ -10,4 +11,4 @@ queue d = cond (soundDelivery d)
     (do
       step (note (enqueue d))
       endTurn)
-    (undo 3)
+    (undo refusals.badValue)

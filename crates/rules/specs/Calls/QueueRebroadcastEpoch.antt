@@ -9,6 +9,7 @@ use Rattle.rules.specs.Calls.Offer.{offer, goalFor}
 use Rattle.rules.specs.Doors.{idsOk}
 use Rattle.rules.specs.Keyed.{pick}
 use Rattle.rules.specs.Rule.{done, Rule, undo, _>>=_, _>>_, book, endTurn}
+use Rattle.book.specs.Refusals as refusals
 
 abbrev pub rebroadcastOf : DeliveryTrigger → List SubmittedTx → Rule (Unit {0})
 rebroadcastOf trigger [] = done tt
@@ -25,4 +26,4 @@ rebroadcast trigger (i ∷ is) = do
 
 unfoldable pub queueRebroadcastEpoch : List ℕ → DeliveryTrigger → Rule (Unit {0})
 unfolding idsOk rebroadcast
-queueRebroadcastEpoch is trigger = cond (idsOk is) (rebroadcast trigger is) (undo 2)
+queueRebroadcastEpoch is trigger = cond (idsOk is) (rebroadcast trigger is) (undo refusals.badList)

@@ -15,6 +15,7 @@ use Rattle.book_coins.specs.Coins.{inputCoinIds, expectedOutputCoins}
 use Rattle.rules.specs.Doors.{idsOk, among}
 use Rattle.rules.specs.Parts.{isLanded}
 use Rattle.rules.specs.Rule.{done, terminality, unqueue, retire, unreplay, note, revise, setAside, Rule, undo, _>>=_, _>>_, book, step, endTurn}
+use Rattle.book.specs.Refusals as refusals
 
 unfoldable pub outputObserved : List (List ℕ) → RetainedIntent → Bool
 unfolding among expectedOutputCoins
@@ -59,4 +60,4 @@ reconcileChainTerminality observed spent reorg back = cond (coinListb observed &
     (do
       b ← book
       judgeEach (coinsIn observed) (idsIn spent) reorg back (b .submitted))
-    (undo 2)
+    (undo refusals.badList)

@@ -13,6 +13,7 @@ use Rattle.rules.specs.CoinLists.{risingCoins, encodeCoins}
 use Rattle.rules.specs.Doors.{among}
 use Rattle.rules.specs.Parts.{isLanded}
 use Rattle.rules.specs.Rule.{Rule, undo, _>>=_, _>>_, book}
+use Rattle.book.specs.Refusals as refusals
 
 unfoldable pub isReconciled : List (List ℕ) → SubmittedEntry → Bool
 unfolding among expectedOutputCoins
@@ -28,4 +29,4 @@ reconciliationInputCoins outputs room = cond (coinListb outputs)
     (do
       b ← book
       writing room (encodeCoins (inputCoinsToReconcile (coinsIn outputs) b)))
-    (undo 2)
+    (undo refusals.badList)

@@ -4,12 +4,13 @@ use Rattle.book_answers.specs.declared.SubmissionAttemptStatus.{SubmissionAttem
 use Rattle.book_answers.specs.declared.SubmissionAttemptStatus.the-variants.{Applied, Stale}
 use Rattle.rules.specs.Calls.Common.{Found, live, aside, gone, neverIssued, find}
 use Rattle.rules.specs.Rule.{done, Rule, undo, _>>=_, _>>_, book}
+use Rattle.book.specs.Refusals as refusals
 
 abbrev pub relinquishBy : Found → Rule SubmissionAttemptStatus
 relinquishBy (live s) = done Stale
 relinquishBy aside = done Applied
 relinquishBy gone = done Stale
-relinquishBy neverIssued = undo 4
+relinquishBy neverIssued = undo refusals.unknownToken
 
 unfoldable pub relinquishCompletedAttempt : ℕ → Rule SubmissionAttemptStatus
 unfolding find

@@ -8,6 +8,7 @@ use Rattle.book.specs.Sound.{idOf}
 use Rattle.rules.specs.Calls.Common.{withdrawEach}
 use Rattle.rules.specs.Doors.{idsOk}
 use Rattle.rules.specs.Rule.{done, Rule, undo, _>>=_, _>>_, book}
+use Rattle.book.specs.Refusals as refusals
 
 unfoldable pub toRemove : List ℕ → Book → List ℕ
 toRemove is b = rising (filterb (λ i. elemb i is) (map idOf (b .submitted)))
@@ -19,4 +20,4 @@ retainSubmitted is = cond (idsOk is)
       b ← book
       withdrawEach (toRemove is b)
       done (toRemove is b))
-    (undo 2)
+    (undo refusals.badList)

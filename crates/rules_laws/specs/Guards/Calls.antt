@@ -78,6 +78,7 @@ use Rattle.rules_laws.specs.Sound.Run.{SoundBook}
 use Rattle.rules_laws.specs.Sound.Steps.{sound-step}
 use Rattle.rules_laws.specs.StepRule.Free.{undoes}
 use Rattle.rules_laws.specs.StepRule.Calls.{Numbered, numbered-call}
+use Rattle.book.specs.Refusals as refusals
 
 -- no demand where the rules end
 abbrev Ends : {A : Type 0} → A → Type 0
@@ -135,7 +136,7 @@ taken-live t v k h b s = taken-byLive v k b (λ u. h u b s) (find t b)
 
 taken-writing : (room : ℕ) (s : List ℕ) → AllTaken (writing room s)
 unfolding writing
-taken-writing room s b k = taken-cond Ends b (leb (length s) room) (done s) (undo 12) (λ e. tt) (λ e. tt)
+taken-writing room s b k = taken-cond Ends b (leb (length s) room) (done s) (undo refusals.shortBuffer) (λ e. tt) (λ e. tt)
 
 -- ---- queue
 taken-queue : (d : PendingDelivery) → AllTaken (queue d)
@@ -373,14 +374,14 @@ pub guards-idle : (encode : Book → List ℕ) (c : Call) (b : Book) → SoundBo
 guards-idle encode c b h = let s = sound-lists b (h .lists) in bare-run Ends (rules encode c) b s (all-taken encode c b s)
 
 -- "11: token needed, next token 2^64 − 1": a call that is refused 11 leaves a book whose next token is the last number
-pub refused-last : (encode : Book → List ℕ) (c : Call) (b : Book) → SoundBook b → answerBook encode c b ≡ refused 11 → callBook encode c b .nextToken .0 ≡ last64
+pub refused-last : (encode : Book → List ℕ) (c : Call) (b : Book) → SoundBook b → answerBook encode c b ≡ refused refusals.noToken → callBook encode c b .nextToken .0 ≡ last64
 unfolding answerBook callBook
 refused-last encode c b h q =
     let s = sound-lists b (h .lists) in
     let k = held-run SoundLists Taken AtLast (λ p m x y. sound-step p m x) Ends (rules encode c) b s (all-taken encode c b s) in
     go (runBook (rules encode c) b) k (numbered-call encode c b) q
   where
-    go : (k : Outcome Book Value) → Leaves SoundLists Taken AtLast k → Numbered undoes k → answered k ≡ refused 11 → left b k .nextToken .0 ≡ last64
+    go : (k : Outcome Book Value) → Leaves SoundLists Taken AtLast k → Numbered undoes k → answered k ≡ refused refusals.noToken → left b k .nextToken .0 ≡ last64
     go (ended d xs v) l n e = absurd (let z : _≡_ {A = ℕ} 0 1 = cc in omega arith)
-    go (undone m) l n e = absurd (let z : m ≡ 11 = cc in true≢false (sym n ∙ ap undoes z))
+    go (undone m) l n e = absurd (let z : m ≡ refusals.noToken = cc in true≢false (sym n ∙ ap undoes z))
     go (stopped d xs m) l n e = l .1

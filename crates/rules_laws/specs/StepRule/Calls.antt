@@ -73,6 +73,7 @@ use Rattle.rules_laws.specs.Sound.Facts.{short-of}
 use Rattle.rules_laws.specs.Sound.Run.{SoundBook}
 use Rattle.rules_laws.specs.StepRule.Free.{runFree, booksAfter, isRefusal, undoes, turnsAway, PacedTo, Settled}
 use Rattle.rules_laws.specs.StepRule.Paced.{step-rule}
+use Rattle.book.specs.Refusals as refusals
 
 no-shrink : (g : Bool) → (g && false) ≡ false
 no-shrink true = refl
@@ -372,7 +373,7 @@ full-by-steps encode c b s = step-rule false (rules encode c) b (paced encode c)
 abbrev pub Numbered : {A : Type 0} → (ℕ → Bool) → Outcome Book A → Type 0
 Numbered ok (ended b xs a) = Unit {0}
 Numbered ok (undone n) = ok n ≡ true
-Numbered ok (stopped b xs n) = n ≡ 11
+Numbered ok (stopped b xs n) = n ≡ refusals.noToken
 
 numbered-logged : {A : Type 0} (ok : ℕ → Bool) (xs : List DrainedSubmission) (k : Outcome Book A) → Numbered ok k → Numbered ok (logged xs k)
 numbered-logged ok xs (ended b ys a) h = h
@@ -387,17 +388,17 @@ numbered-guarded false k h = h
 not-ten : turnsAway 10 ≡ false
 not-ten = refl
 
-never-ten : (n : ℕ) → turnsAway n ≡ true → eqb n 10 ≡ false
-never-ten n h = go (eqb n 10) refl
+never-ten : (n : ℕ) → turnsAway n ≡ true → eqb n refusals.full ≡ false
+never-ten n h = go (eqb n refusals.full) refl
   where
-    go : (t : Bool) → eqb n 10 ≡ t → t ≡ false
+    go : (t : Bool) → eqb n refusals.full ≡ t → t ≡ false
     go true e = absurd (true≢false (sym h ∙ ap turnsAway (eqb-true n 10 e) ∙ not-ten))
     go false e = refl
 
 numbered : {A : Type 0} (P : Bool → A → Type 0) (g : Bool) (r : Rule A) (b : Book) → PacedTo P g r → Numbered undoes (runBook r b)
 unfolding run
 numbered P g (done a) b p = tt
-numbered P g (undo n) b p = and-split (undoes n) (not (eqb n 10)) (p .1) .0
+numbered P g (undo n) b p = and-split (undoes n) (not (eqb n refusals.full)) (p .1) .0
 numbered P g (stop n) b p = p
 numbered P g (look k) b p = numbered P g (k b) b (p b)
 numbered P g (act q r) b p =
@@ -427,16 +428,16 @@ refusedBy n (refused m) = eqb m n
 -- "A call is refused as full exactly if, after some step of the unlimited rules, retained, queue or retirements exceed their limit": for
 -- no other reason, since its rules do not say 10 themselves
 pub refused-full : (encode : Book → List ℕ) (c : Call) (b : Book) → SoundBook b
-    → refusedBy 10 (answerBook encode c b) ≡ anyb full (booksAfter (rules encode c) b)
+    → refusedBy refusals.full (answerBook encode c b) ≡ anyb full (booksAfter (rules encode c) b)
 unfolding answerBook
-refused-full encode c b s = ap (λ (k : Outcome Book Value). refusedBy 10 (answered k)) (full-by-steps encode c b s)
+refused-full encode c b s = ap (λ (k : Outcome Book Value). refusedBy refusals.full (answered k)) (full-by-steps encode c b s)
     ∙ go (anyb full (booksAfter (rules encode c) b)) (runFree (rules encode c) b) (numbered-free Settled false (rules encode c) b (paced encode c))
   where
-    go : (t : Bool) (k : Outcome Book Value) → Numbered turnsAway k → refusedBy 10 (answered (guarded t k)) ≡ t
+    go : (t : Bool) (k : Outcome Book Value) → Numbered turnsAway k → refusedBy refusals.full (answered (guarded t k)) ≡ t
     go true k h = refl
     go false (ended b′ xs v) h = refl
     go false (undone n) h = never-ten n h
-    go false (stopped b′ xs n) h = ap (λ (m : ℕ). eqb m 10) h
+    go false (stopped b′ xs n) h = ap (λ (m : ℕ). eqb m refusals.full) h
 
 -- behind the door for 1 a call is refused by a number from 2 to 12 or not at all
 pub refused-by : (encode : Book → List ℕ) (c : Call) (b : Book) (n : ℕ) → answerBook encode c b ≡ refused n → isRefusal n ≡ true
@@ -445,15 +446,15 @@ refused-by encode c b n e = go (runBook (rules encode c) b) (numbered-call encod
   where
     go : (k : Outcome Book Value) → Numbered undoes k → answered k ≡ refused n → isRefusal n ≡ true
     go (ended b′ xs v) h q = absurd (let z : _≡_ {A = ℕ} 0 1 = cc in omega arith)
-    go (undone m) h q = let z : m ≡ n = cc in and-split (isRefusal n) (not (eqb n 11)) (rw z at h) .0
+    go (undone m) h q = let z : m ≡ n = cc in and-split (isRefusal n) (not (eqb n refusals.noToken)) (rw z at h) .0
     go (stopped b′ xs m) h q = let z : m ≡ n = cc in ap isRefusal (sym z ∙ h)
 
 -- "All leave book and buffers unchanged, but 11"
-pub refused-leaves : (encode : Book → List ℕ) (c : Call) (b : Book) (n : ℕ) → answerBook encode c b ≡ refused n → eqb n 11 ≡ false → callBook encode c b ≡ b
+pub refused-leaves : (encode : Book → List ℕ) (c : Call) (b : Book) (n : ℕ) → answerBook encode c b ≡ refused n → eqb n refusals.noToken ≡ false → callBook encode c b ≡ b
 unfolding answerBook callBook
 refused-leaves encode c b n e m = go (runBook (rules encode c) b) (numbered-call encode c b) e
   where
     go : (k : Outcome Book Value) → Numbered undoes k → answered k ≡ refused n → left b k ≡ b
     go (ended b′ xs v) h q = absurd (let z : _≡_ {A = ℕ} 0 1 = cc in omega arith)
     go (undone l) h q = refl
-    go (stopped b′ xs l) h q = let z : l ≡ n = cc in absurd (true≢false (sym (ap (λ (x : ℕ). eqb x 11) (sym z ∙ h)) ∙ m))
+    go (stopped b′ xs l) h q = let z : l ≡ n = cc in absurd (true≢false (sym (ap (λ (x : ℕ). eqb x refusals.noToken) (sym z ∙ h)) ∙ m))

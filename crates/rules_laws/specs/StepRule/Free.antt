@@ -7,6 +7,7 @@ use lib.Dec.{eqb, leb}
 use Rattle.book.specs.Model.{Book}
 use Rattle.rules.specs.Rule.{done, Note, enqueue, unqueue, retire, unreplay, unqueueAll, unretireAll, beginEpoch, endEpoch, Step, note, revise, retain, emit, remove, setAside, finalise, replay, Rule, undo, stop, look, act, turn, Outcome, ended, undone, stopped, logged, grows}
 use Rattle.rules.specs.Steps.{onBook}
+use Rattle.book.specs.Refusals as refusals
 
 unfoldable pub runFree : {A : Type 0} → Rule A → Book → Outcome Book A
 unfolding onBook
@@ -54,18 +55,18 @@ isRefusal n = leb 2 n && leb n 12
 
 -- those that leave no trace: behind an 11 stays what was done before it
 abbrev pub undoes : ℕ → Bool
-undoes n = isRefusal n && not (eqb n 11)
+undoes n = isRefusal n && not (eqb n refusals.noToken)
 
 -- those that the rules may say so: 10 comes from the limits alone
 abbrev pub turnsAway : ℕ → Bool
-turnsAway n = undoes n && not (eqb n 10)
+turnsAway n = undoes n && not (eqb n refusals.full)
 
 -- rules in which no list gets shorter between a growth and the end of its candidate or id; P is asked where they end, and the Bool says
 -- whether a list has grown since the last such end. They say none but the paper's numbers, and never 10
 abbrev pub PacedTo : {A : Type 0} → (Bool → A → Type 0) → Bool → Rule A → Type 0
 PacedTo P g (done a) = P g a
 PacedTo P g (undo n) = (g ≡ false) × (turnsAway n ≡ true)
-PacedTo P g (stop n) = n ≡ 11
+PacedTo P g (stop n) = n ≡ refusals.noToken
 PacedTo P g (look k) = (b : Book) → PacedTo P g (k b)
 PacedTo P g (act p r) = ((g && shrinks p) ≡ false) × PacedTo P (g || grows p) r
 PacedTo P g (turn r) = PacedTo P false r
