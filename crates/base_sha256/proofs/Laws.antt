@@ -21,7 +21,16 @@ module _ (k w : List ℕ) (s : Words) where
 
   pub rounds-eight : (t : ℕ) → rounds k w s (t + 8) ≡ eightAt k w t (rounds k w s t)
   rounds-eight t =
-      rw (rounds-next (t + 7) (t + 8) (omega arith), rounds-next (t + 6) (t + 7) (omega arith), rounds-next (t + 5) (t + 6) (omega arith), rounds-next (t + 4) (t + 5) (omega arith), rounds-next (t + 3) (t + 4) (omega arith), rounds-next (t + 2) (t + 3) (omega arith), rounds-next (t + 1) (t + 2) (omega arith), rounds-next t (t + 1) refl)
+      rw (
+        rounds-next (t + 7) (t + 8) (omega arith),
+        rounds-next (t + 6) (t + 7) (omega arith),
+        rounds-next (t + 5) (t + 6) (omega arith),
+        rounds-next (t + 4) (t + 5) (omega arith),
+        rounds-next (t + 3) (t + 4) (omega arith),
+        rounds-next (t + 2) (t + 3) (omega arith),
+        rounds-next (t + 1) (t + 2) (omega arith),
+        rounds-next t (t + 1) refl,
+      )
 
 pub hashed-more : (m : List ℕ) (n : ℕ) → hashed m (n + 1) ≡ compress (hashed m n) (blockAt m n)
 unfolding hashed

@@ -6,7 +6,11 @@ use Rattle.archive_size.proofs.size_delivery.Statement.{statement}
 use Rattle.archive_size.proofs.size_delivery.Tie as tie
 
 returns : tie.Need-returns
-returns c = delivery-size ((c .before .before .before .before .before .before .before .args) .d) ((c .before .before .before .size-id) .result) ((c .before .before .size-bundle) .result) ((c .before .size-height) .result) ((c .size-fee-intent) .result) ((c .before .before .before .size-id) .ensures) ((c .before .before .size-bundle) .ensures) ((c .before .size-height) .ensures) ((c .size-fee-intent) .ensures)
+returns c =
+    let size-id = c .before .before .before .size-id in
+    let size-bundle = c .before .before .size-bundle in
+    delivery-size ((c .before .before .before .before .before .before .before .args) .d) ((size-id) .result) ((size-bundle) .result) ((c .before .size-height) .result) ((c .size-fee-intent) .result) ((size-id) .ensures)
+    ((size-bundle) .ensures) ((c .before .size-height) .ensures) ((c .size-fee-intent) .ensures)
 
 pub size-delivery-spec : {M : Type 1} → statement M
 size-delivery-spec =

@@ -39,7 +39,9 @@ returns-9 : tie.Need-returns-9
 returns-9 c = length-is (c .before .before .before .before .before .before .before .before .before .args .amount) 7 (omega arith) (omega arith) (search needs)
 
 returns-10 : tie.Need-returns-10
-returns-10 c = let h : c .before .before .before .before .before .before .before .before .before .args .amount < 2 ^ 64 = search needs in length-is (c .before .before .before .before .before .before .before .before .before .args .amount) 8 (omega arith) (omega arith) h
+returns-10 c =
+    let start = c .before .before .before .before .before .before .before .before .before in
+    let h : start .args .amount < 2 ^ 64 = search needs in length-is (start .args .amount) 8 (omega arith) (omega arith) h
 
 pub atom-len-spec : {M : Type 1} → statement M
 atom-len-spec =

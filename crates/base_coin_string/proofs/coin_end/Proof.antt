@@ -19,15 +19,21 @@ returns : tie.Need-returns
 returns c = simp (le-ltb _ _ (c .if1 .taken))
 
 returns-2 : tie.Need-returns-2
-returns-2 c = let s = c .before .before .before .before .before .args .s .now in let a = c .before .before .before .before .before .args .at in let e = c .before .wide .ensures .0 in
+returns-2 c =
+    let start = c .before .before .before .before .before in
+    let s = start .args .s .now in let a = start .args .at in let e = c .before .wide .ensures .0 in
     rw (lt-ltb a (length s) (c .before .before .before .if1 .left), lt-leb (getD s a 0) 73 (omega arith))
 
 returns-3 : tie.Need-returns-3
-returns-3 c = let s = c .before .before .before .before .before .before .args .s .now in let a = c .before .before .before .before .before .before .args .at in let e = c .before .before .wide .ensures .0 in
+returns-3 c =
+    let start = c .before .before .before .before .before .before in
+    let s = start .args .s .now in let a = start .args .at in let e = c .before .before .wide .ensures .0 in
     rw (lt-ltb a (length s) (c .before .before .before .before .if1 .left), le-leb (getD s a 0) 73 (omega arith), lt-leb (getD s a 0) (length (drop (a + 1) s)) (omega (arith, length-drop (a + 1) s)))
 
 returns-4 : tie.Need-returns-4
-returns-4 c = let s = c .before .before .before .before .before .before .args .s .now in let a = c .before .before .before .before .before .before .args .at in let e = c .before .before .wide .ensures .0 in
+returns-4 c =
+    let start = c .before .before .before .before .before .before in
+    let s = start .args .s .now in let a = start .args .at in let e = c .before .before .wide .ensures .0 in
     rw (lt-ltb a (length s) (c .before .before .before .before .if1 .left), le-leb (getD s a 0) 73 (omega arith), le-leb (getD s a 0) (length (drop (a + 1) s)) (omega (arith, length-drop (a + 1) s)), e)
 
 pub coin-end-spec : {M : Type 1} → statement M

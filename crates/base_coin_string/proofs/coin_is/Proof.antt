@@ -17,8 +17,11 @@ use Rattle.base_coin_string.proofs.within.Reads as within-reads
 use Rattle.base_lists.proofs.same.Reads as same-reads
 
 returns : tie.Need-returns
-returns c = let s = c .before .before .before .before .before .before .args .s .now in let b = c .before .before .before .before .before .before .args .t4 in let n = c .before .before .before .before .before .before .args .len in let l : length b ≡ 73 = search needs in
-    rw sub-zero at (c .same .ensures) ∙ (λ j. eqs (c .before .before .before .part .ensures j) (take (c .before .before .before .before .within .ensures j) b)) ∙ ap (eqs (take (c .before .before .before .before .before .before .args .to - c .before .before .before .before .before .before .args .from) (drop (c .before .before .before .before .before .before .args .from) s))) (take-min 73 n b l)
+returns c =
+    let start = c .before .before .before .before .before .before in
+    let s = start .args .s .now in let b = start .args .t4 in let n = start .args .len in let l : length b ≡ 73 = search needs in
+    rw sub-zero at (c .same .ensures) ∙ (λ j. eqs (c .before .before .before .part .ensures j) (take (c .before .before .before .before .within .ensures j) b)) ∙ ap
+    (eqs (take (start .args .to - start .args .from) (drop (start .args .from) s))) (take-min 73 n b l)
 
 pub coin-is-spec : {M : Type 1} → statement M
 coin-is-spec =

@@ -24,7 +24,9 @@ loop-holds : tie.Need-loop-holds Inv-loop μ-loop
 loop-holds c = (search needs, record { is = refl })
 
 returns : tie.Need-returns Inv-loop μ-loop
-returns c = longer (c .before .before .loop .inv .1) (rest-step (c .before .before .before .args .a .now) (c .before .before .loop .i) 0 (c .before .loop-test .taken)) (drop-of-length-le (c .before .before .before .args .b .now) {i = c .before .before .loop .i} (c .if1 .taken))
+returns c =
+    let start = c .before .before .before in
+    longer (c .before .before .loop .inv .1) (rest-step (start .args .a .now) (c .before .before .loop .i) 0 (c .before .loop-test .taken)) (drop-of-length-le (start .args .b .now) {i = c .before .before .loop .i} (c .if1 .taken))
 
 shared-slice-read-if2 : tie.Need-shared-slice-read-if2 Inv-loop μ-loop
 shared-slice-read-if2 c = search needs
@@ -33,7 +35,10 @@ shared-slice-read-if2-2 : tie.Need-shared-slice-read-if2-2 Inv-loop μ-loop
 shared-slice-read-if2-2 c = search needs
 
 returns-2 : tie.Need-returns-2 Inv-loop μ-loop
-returns-2 c = below (c .before .before .before .before .before .loop .inv .1) (rest-step (c .before .before .before .before .before .before .args .a .now) (c .before .before .before .before .before .loop .i) 0 (c .before .before .before .before .loop-test .taken)) (rest-step (c .before .before .before .before .before .before .args .b .now) (c .before .before .before .before .before .loop .i) 0 (c .before .before .before .if1 .left)) (c .if2 .taken)
+returns-2 c =
+    let start = c .before .before .before .before .before .before in
+    below (c .before .before .before .before .before .loop .inv .1) (rest-step (start .args .a .now) (c .before .before .before .before .before .loop .i) 0 (c .before .before .before .before .loop-test .taken))
+    (rest-step (start .args .b .now) (c .before .before .before .before .before .loop .i) 0 (c .before .before .before .if1 .left)) (c .if2 .taken)
 
 shared-slice-read-if3 : tie.Need-shared-slice-read-if3 Inv-loop μ-loop
 shared-slice-read-if3 c = search needs
@@ -42,7 +47,12 @@ shared-slice-read-if3-2 : tie.Need-shared-slice-read-if3-2 Inv-loop μ-loop
 shared-slice-read-if3-2 c = search needs
 
 returns-3 : tie.Need-returns-3 Inv-loop μ-loop
-returns-3 c = above (c .before .before .before .before .before .before .before .before .loop .inv .1) (rest-step (c .before .before .before .before .before .before .before .before .before .args .a .now) (c .before .before .before .before .before .before .before .before .loop .i) 0 (c .before .before .before .before .before .before .before .loop-test .taken)) (rest-step (c .before .before .before .before .before .before .before .before .before .args .b .now) (c .before .before .before .before .before .before .before .before .loop .i) 0 (c .before .before .before .before .before .before .if1 .left)) (c .if3 .taken) (c .before .before .before .if2 .left)
+returns-3 c =
+    let start = c .before .before .before .before .before .before .before .before .before in
+    above (c .before .before .before .before .before .before .before .before .loop .inv .1)
+    (rest-step (start .args .a .now) (c .before .before .before .before .before .before .before .before .loop .i) 0 (c .before .before .before .before .before .before .before .loop-test .taken))
+    (rest-step (start .args .b .now) (c .before .before .before .before .before .before .before .before .loop .i) 0 (c .before .before .before .before .before .before .if1 .left)) (c .if3 .taken)
+    (c .before .before .before .if2 .left)
 
 add-i : tie.Need-add-i Inv-loop μ-loop
 add-i c = search needs
@@ -51,13 +61,24 @@ loop-less : tie.Need-loop-less Inv-loop μ-loop
 loop-less c = search needs
 
 loop-again : tie.Need-loop-again Inv-loop μ-loop
-loop-again c = (search needs, equal (c .before .before .before .before .before .before .before .before .loop .inv .1) (rest-step (c .before .before .before .before .before .before .before .before .before .args .a .now) (c .before .before .before .before .before .before .before .before .loop .i) 0 (c .before .before .before .before .before .before .before .loop-test .taken)) (rest-step (c .before .before .before .before .before .before .before .before .before .args .b .now) (c .before .before .before .before .before .before .before .before .loop .i) 0 (c .before .before .before .before .before .before .if1 .left)) (c .before .before .before .if2 .left) (c .if3 .left))
+loop-again c =
+    let start = c .before .before .before .before .before .before .before .before .before in (
+      search needs,
+      equal (c .before .before .before .before .before .before .before .before .loop .inv .1)
+          (rest-step (start .args .a .now) (c .before .before .before .before .before .before .before .before .loop .i) 0 (c .before .before .before .before .before .before .before .loop-test .taken))
+          (rest-step (start .args .b .now) (c .before .before .before .before .before .before .before .before .loop .i) 0 (c .before .before .before .before .before .before .if1 .left)) (c .before .before .before .if2 .left)
+          (c .if3 .left),
+    )
 
 returns-4 : tie.Need-returns-4 Inv-loop μ-loop
-returns-4 c = shorter (c .before .before .loop .inv .1) (drop-of-length-le (c .before .before .before .args .a .now) {i = c .before .before .loop .i} (c .before .loop-test .left)) (rest-step (c .before .before .before .args .b .now) (c .before .before .loop .i) 0 (c .if4 .taken))
+returns-4 c =
+    let start = c .before .before .before in
+    shorter (c .before .before .loop .inv .1) (drop-of-length-le (start .args .a .now) {i = c .before .before .loop .i} (c .before .loop-test .left)) (rest-step (start .args .b .now) (c .before .before .loop .i) 0 (c .if4 .taken))
 
 returns-5 : tie.Need-returns-5 Inv-loop μ-loop
-returns-5 c = as-long (c .before .before .loop .inv .1) (drop-of-length-le (c .before .before .before .args .a .now) {i = c .before .before .loop .i} (c .before .loop-test .left)) (drop-of-length-le (c .before .before .before .args .b .now) {i = c .before .before .loop .i} (c .if4 .left))
+returns-5 c =
+    let start = c .before .before .before in
+    as-long (c .before .before .loop .inv .1) (drop-of-length-le (start .args .a .now) {i = c .before .before .loop .i} (c .before .loop-test .left)) (drop-of-length-le (start .args .b .now) {i = c .before .before .loop .i} (c .if4 .left))
 
 pub compare-spec : {M : Type 1} → statement M
 compare-spec =

@@ -22,8 +22,11 @@ part-compare-end-2 : tie.Need-part-compare-end-2
 part-compare-end-2 c = let h : length (c .before .before .before .before .before .before .before .args .b .bytes) ≡ 73 = search needs in omega (arith, c .before .before .before .before .before .within2 .ensures)
 
 returns : tie.Need-returns
-returns c = let a = c .before .before .before .before .before .before .before .before .before .args .a in let b = c .before .before .before .before .before .before .before .before .before .args .b in let l : length (a .bytes) ≡ 73 = search needs in let m : length (b .bytes) ≡ 73 = search needs in
-    simp sub-zero at (c .compare .ensures) ∙ (λ j. orderOf (take (c .before .before .before .before .before .before .before .before .within .ensures j) (a .bytes)) (take (c .before .before .before .before .before .before .before .within2 .ensures j) (b .bytes))) ∙ (λ j. orderOf (take-min 73 (a .len) (a .bytes) l j) (take-min 73 (b .len) (b .bytes) m j))
+returns c =
+    let start = c .before .before .before .before .before .before .before .before .before in
+    let a = start .args .a in let b = start .args .b in let l : length (a .bytes) ≡ 73 = search needs in let m : length (b .bytes) ≡ 73 = search needs in
+    simp sub-zero at (c .compare .ensures) ∙ (λ j. orderOf (take (c .before .before .before .before .before .before .before .before .within .ensures j) (a .bytes))
+    (take (c .before .before .before .before .before .before .before .within2 .ensures j) (b .bytes))) ∙ (λ j. orderOf (take-min 73 (a .len) (a .bytes) l j) (take-min 73 (b .len) (b .bytes) m j))
 
 pub compare-coins-spec : {M : Type 1} → statement M
 compare-coins-spec =

@@ -31,24 +31,38 @@ list-count-requires : tie.Need-list-count-requires Inv-loop μ-loop
 list-count-requires c κs = search needs
 
 loop-holds : tie.Need-loop-holds Inv-loop μ-loop
-loop-holds c = ap (λ (n : ℕ). isIn (coinsFrom n (drop 2 (c .before .before .args .s .now))) (take (c .before .before .args .len) (c .before .before .args .coin))) (sym (c .list-count .ensures))
+loop-holds c =
+    let start = c .before .before in
+    ap (λ (n : ℕ). isIn (coinsFrom n (drop 2 (start .args .s .now))) (take (start .args .len) (start .args .coin))) (sym (c .list-count .ensures))
 
 coin-end-requires : tie.Need-coin-end-requires Inv-loop μ-loop
 coin-end-requires c κs = search needs
 
 returns : tie.Need-returns Inv-loop μ-loop
-returns c = in-done (take (c .before .before .before .before .before .before .args .len) (c .before .before .before .before .before .before .args .coin)) (broken (c .before .before .before .before .before .before .args .s .now) (c .before .before .before .loop .at) (c .before .coin-end .result) (c .before .coin-end .ensures) (c .if1 .taken) .coins (c .before .before .before .loop .left)) (c .before .before .before .loop .inv)
+returns c =
+    let start = c .before .before .before .before .before .before in
+    in-done (take (start .args .len) (start .args .coin))
+    (broken (start .args .s .now) (c .before .before .before .loop .at) (c .before .coin-end .result) (c .before .coin-end .ensures) (c .if1 .taken) .coins (c .before .before .before .loop .left))
+    (c .before .before .before .loop .inv)
 
 add-coin-is : tie.Need-add-coin-is Inv-loop μ-loop
-add-coin-is c = let w : Whole (c .before .before .before .before .before .before .args .s .now) (c .before .before .before .loop .at) (c .before .coin-end .result) = whole (c .before .before .before .before .before .before .args .s .now) (c .before .before .before .loop .at) (c .before .coin-end .result) (c .before .coin-end .ensures) (c .if1 .left) in
+add-coin-is c =
+    let start = c .before .before .before .before .before .before in
+    let w : Whole (start .args .s .now) (c .before .before .before .loop .at) (c .before .coin-end .result) = whole (start .args .s .now) (c .before .before .before .loop .at) (c .before .coin-end .result)
+    (c .before .coin-end .ensures) (c .if1 .left) in
     omega (arith, w .start, w .end)
 
 coin-is-requires : tie.Need-coin-is-requires Inv-loop μ-loop
 coin-is-requires c κs = search needs
 
 returns-2 : tie.Need-returns-2 Inv-loop μ-loop
-returns-2 c = let w : Whole (c .before .before .before .before .before .before .before .before .args .s .now) (c .before .before .before .before .before .loop .at) (c .before .before .before .coin-end .result) = whole (c .before .before .before .before .before .before .before .before .args .s .now) (c .before .before .before .before .before .loop .at) (c .before .before .before .coin-end .result) (c .before .before .before .coin-end .ensures) (c .before .before .if1 .left) in
-    in-hit (take (c .before .before .before .before .before .before .before .before .args .len) (c .before .before .before .before .before .before .before .before .args .coin)) (w .coins (c .before .before .before .before .before .loop .left) (c .before .before .before .before .loop-test .taken)) (sym (c .if2 .taken) ∙ c .before .coin-is .ensures) (c .before .before .before .before .before .loop .inv)
+returns-2 c =
+    let start = c .before .before .before .before .before .before .before .before in
+    let coin-end = c .before .before .before .coin-end in
+    let w : Whole (start .args .s .now) (c .before .before .before .before .before .loop .at) (coin-end .result) = whole (start .args .s .now) (c .before .before .before .before .before .loop .at) (coin-end .result)
+    (coin-end .ensures) (c .before .before .if1 .left) in
+    in-hit (take (start .args .len) (start .args .coin)) (w .coins (c .before .before .before .before .before .loop .left) (c .before .before .before .before .loop-test .taken)) (sym (c .if2 .taken) ∙ c .before .coin-is .ensures)
+    (c .before .before .before .before .before .loop .inv)
 
 sub-left : tie.Need-sub-left Inv-loop μ-loop
 sub-left c = search needs
@@ -57,11 +71,18 @@ loop-less : tie.Need-loop-less Inv-loop μ-loop
 loop-less c = search needs
 
 loop-again : tie.Need-loop-again Inv-loop μ-loop
-loop-again c = let w : Whole (c .before .before .before .before .before .before .before .before .args .s .now) (c .before .before .before .before .before .loop .at) (c .before .before .before .coin-end .result) = whole (c .before .before .before .before .before .before .before .before .args .s .now) (c .before .before .before .before .before .loop .at) (c .before .before .before .coin-end .result) (c .before .before .before .coin-end .ensures) (c .before .before .if1 .left) in
-    in-turn (take (c .before .before .before .before .before .before .before .before .args .len) (c .before .before .before .before .before .before .before .before .args .coin)) (w .coins (c .before .before .before .before .before .loop .left) (c .before .before .before .before .loop-test .taken)) (sym (c .if2 .left) ∙ c .before .coin-is .ensures) (c .before .before .before .before .before .loop .inv)
+loop-again c =
+    let start = c .before .before .before .before .before .before .before .before in
+    let coin-end = c .before .before .before .coin-end in
+    let w : Whole (start .args .s .now) (c .before .before .before .before .before .loop .at) (coin-end .result) = whole (start .args .s .now) (c .before .before .before .before .before .loop .at) (coin-end .result)
+    (coin-end .ensures) (c .before .before .if1 .left) in
+    in-turn (take (start .args .len) (start .args .coin)) (w .coins (c .before .before .before .before .before .loop .left) (c .before .before .before .before .loop-test .taken)) (sym (c .if2 .left) ∙ c .before .coin-is .ensures)
+    (c .before .before .before .before .before .loop .inv)
 
 returns-3 : tie.Need-returns-3 Inv-loop μ-loop
-returns-3 c = in-done (take (c .before .before .before .before .args .len) (c .before .before .before .before .args .coin)) (coins-end (drop (c .before .loop .at) (c .before .before .before .before .args .s .now)) (c .before .loop .left) (c .loop-test .left)) (c .before .loop .inv)
+returns-3 c =
+    let start = c .before .before .before .before in
+    in-done (take (start .args .len) (start .args .coin)) (coins-end (drop (c .before .loop .at) (start .args .s .now)) (c .before .loop .left) (c .loop-test .left)) (c .before .loop .inv)
 
 pub has-coin-spec : {M : Type 1} → statement M
 has-coin-spec =

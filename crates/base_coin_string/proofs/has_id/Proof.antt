@@ -39,7 +39,11 @@ same-requires : tie.Need-same-requires Inv-loop μ-loop
 same-requires c κs = search needs
 
 returns : tie.Need-returns Inv-loop μ-loop
-returns c = in-hit (c .before .before .before .before .before .before .before .args .id .now) (ids-step (c .before .before .before .before .before .before .before .args .s .now) (c .before .before .before .before .before .loop .at) (c .before .before .before .before .before .loop .left) (c .before .before .before .before .loop-test .taken)) (sym (c .if1 .taken) ∙ c .before .same .ensures ∙ ap (λ (l : List ℕ). eqs l (c .before .before .before .before .before .before .before .args .id .now)) (c .before .before .before .part .ensures)) (c .before .before .before .before .before .loop .inv .1)
+returns c =
+    let start = c .before .before .before .before .before .before .before in
+    in-hit (start .args .id .now) (ids-step (start .args .s .now) (c .before .before .before .before .before .loop .at) (c .before .before .before .before .before .loop .left)
+    (c .before .before .before .before .loop-test .taken)) (sym (c .if1 .taken) ∙ c .before .same .ensures ∙ ap (λ (l : List ℕ). eqs l (start .args .id .now)) (c .before .before .before .part .ensures))
+    (c .before .before .before .before .before .loop .inv .1)
 
 sub-left : tie.Need-sub-left Inv-loop μ-loop
 sub-left c = search needs
@@ -48,10 +52,18 @@ loop-less : tie.Need-loop-less Inv-loop μ-loop
 loop-less c = search needs
 
 loop-again : tie.Need-loop-again Inv-loop μ-loop
-loop-again c = (omega arith, in-turn (c .before .before .before .before .before .before .before .args .id .now) (ids-step (c .before .before .before .before .before .before .before .args .s .now) (c .before .before .before .before .before .loop .at) (c .before .before .before .before .before .loop .left) (c .before .before .before .before .loop-test .taken)) (sym (c .if1 .left) ∙ c .before .same .ensures ∙ ap (λ (l : List ℕ). eqs l (c .before .before .before .before .before .before .before .args .id .now)) (c .before .before .before .part .ensures)) (c .before .before .before .before .before .loop .inv .1))
+loop-again c =
+    let start = c .before .before .before .before .before .before .before in (
+      omega arith,
+      in-turn (start .args .id .now)
+          (ids-step (start .args .s .now) (c .before .before .before .before .before .loop .at) (c .before .before .before .before .before .loop .left) (c .before .before .before .before .loop-test .taken))
+          (sym (c .if1 .left) ∙ c .before .same .ensures ∙ ap (λ (l : List ℕ). eqs l (start .args .id .now)) (c .before .before .before .part .ensures)) (c .before .before .before .before .before .loop .inv .1),
+    )
 
 returns-2 : tie.Need-returns-2 Inv-loop μ-loop
-returns-2 c = in-done (c .before .before .before .args .id .now) (ids-end (drop (c .before .loop .at) (c .before .before .before .args .s .now)) (c .before .loop .left) (c .loop-test .left)) (c .before .loop .inv .1)
+returns-2 c =
+    let start = c .before .before .before in
+    in-done (start .args .id .now) (ids-end (drop (c .before .loop .at) (start .args .s .now)) (c .before .loop .left) (c .loop-test .left)) (c .before .loop .inv .1)
 
 pub has-id-spec : {M : Type 1} → statement M
 has-id-spec =

@@ -32,16 +32,21 @@ returns : tie.Need-returns Inv-loop μ-loop
 returns c = list-short (c .before .before .before .args .s .now) (c .if1 .taken)
 
 returns-2 : tie.Need-returns-2 Inv-loop μ-loop
-returns-2 c = list-many (c .before .before .before .before .args .s .now) (c .before .before .list-count .result) (c .before .if1 .left) (c .before .before .list-count .ensures) (c .if2 .taken)
+returns-2 c =
+    let list-count = c .before .before .list-count in
+    list-many (c .before .before .before .before .args .s .now) (list-count .result) (c .before .if1 .left) (list-count .ensures) (c .if2 .taken)
 
 loop-holds : tie.Need-loop-holds Inv-loop μ-loop
-loop-holds c = (c .before .if1 .left, list-start (c .before .before .before .before .args .s .now) (c .before .before .list-count .result) (c .before .if1 .left) (c .before .before .list-count .ensures) (c .if2 .left))
+loop-holds c =
+    let list-count = c .before .before .list-count in
+    (c .before .if1 .left, list-start (c .before .before .before .before .args .s .now) (list-count .result) (c .before .if1 .left) (list-count .ensures) (c .if2 .left))
 
 coin-end-requires : tie.Need-coin-end-requires Inv-loop μ-loop
 coin-end-requires c κs = search needs
 
 returns-3 : tie.Need-returns-3 Inv-loop μ-loop
-returns-3 c = sym (c .before .before .before .loop .inv .1 ∙ broken (c .before .before .before .before .before .before .before .before .args .s .now) (c .before .before .before .loop .at) (c .before .coin-end .result) (c .before .coin-end .ensures) (c .if3 .taken) .used (c .before .before .before .loop .left) (c .before .before .loop-test .taken))
+returns-3 c = sym (c .before .before .before .loop .inv .1 ∙ broken (c .before .before .before .before .before .before .before .before .args .s .now) (c .before .before .before .loop .at) (c .before .coin-end .result)
+    (c .before .coin-end .ensures) (c .if3 .taken) .used (c .before .before .before .loop .left) (c .before .before .loop-test .taken))
 
 sub-left : tie.Need-sub-left Inv-loop μ-loop
 sub-left c = search needs
@@ -50,11 +55,16 @@ loop-less : tie.Need-loop-less Inv-loop μ-loop
 loop-less c = search needs
 
 loop-again : tie.Need-loop-again Inv-loop μ-loop
-loop-again c = let w : Whole (c .before .before .before .before .before .before .before .before .args .s .now) (c .before .before .before .loop .at) (c .before .coin-end .result) = whole (c .before .before .before .before .before .before .before .before .args .s .now) (c .before .before .before .loop .at) (c .before .coin-end .result) (c .before .coin-end .ensures) (c .if3 .left) in
+loop-again c =
+    let start = c .before .before .before .before .before .before .before .before in
+    let w : Whole (start .args .s .now) (c .before .before .before .loop .at) (c .before .coin-end .result) = whole (start .args .s .now) (c .before .before .before .loop .at) (c .before .coin-end .result)
+    (c .before .coin-end .ensures) (c .if3 .left) in
     (w .end, c .before .before .before .loop .inv .1 ∙ w .used (c .before .before .before .loop .left) (c .before .before .loop-test .taken))
 
 returns-4 : tie.Need-returns-4 Inv-loop μ-loop
-returns-4 c = sym (c .before .loop .inv .1 ∙ used-zero (drop (c .before .loop .at) (c .before .before .before .before .before .before .args .s .now)) (c .before .loop .left) (c .loop-test .left) ∙ used-end (c .before .before .before .before .before .before .args .s .now) (c .before .loop .at) (c .before .loop .inv .0))
+returns-4 c =
+    let start = c .before .before .before .before .before .before in
+    sym (c .before .loop .inv .1 ∙ used-zero (drop (c .before .loop .at) (start .args .s .now)) (c .before .loop .left) (c .loop-test .left) ∙ used-end (start .args .s .now) (c .before .loop .at) (c .before .loop .inv .0))
 
 pub is-coin-list-spec : {M : Type 1} → statement M
 is-coin-list-spec =

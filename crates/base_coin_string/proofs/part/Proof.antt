@@ -19,7 +19,8 @@ returns-2 : tie.Need-returns-2
 returns-2 c = sym (part-past (c .before .before .before .args .s .now) (c .before .before .before .args .from) (c .before .before .before .args .to) (c .before .if2 .taken))
 
 returns-3 : tie.Need-returns-3
-returns-3 c = part-to-end (c .before .before .before .before .args .s .now) (c .before .before .before .before .args .from) ∙ sym (part-rest (c .before .before .before .before .args .s .now) (c .before .before .before .before .args .from) (c .before .before .before .before .args .to) (c .before .if3 .taken))
+returns-3 c = part-to-end (c .before .before .before .before .args .s .now) (c .before .before .before .before .args .from) ∙ sym
+    (part-rest (c .before .before .before .before .args .s .now) (c .before .before .before .before .args .from) (c .before .before .before .before .args .to) (c .before .if3 .taken))
 
 pub part-spec : {M : Type 1} → statement M
 part-spec =

@@ -27,7 +27,10 @@ shared-slice-read-push : tie.Need-shared-slice-read-push Inv-loop μ-loop
 shared-slice-read-push c = search needs
 
 push-requires : tie.Need-push-requires Inv-loop μ-loop
-push-requires c κs = let e = ap (λ (o : CoinString). o .len) (c .before .before .loop .inv .1) ∙ pushes-len (c .before .before .before .before .args .c) (take (c .before .before .loop .i) (c .before .before .before .before .args .s .now)) in omega (arith, e, length-take-le (c .before .before .loop .i) (c .before .before .before .before .args .s .now) (c .before .before .loop .inv .0), c .before .before .before .before .pre)
+push-requires c κs =
+    let start = c .before .before .before .before in
+    let e = ap (λ (o : CoinString). o .len) (c .before .before .loop .inv .1) ∙ pushes-len (start .args .c) (take (c .before .before .loop .i) (start .args .s .now)) in omega
+    (arith, e, length-take-le (c .before .before .loop .i) (start .args .s .now) (c .before .before .loop .inv .0), start .pre)
 
 add-i : tie.Need-add-i Inv-loop μ-loop
 add-i c = search needs
@@ -36,10 +39,17 @@ loop-less : tie.Need-loop-less Inv-loop μ-loop
 loop-less c = search needs
 
 loop-again : tie.Need-loop-again Inv-loop μ-loop
-loop-again c = (search needs, c .push .ensures ∙ ap (λ (o : CoinString). pushed o (getD (c .before .before .before .before .before .args .s .now) (c .before .before .before .loop .i) 0)) (c .before .before .before .loop .inv .1) ∙ pushes-step (c .before .before .before .before .before .args .c) (c .before .before .before .before .before .args .s .now) (c .before .before .before .loop .i) (c .before .before .loop-test .taken))
+loop-again c =
+    let start = c .before .before .before .before .before in (
+      search needs,
+      c .push .ensures ∙ ap (λ (o : CoinString). pushed o (getD (start .args .s .now) (c .before .before .before .loop .i) 0)) (c .before .before .before .loop .inv .1) ∙ pushes-step (start .args .c)
+          (start .args .s .now) (c .before .before .before .loop .i) (c .before .before .loop-test .taken),
+    )
 
 returns : tie.Need-returns Inv-loop μ-loop
-returns c = c .before .loop .inv .1 ∙ ap (pushes (c .before .before .before .args .c)) (take-all (c .before .loop .i) (c .before .before .before .args .s .now) (c .loop-test .left))
+returns c =
+    let start = c .before .before .before in
+    c .before .loop .inv .1 ∙ ap (pushes (start .args .c)) (take-all (c .before .loop .i) (start .args .s .now) (c .loop-test .left))
 
 pub push-all-spec : {M : Type 1} → statement M
 push-all-spec =

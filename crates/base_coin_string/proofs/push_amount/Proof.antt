@@ -26,7 +26,11 @@ part-push-all-start : tie.Need-part-push-all-start
 part-push-all-start c = omega (arith, c .before .atom-len .ensures, length-le (c .before .before .before .args .amount))
 
 returns : tie.Need-returns
-returns c = c .push-all .ensures ∙ ap (pushes (c .before .before .before .before .before .args .c)) (nine-part (c .before .before .before .before .before .args .amount) (9 - c .before .before .before .atom-len .result) (c .before .before .before .before .nine-bytes .result) (c .before .before .before .before .nine-bytes .ensures) (ap (λ (k : ℕ). 9 - k) (c .before .before .before .atom-len .ensures)))
+returns c =
+    let start = c .before .before .before .before .before in
+    let nine-bytes = c .before .before .before .before .nine-bytes in
+    let atom-len = c .before .before .before .atom-len in
+    c .push-all .ensures ∙ ap (pushes (start .args .c)) (nine-part (start .args .amount) (9 - atom-len .result) (nine-bytes .result) (nine-bytes .ensures) (ap (λ (k : ℕ). 9 - k) (atom-len .ensures)))
 
 pub push-amount-spec : {M : Type 1} → statement M
 push-amount-spec =

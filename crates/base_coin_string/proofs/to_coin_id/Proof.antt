@@ -16,7 +16,9 @@ use Rattle.base_coin_string.proofs.within.Reads as within-reads
 use Rattle.base_sha256.proofs.sha256.Reads as sha256-reads
 
 returns : tie.Need-returns
-returns c = let b = c .before .before .before .before .args .t1 in let n = c .before .before .before .before .args .len in let l : length b ≡ 73 = search needs in
+returns c =
+    let start = c .before .before .before .before in
+    let b = start .args .t1 in let n = start .args .len in let l : length b ≡ 73 = search needs in
     rw sub-zero at (c .sha256 .ensures) ∙ ap (λ (k : ℕ). coinIdOf (take k b)) (c .before .before .before .within .ensures) ∙ ap coinIdOf (take-min 73 n b l)
 
 pub to-coin-id-spec : {M : Type 1} → statement M

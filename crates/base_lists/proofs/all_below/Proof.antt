@@ -41,11 +41,15 @@ loop-less c = search needs
 
 -- src/lib.rt:38:5
 loop-again : tie.Need-loop-again Inv-loop μ-loop
-loop-again c = (search needs, all-turn (λ (x : ℕ). ltb x (c .before .before .before .args .n)) (c .before .before .loop .ok) (rest-step (c .before .before .before .args .s .now) (c .before .before .loop .i) 0 (c .before .loop-test .taken)) (c .before .before .loop .inv .1))
+loop-again c =
+    let start = c .before .before .before in
+    (search needs, all-turn (λ (x : ℕ). ltb x (start .args .n)) (c .before .before .loop .ok) (rest-step (start .args .s .now) (c .before .before .loop .i) 0 (c .before .loop-test .taken)) (c .before .before .loop .inv .1))
 
 -- src/lib.rt:33:1
 returns : tie.Need-returns Inv-loop μ-loop
-returns c = all-done (λ (x : ℕ). ltb x (c .before .before .args .n)) (c .before .loop .ok) (drop-of-length-le (c .before .before .args .s .now) {i = c .before .loop .i} (c .loop-test .left)) (c .before .loop .inv .1)
+returns c =
+    let start = c .before .before in
+    all-done (λ (x : ℕ). ltb x (start .args .n)) (c .before .loop .ok) (drop-of-length-le (start .args .s .now) {i = c .before .loop .i} (c .loop-test .left)) (c .before .loop .inv .1)
 
 pub all-below-spec : {M : Type 1} → statement M
 all-below-spec =

@@ -33,7 +33,9 @@ shared-slice-read-if1 c = search needs
 
 -- src/lib.rt:12:13
 returns : tie.Need-returns Inv-loop μ-loop
-returns c = elem-hit (c .before .before .before .before .args .x) (rest-step (c .before .before .before .before .args .s .now) (c .before .before .before .loop .i) 0 (c .before .before .loop-test .taken)) (c .if1 .taken) (c .before .before .before .loop .inv .1)
+returns c =
+    let start = c .before .before .before .before in
+    elem-hit (start .args .x) (rest-step (start .args .s .now) (c .before .before .before .loop .i) 0 (c .before .before .loop-test .taken)) (c .if1 .taken) (c .before .before .before .loop .inv .1)
 
 -- src/lib.rt:14:9
 add-i : tie.Need-add-i Inv-loop μ-loop
@@ -45,11 +47,15 @@ loop-less c = search needs
 
 -- src/lib.rt:10:5
 loop-again : tie.Need-loop-again Inv-loop μ-loop
-loop-again c = (search needs, elem-turn (c .before .before .before .before .args .x) (rest-step (c .before .before .before .before .args .s .now) (c .before .before .before .loop .i) 0 (c .before .before .loop-test .taken)) (c .if1 .left) (c .before .before .before .loop .inv .1))
+loop-again c =
+    let start = c .before .before .before .before in
+    (search needs, elem-turn (start .args .x) (rest-step (start .args .s .now) (c .before .before .before .loop .i) 0 (c .before .before .loop-test .taken)) (c .if1 .left) (c .before .before .before .loop .inv .1))
 
 -- src/lib.rt:6:1
 returns-2 : tie.Need-returns-2 Inv-loop μ-loop
-returns-2 c = sym (c .before .loop .inv .1 ∙ ap (elemb (c .before .before .args .x)) (drop-of-length-le (c .before .before .args .s .now) {i = c .before .loop .i} (c .loop-test .left)))
+returns-2 c =
+    let start = c .before .before in
+    sym (c .before .loop .inv .1 ∙ ap (elemb (start .args .x)) (drop-of-length-le (start .args .s .now) {i = c .before .loop .i} (c .loop-test .left)))
 
 pub contains-spec : {M : Type 1} → statement M
 contains-spec =

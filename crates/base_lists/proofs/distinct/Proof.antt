@@ -54,12 +54,14 @@ shared-slice-read-contains c = search needs
 contains-requires : tie.Need-contains-requires Inv-loop μ-loop
 contains-requires c κs = search needs
 
-tail : (c : tie.After-contains Inv-loop μ-loop) → c .contains .result ≡ elemb (getD (c .before .before .before .before .before .before .args .s .now) (c .before .before .before .before .loop .i) 0) (drop (c .before .before .before .before .loop .i + 1) (c .before .before .before .before .before .before .args .s .now))
+tail : (c : tie.After-contains Inv-loop μ-loop) → c .contains .result ≡ elemb (getD (c .before .before .before .before .before .before .args .s .now) (c .before .before .before .before .loop .i) 0)
+    (drop (c .before .before .before .before .loop .i + 1) (c .before .before .before .before .before .before .args .s .now))
 tail c = c .contains .ensures ∙ simp part-to-end
 
 -- src/lib.rt:26:13
 returns : tie.Need-returns Inv-loop μ-loop
-returns c = distinct-hit (rest-step (c .before .before .before .before .before .before .before .args .s .now) (c .before .before .before .before .before .loop .i) 0 (c .before .before .before .before .loop-test .taken)) (sym (tail (c .before)) ∙ c .if1 .taken) (c .before .before .before .before .before .loop .inv .1)
+returns c = distinct-hit (rest-step (c .before .before .before .before .before .before .before .args .s .now) (c .before .before .before .before .before .loop .i) 0 (c .before .before .before .before .loop-test .taken))
+    (sym (tail (c .before)) ∙ c .if1 .taken) (c .before .before .before .before .before .loop .inv .1)
 
 -- src/lib.rt:23:5
 loop-less : tie.Need-loop-less Inv-loop μ-loop
@@ -67,7 +69,12 @@ loop-less c = search needs
 
 -- src/lib.rt:23:5
 loop-again : tie.Need-loop-again Inv-loop μ-loop
-loop-again c = (search needs, distinct-turn (rest-step (c .before .before .before .before .before .before .before .args .s .now) (c .before .before .before .before .before .loop .i) 0 (c .before .before .before .before .loop-test .taken)) (sym (tail (c .before)) ∙ c .if1 .left) (c .before .before .before .before .before .loop .inv .1))
+loop-again c = (
+  search needs,
+  distinct-turn
+      (rest-step (c .before .before .before .before .before .before .before .args .s .now) (c .before .before .before .before .before .loop .i) 0 (c .before .before .before .before .loop-test .taken))
+      (sym (tail (c .before)) ∙ c .if1 .left) (c .before .before .before .before .before .loop .inv .1),
+)
 
 -- src/lib.rt:19:1
 returns-2 : tie.Need-returns-2 Inv-loop μ-loop

@@ -33,7 +33,10 @@ shared-slice-read-if2-2 : tie.Need-shared-slice-read-if2-2 Inv-loop μ-loop
 shared-slice-read-if2-2 c = search needs
 
 returns-2 : tie.Need-returns-2 Inv-loop μ-loop
-returns-2 c = eqs-differ (rest-step (c .before .before .before .before .before .before .args .a .now) (c .before .before .before .before .loop .i) 0 (c .before .before .before .loop-test .taken)) (rest-step (c .before .before .before .before .before .before .args .b .now) (c .before .before .before .before .loop .i) 0 (search needs)) (c .if2 .taken) (c .before .before .before .before .loop .inv .2)
+returns-2 c =
+    let start = c .before .before .before .before .before .before in
+    eqs-differ (rest-step (start .args .a .now) (c .before .before .before .before .loop .i) 0 (c .before .before .before .loop-test .taken))
+    (rest-step (start .args .b .now) (c .before .before .before .before .loop .i) 0 (search needs)) (c .if2 .taken) (c .before .before .before .before .loop .inv .2)
 
 add-i : tie.Need-add-i Inv-loop μ-loop
 add-i c = search needs
@@ -42,10 +45,18 @@ loop-less : tie.Need-loop-less Inv-loop μ-loop
 loop-less c = search needs
 
 loop-again : tie.Need-loop-again Inv-loop μ-loop
-loop-again c = (search needs, c .before .before .before .before .loop .inv .1, eqs-turn (rest-step (c .before .before .before .before .before .before .args .a .now) (c .before .before .before .before .loop .i) 0 (c .before .before .before .loop-test .taken)) (rest-step (c .before .before .before .before .before .before .args .b .now) (c .before .before .before .before .loop .i) 0 (search needs)) (c .if2 .left) (c .before .before .before .before .loop .inv .2))
+loop-again c =
+    let start = c .before .before .before .before .before .before in (
+      search needs,
+      c .before .before .before .before .loop .inv .1,
+      eqs-turn (rest-step (start .args .a .now) (c .before .before .before .before .loop .i) 0 (c .before .before .before .loop-test .taken))
+          (rest-step (start .args .b .now) (c .before .before .before .before .loop .i) 0 (search needs)) (c .if2 .left) (c .before .before .before .before .loop .inv .2),
+    )
 
 returns-3 : tie.Need-returns-3 Inv-loop μ-loop
-returns-3 c = eqs-done (drop-of-length-le (c .before .before .before .args .a .now) {i = c .before .loop .i} (c .loop-test .left)) (drop-of-length-le (c .before .before .before .args .b .now) {i = c .before .loop .i} (search needs)) (c .before .loop .inv .2)
+returns-3 c =
+    let start = c .before .before .before in
+    eqs-done (drop-of-length-le (start .args .a .now) {i = c .before .loop .i} (c .loop-test .left)) (drop-of-length-le (start .args .b .now) {i = c .before .loop .i} (search needs)) (c .before .loop .inv .2)
 
 pub same-spec : {M : Type 1} → statement M
 same-spec =

@@ -33,11 +33,12 @@ loop-again c =
 
 returns : tie.Need-returns Inv-loop μ-loop
 returns c =
+    let count-in-block = c .before .before .count-in-block in
     let x = c .before .before .before .before .before .args in
     let l = c .before .loop in
-    let e : l .j ≡ c .before .before .count-in-block .result = omega arith in
+    let e : l .j ≡ count-in-block .result = omega arith in
     block-is (message (x .s .now) (x .x) (x .end)) (l .b) (x .at) (length (x .s .now)) (l .j) (rw padded-length (omega arith)) (l .inv .1)
-    (rw e (c .before .before .count-in-block .ensures)) (l .inv .2)
+    (rw e (count-in-block .ensures)) (l .inv .2)
 
 pub padded-block-spec : {M : Type 1} → statement M
 padded-block-spec =

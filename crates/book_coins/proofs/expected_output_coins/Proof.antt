@@ -32,7 +32,15 @@ no-outputs-requires : tie.Need-no-outputs-requires Inv-loop μ-loop
 no-outputs-requires c κs = search needs
 
 loop-holds : tie.Need-loop-holds Inv-loop μ-loop
-loop-holds c = (search needs, rw (c .before .at-most-four .ensures) (min-le-right (c .before .before .before .args .b .count) 4), search (needs, spends-long), omega (arith, ap (λ (r : OutputCoins). r .count) (c .no-outputs .ensures)), laying-start (take (c .before .at-most-four .result) (c .before .before .before .args .b .spends)) (c .no-outputs .ensures))
+loop-holds c =
+    let start = c .before .before .before in (
+      search needs,
+      rw (c .before .at-most-four .ensures) (min-le-right (start .args .b .count) 4),
+      search (needs, spends-long),
+      omega (arith, ap (λ (r : OutputCoins). r .count) (c .no-outputs .ensures)),
+      laying-start
+          (take (c .before .at-most-four .result) (start .args .b .spends)) (c .no-outputs .ensures),
+    )
 
 mul-s : tie.Need-mul-s Inv-loop μ-loop
 mul-s c = search needs
@@ -50,15 +58,26 @@ loop-less : tie.Need-loop-less Inv-loop μ-loop
 loop-less c = search needs
 
 loop-again : tie.Need-loop-again Inv-loop μ-loop
-loop-again c = (search needs, c .before .before .before .loop .inv .1, c .before .before .before .loop .inv .2, omega (arith, c .before .before .before .loop .inv .3, c .push-outputs .ensures .few), laying-turn (c .before .before .before .loop .inv .4) (counted-step (c .before .before .before .before .before .before .before .args .b .spends) (c .before .before .before .before .before .at-most-four .result) (c .before .before .before .loop .i) noSpend (c .before .before .loop-test .taken) (omega (arith, c .before .before .before .loop .inv .1, c .before .before .before .loop .inv .2))) (c .push-outputs .ensures))
+loop-again c = (
+  search needs,
+  c .before .before .before .loop .inv .1,
+  c .before .before .before .loop .inv .2,
+  omega (arith, c .before .before .before .loop .inv .3, c .push-outputs .ensures .few),
+  laying-turn
+      (c .before .before .before .loop .inv .4)
+      (counted-step (c .before .before .before .before .before .before .before .args .b .spends) (c .before .before .before .before .before .at-most-four .result) (c .before .before .before .loop .i) noSpend
+      (c .before .before .loop-test .taken) (omega (arith, c .before .before .before .loop .inv .1, c .before .before .before .loop .inv .2))) (c .push-outputs .ensures),
+)
 
 returns : tie.Need-returns Inv-loop μ-loop
 unfolding expectedOutputCoins
-returns c = let b = c .before .before .before .before .before .args .b in (
-  laying-done (c .before .loop .inv .4) (counted-end (b .spends) (c .before .before .before .at-most-four .result) (c .before .loop .i) (c .loop-test .left) (omega (arith, c .before .loop .inv .1, c .before .loop .inv .2)))
-      ∙ ap (λ (ss : List CoinSpend). outputCells (flatMap (λ s. map (outputCoin s) (outputsOf s)) ss)) (take-cut 4 (b .count) (c .before .before .before .at-most-four .result) (b .spends) (c .before .loop .inv .2) (c .before .before .before .at-most-four .ensures)),
-  omega (arith, c .before .loop .inv .0, c .before .loop .inv .1, c .before .loop .inv .3),
-)
+returns c =
+    let at-most-four = c .before .before .before .at-most-four in
+    let b = c .before .before .before .before .before .args .b in (
+      laying-done (c .before .loop .inv .4) (counted-end (b .spends) (at-most-four .result) (c .before .loop .i) (c .loop-test .left) (omega (arith, c .before .loop .inv .1, c .before .loop .inv .2)))
+          ∙ ap (λ (ss : List CoinSpend). outputCells (flatMap (λ s. map (outputCoin s) (outputsOf s)) ss)) (take-cut 4 (b .count) (at-most-four .result) (b .spends) (c .before .loop .inv .2) (at-most-four .ensures)),
+      omega (arith, c .before .loop .inv .0, c .before .loop .inv .1, c .before .loop .inv .3),
+    )
 
 pub expected-output-coins-spec : {M : Type 1} → statement M
 expected-output-coins-spec =

@@ -29,10 +29,12 @@ loop-again c = let spends = c .before .before .before .before .before .before .a
     (search needs, search needs, search needs, ap (set (c .before .before .before .loop .ids) i) (c .input-coin-id .ensures) ∙ map-step 4 (zeros 32) spentId spends i _ (c .before .before .before .loop .inv .3) (search needs) (search needs))
 
 returns : tie.Need-returns Inv-loop μ-loop
-returns c = let b = c .before .before .before .before .args .b in let n = c .before .before .at-most-four .result in
+returns c =
+    let at-most-four = c .before .before .at-most-four in
+    let b = c .before .before .before .before .args .b in let n = at-most-four .result in
     let e : c .before .loop .i ≡ n = search needs in
     c .before .loop .inv .3 ∙ ap (λ (m : ℕ). cells 4 (zeros 32) (map spentId (take m (b .spends)))) e
-    ∙ ap (λ (ss : List CoinSpend). cells 4 (zeros 32) (map spentId ss)) (take-cut 4 (b .count) n (b .spends) (c .before .loop .inv .2) (c .before .before .at-most-four .ensures))
+    ∙ ap (λ (ss : List CoinSpend). cells 4 (zeros 32) (map spentId ss)) (take-cut 4 (b .count) n (b .spends) (c .before .loop .inv .2) (at-most-four .ensures))
     ∙ ap (cells 4 (zeros 32)) (input-ids b)
 
 pub input-coin-ids-spec : {M : Type 1} → statement M

@@ -29,7 +29,9 @@ output-count-requires : tie.Need-output-count-requires Inv-loop μ-loop
 output-count-requires c κs = search needs
 
 loop-holds : tie.Need-loop-holds Inv-loop μ-loop
-loop-holds c = (search needs, omega arith, laid-none (c .before .before .args .s) (c .before .before .args .o))
+loop-holds c =
+    let start = c .before .before in
+    (search needs, omega arith, laid-none (start .args .s) (start .args .o))
 
 output-coin-requires : tie.Need-output-coin-requires Inv-loop μ-loop
 output-coin-requires c κs = omega (arith, c .before .before .output-count .ensures .most, c .loop-test .taken)
@@ -45,12 +47,29 @@ loop-less c = search needs
 
 loop-again : tie.Need-loop-again Inv-loop μ-loop
 unfolding outputCoin
-loop-again c = let s = c .before .before .before .before .before .before .args .s in let j = c .before .before .before .loop .j in let o = outputAt s j in
-    (search needs, omega (arith, c .before .before .before .loop .inv .1, ap (λ (r : OutputCoins). r .count) (c .push-output .ensures)), laid-turn o (c .before .before .before .loop .inv .2) (ap (λ (k : ℕ). take k (s .outputs)) (add-one j) ∙ take-suc (s .outputs) j noOutput (omega (arith, c .before .before .before .before .output-count .ensures .most, c .before .before .before .before .output-count .ensures .long, c .before .before .loop-test .taken))) (omega (arith, c .before .before .before .before .output-count .ensures .most, c .before .before .loop-test .taken, c .before .before .before .loop .inv .1, c .before .before .before .before .before .before .pre)) (c .before .output-coin .ensures .is ∙ ap (λ (p : List ℕ). cellOf (coinOfParts p (o .«puzzle_hash») (o .amount))) (c .before .before .before .before .before .input-coin-id .ensures)) (c .push-output .ensures))
+loop-again c =
+    let start = c .before .before .before .before .before .before in
+    let output-count = c .before .before .before .before .output-count in
+    let loop-test = c .before .before .loop-test in
+    let s = start .args .s in let j = c .before .before .before .loop .j in let o = outputAt s j in (
+      search needs,
+      omega (arith, c .before .before .before .loop .inv .1, ap (λ (r : OutputCoins). r .count) (c .push-output .ensures)),
+      laid-turn o (c .before .before .before .loop .inv .2)
+          (ap (λ (k : ℕ). take k (s .outputs)) (add-one j) ∙ take-suc (s .outputs) j noOutput (omega (arith, output-count .ensures .most, output-count .ensures .long, loop-test .taken)))
+          (omega (arith, output-count .ensures .most, loop-test .taken, c .before .before .before .loop .inv .1, start .pre))
+          (c .before .output-coin .ensures .is ∙ ap (λ (p : List ℕ). cellOf (coinOfParts p (o .«puzzle_hash») (o .amount))) (c .before .before .before .before .before .input-coin-id .ensures)) (c .push-output .ensures),
+    )
 
 returns : tie.Need-returns Inv-loop μ-loop
-returns c = let s = c .before .before .before .before .args .s in let e : c .before .loop .j ≡ c .before .before .output-count .result = omega (arith, c .before .loop .inv .0, c .loop-test .left) in
-    record { laid = subst (λ (os : List Output). Laid s (c .before .before .before .before .args .o) (c .before .loop .acc) os) (ap (λ (k : ℕ). take k (s .outputs)) e ∙ c .before .before .output-count .ensures .used) (c .before .loop .inv .2); few = omega (arith, c .before .loop .inv .1, c .before .loop .inv .0, c .before .before .output-count .ensures .most) }
+returns c =
+    let start = c .before .before .before .before in
+    let output-count = c .before .before .output-count in
+    let s = start .args .s in let e : c .before .loop .j ≡ output-count .result = omega (arith, c .before .loop .inv .0, c .loop-test .left) in
+    record {
+      laid = subst (λ (os : List Output). Laid s (start .args .o) (c .before .loop .acc) os) (ap (λ (k : ℕ). take k (s .outputs)) e ∙ output-count .ensures .used) (c .before .loop .inv .2);
+      few = omega
+          (arith, c .before .loop .inv .1, c .before .loop .inv .0, output-count .ensures .most);
+    }
 
 pub push-outputs-spec : {M : Type 1} → statement M
 push-outputs-spec =

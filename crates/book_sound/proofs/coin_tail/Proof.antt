@@ -6,7 +6,9 @@ use Rattle.book_sound.proofs.coin_tail.Statement.{statement}
 use Rattle.book_sound.proofs.coin_tail.Tie as tie
 
 returns : tie.Need-returns
-returns c = tail-of 73 isZero (c .before .before .args .n) (c .before .before .args .t1) (search needs) (c .zero-bytes-from .ensures)
+returns c =
+    let start = c .before .before in
+    tail-of 73 isZero (start .args .n) (start .args .t1) (search needs) (c .zero-bytes-from .ensures)
 
 pub coin-tail-spec : {M : Type 1} → statement M
 coin-tail-spec = tie.close (tie.spec (λ c. search needs) (λ c κs. search needs) returns)

@@ -14,18 +14,29 @@ find-attempt-requires : tie.Need-find-attempt-requires
 find-attempt-requires c κs = sound-normal (c .args .b) (c .pre)
 
 status-inactive-requires : tie.Need-status-inactive-requires
-status-inactive-requires c κs = sound-normal (c .before .before .before .before .args .b) (c .before .before .before .before .pre)
+status-inactive-requires c κs =
+    let start = c .before .before .before .before in
+    sound-normal (start .args .b) (start .pre)
 
 returns : tie.Need-returns
 unfolding abandonAttempt
-returns c = c .status-inactive .ensures ∙ ap (statusReply (c .before .before .before .before .before .args .b)) (with-inactive (c .before .before .before .before .before .args .t .0) (view (c .before .before .before .before .before .args .b)) (c .before .before .before .before .find-attempt .ensures) (c .before .before .before .live-place .ensures) Stale abandonLive (c .before .enum-told .given .1))
+returns c =
+    let start = c .before .before .before .before .before in
+    c .status-inactive .ensures ∙ ap (statusReply (start .args .b))
+    (with-inactive (start .args .t .0) (view (start .args .b)) (c .before .before .before .before .find-attempt .ensures) (c .before .before .before .live-place .ensures) Stale abandonLive (c .before .enum-told .given .1))
 
 abandon-live-requires : tie.Need-abandon-live-requires
-abandon-live-requires c κs = (c .before .before .before .before .before .pre, live-within (c .before .before .before .before .before .args .t .0) (view (c .before .before .before .before .before .args .b)) (c .before .before .before .before .find-attempt .ensures) (c .before .before .before .live-place .ensures) (c .before .live .given .1))
+abandon-live-requires c κs =
+    let start = c .before .before .before .before .before in
+    (start .pre, live-within (start .args .t .0) (view (start .args .b)) (c .before .before .before .before .find-attempt .ensures) (c .before .before .before .live-place .ensures) (c .before .live .given .1))
 
 returns-2 : tie.Need-returns-2
 unfolding abandonAttempt
-returns-2 c = c .abandon-live .ensures ∙ ap (statusReply (c .before .before .before .before .before .before .args .b)) (with-live (c .before .before .before .before .before .before .args .t .0) (view (c .before .before .before .before .before .before .args .b)) (c .before .before .before .before .before .find-attempt .ensures) (c .before .before .before .before .live-place .ensures) Stale abandonLive (c .before .before .live .given .1))
+returns-2 c =
+    let start = c .before .before .before .before .before .before in
+    c .abandon-live .ensures ∙ ap (statusReply (start .args .b))
+    (with-live (start .args .t .0) (view (start .args .b)) (c .before .before .before .before .before .find-attempt .ensures) (c .before .before .before .before .live-place .ensures) Stale abandonLive
+    (c .before .before .live .given .1))
 
 pub abandon-attempt-sound-spec : {M : Type 1} → statement M
 abandon-attempt-sound-spec =

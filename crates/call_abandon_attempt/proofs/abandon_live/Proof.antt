@@ -11,16 +11,26 @@ submitted-at-requires : tie.Need-submitted-at-requires
 submitted-at-requires c κs = (sound-normal (c .args .b) (c .pre .0), c .pre .1)
 
 remove-submitted-requires : tie.Need-remove-submitted-requires
-remove-submitted-requires c κs = sound-normal (c .before .before .args .b) (c .before .before .pre .0)
+remove-submitted-requires c κs =
+    let start = c .before .before in
+    sound-normal (start .args .b) (start .pre .0)
 
 retire-requires : tie.Need-retire-requires
-retire-requires c κs = rest-normal (c .before .before .before .args .b) (c .before .before .before .pre .0) (idOf (c .before .before .submitted-at .result)) (c .remove-submitted .ensures)
+retire-requires c κs =
+    let start = c .before .before .before in
+    rest-normal (start .args .b) (start .pre .0) (idOf (c .before .before .submitted-at .result)) (c .remove-submitted .ensures)
 
 returns : tie.Need-returns
-returns c = c .status-refused .ensures ∙ abandon-full (c .before .before .before .before .before .before .args .b) (c .before .before .before .before .before .before .pre .0) (c .before .before .before .before .before .before .args .k) (c .before .before .before .before .before .submitted-at .ensures) (c .before .before .before .remove-submitted .ensures) (c .before .before .retire .ensures) (c .before .if1 .taken)
+returns c =
+    let start = c .before .before .before .before .before .before in
+    c .status-refused .ensures ∙ abandon-full (start .args .b) (start .pre .0) (start .args .k) (c .before .before .before .before .before .submitted-at .ensures) (c .before .before .before .remove-submitted .ensures)
+    (c .before .before .retire .ensures) (c .before .if1 .taken)
 
 returns-2 : tie.Need-returns-2
-returns-2 c = c .status-done .ensures ∙ abandon-answer (c .before .before .before .before .before .before .before .args .b) (c .before .before .before .before .before .before .before .pre .0) (c .before .before .before .before .before .before .before .args .k) (c .before .before .before .before .before .before .submitted-at .ensures) (c .before .before .before .before .remove-submitted .ensures) (c .before .before .before .retire .ensures) (c .before .before .if1 .left)
+returns-2 c =
+    let start = c .before .before .before .before .before .before .before in
+    c .status-done .ensures ∙ abandon-answer (start .args .b) (start .pre .0) (start .args .k) (c .before .before .before .before .before .before .submitted-at .ensures)
+    (c .before .before .before .before .remove-submitted .ensures) (c .before .before .before .retire .ensures) (c .before .before .if1 .left)
 
 pub abandon-live-spec : {M : Type 1} → statement M
 abandon-live-spec =

@@ -21,7 +21,9 @@ abbrev μ-loop : tie.MeasureT-loop
 μ-loop out₀ ids absent b n at₀ count₀ i₀ out at count i = n - i
 
 loop-holds : tie.Need-loop-holds Inv-loop μ-loop
-loop-holds c = let a = c .before .before .before .args in let b = a .t2 in let s = sizes b (c .before .before .before .pre .0) in
+loop-holds c =
+    let start = c .before .before .before in
+    let a = start .args in let b = a .t2 in let s = sizes b (start .pre .0) in
     (search needs, s .submitted, s .submitted-long, search needs, search needs, collecting-start (a .ids .now) (coinsIn (a .absent .now)) (take (b .«submitted_count») (b .submitted)) (a .out .now))
 
 put-absent-requires : tie.Need-put-absent-requires Inv-loop μ-loop

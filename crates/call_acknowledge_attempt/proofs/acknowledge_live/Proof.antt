@@ -17,19 +17,26 @@ returns c = let z = c .before .before .before .before .before in
 returns-2 : tie.Need-returns-2
 returns-2 c = let z = c .before .before .before .before .before .before .before .before .before .before .before .before in
     c .status-refused2 .ensures
-    ∙ acknowledge-other (z .args .t1) (z .pre .0) (z .args .k) (z .pre .1) (read-at (z .args .t1) (sound-normal (z .args .t1) (z .pre .0)) (z .args .k) (z .pre .1) _) (not-false _ (c .before .before .before .before .before .before .before .before .if1 .left))
-    (compared (c .before .before .same32 .ensures) (c .before .before .before .before .before .current-variant-fingerprint .ensures) (c .before .before .before .before .before .before .resolved-variant-fingerprint .ensures) (not-true _ (c .before .if2 .taken)))
+    ∙ acknowledge-other (z .args .t1) (z .pre .0) (z .args .k) (z .pre .1) (read-at (z .args .t1) (sound-normal (z .args .t1) (z .pre .0)) (z .args .k) (z .pre .1) _)
+    (not-false _ (c .before .before .before .before .before .before .before .before .if1 .left))
+    (compared (c .before .before .same32 .ensures) (c .before .before .before .before .before .current-variant-fingerprint .ensures) (c .before .before .before .before .before .before .resolved-variant-fingerprint .ensures)
+    (not-true _ (c .before .if2 .taken)))
 
 unqueue-requires : tie.Need-unqueue-requires
 unqueue-requires c κs = let z = c .before .before .before .before .before .before .before .before .before .before .before .before .before in
     stored-normal (z .args .k) (c .acknowledged-aside .result) (sound-normal (z .args .t1) (z .pre .0)) (store-is (z .args .t1) (sound-normal (z .args .t1) (z .pre .0)) (z .args .k) (c .acknowledged-aside .result) (z .pre .1))
 
 returns-3 : tie.Need-returns-3
-returns-3 c = let z = c .before .before .before .before .before .before .before .before .before .before .before .before .before .before .before in
+returns-3 c =
+    let resolved-variant-fingerprint = c .before .before .before .before .before .before .before .before .before .resolved-variant-fingerprint in
+    let acknowledged-aside = c .before .before .acknowledged-aside in
+    let z = c .before .before .before .before .before .before .before .before .before .before .before .before .before .before .before in
     c .status-done .ensures
-    ∙ acknowledge-answer (z .args .t1) (z .pre .0) (z .args .k) (z .pre .1) (read-at (z .args .t1) (sound-normal (z .args .t1) (z .pre .0)) (z .args .k) (z .pre .1) _) (not-false _ (c .before .before .before .before .before .before .before .before .before .before .before .if1 .left))
-    (compared (c .before .before .before .before .before .same32 .ensures) (c .before .before .before .before .before .before .before .before .current-variant-fingerprint .ensures) (c .before .before .before .before .before .before .before .before .before .resolved-variant-fingerprint .ensures) (not-false _ (c .before .before .before .before .if2 .left)))
-    (c .before .before .before .before .before .before .before .before .before .resolved-variant-fingerprint .ensures) (c .before .before .acknowledged-aside .ensures) (store-is (z .args .t1) (sound-normal (z .args .t1) (z .pre .0)) (z .args .k) (c .before .before .acknowledged-aside .result) (z .pre .1)) (c .before .unqueue .ensures)
+    ∙ acknowledge-answer (z .args .t1) (z .pre .0) (z .args .k) (z .pre .1) (read-at (z .args .t1) (sound-normal (z .args .t1) (z .pre .0)) (z .args .k) (z .pre .1) _)
+    (not-false _ (c .before .before .before .before .before .before .before .before .before .before .before .if1 .left))
+    (compared (c .before .before .before .before .before .same32 .ensures) (c .before .before .before .before .before .before .before .before .current-variant-fingerprint .ensures) (resolved-variant-fingerprint .ensures)
+    (not-false _ (c .before .before .before .before .if2 .left)))
+    (resolved-variant-fingerprint .ensures) (acknowledged-aside .ensures) (store-is (z .args .t1) (sound-normal (z .args .t1) (z .pre .0)) (z .args .k) (acknowledged-aside .result) (z .pre .1)) (c .before .unqueue .ensures)
 
 pub acknowledge-live-spec : {M : Type 1} → statement M
 acknowledge-live-spec =

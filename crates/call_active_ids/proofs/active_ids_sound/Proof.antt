@@ -15,7 +15,9 @@ widened-requires c κs = let b = c .before .args .b in
     count-is (activeIn (view b .submitted)) (c .active-in .ensures) (active-fit (view b) (sound-normal b (c .before .pre) .fits))
 
 returns : tie.Need-returns
-returns c = active-is (c .before .before .args .b) (c .before .before .pre) (c .before .active-in .ensures) (c .widened .ensures)
+returns c =
+    let start = c .before .before in
+    active-is (start .args .b) (start .pre) (c .before .active-in .ensures) (c .widened .ensures)
 
 pub active-ids-sound-spec : {M : Type 1} → statement M
 active-ids-sound-spec = tie.close (tie.spec active-in-requires widened-requires returns)

@@ -30,14 +30,24 @@ push16-requires c κs = let v = c .before .before .before .before .before .befor
 loop-again : tie.Need-loop-again Inv-loop μ-loop
 loop-again c = let l = c .before .before .before .before .before .before .before .loop in let v = l .inv in
     let t = c .before .before .before .before .before .before .loop-test .taken in
-    let b = c .before .before .before .before .before .before .before .before .before .args .t1 in
-    (search needs, v .1, v .2, collect-keep idOf isActive (take (b .«submitted_count») (b .submitted)) (v .3) (counted-step (b .submitted) (b .«submitted_count») (l .i) _ t (omega (arith, v .1, v .2))) (sym (c .before .before .before .active-entry .ensures) ∙ c .before .before .if1 .taken) (c .push16 .ensures))
+    let b = c .before .before .before .before .before .before .before .before .before .args .t1 in (
+      search needs,
+      v .1,
+      v .2,
+      collect-keep idOf isActive (take (b .«submitted_count») (b .submitted)) (v .3) (counted-step (b .submitted) (b .«submitted_count») (l .i) _ t (omega (arith, v .1, v .2)))
+          (sym (c .before .before .before .active-entry .ensures) ∙ c .before .before .if1 .taken) (c .push16 .ensures),
+    )
 
 loop-again-2 : tie.Need-loop-again-2 Inv-loop μ-loop
 loop-again-2 c = let l = c .before .before .before .before .before .loop in let v = l .inv in
     let t = c .before .before .before .before .loop-test .taken in
-    let b = c .before .before .before .before .before .before .before .args .t1 in
-    (search needs, v .1, v .2, collect-skip idOf isActive (take (b .«submitted_count») (b .submitted)) (v .3) (counted-step (b .submitted) (b .«submitted_count») (l .i) _ t (omega (arith, v .1, v .2))) (sym (c .before .active-entry .ensures) ∙ c .if1 .left))
+    let b = c .before .before .before .before .before .before .before .args .t1 in (
+      search needs,
+      v .1,
+      v .2,
+      collect-skip idOf isActive (take (b .«submitted_count») (b .submitted)) (v .3) (counted-step (b .submitted) (b .«submitted_count») (l .i) _ t (omega (arith, v .1, v .2)))
+          (sym (c .before .active-entry .ensures) ∙ c .if1 .left),
+    )
 
 returns : tie.Need-returns Inv-loop μ-loop
 unfolding view

@@ -15,13 +15,23 @@ find-attempt-requires : tie.Need-find-attempt-requires
 find-attempt-requires c κs = sound-normal (c .args .b) (c .pre)
 
 returns : tie.Need-returns
-returns c = attempt-ended (c .before .before .before .before .before .args .b) (sound-normal (c .before .before .before .before .before .args .b) (c .before .before .before .before .before .pre)) none (c .zero .ensures) (attempt-none (c .before .before .before .before .before .args .t .0) (view (c .before .before .before .before .before .args .b)) (c .before .before .before .before .find-attempt .ensures) (c .before .before .before .live-place .ensures) (c .before .enum-told .given .1))
+returns c =
+    let start = c .before .before .before .before .before in
+    attempt-ended (start .args .b) (sound-normal (start .args .b) (start .pre)) none (c .zero .ensures)
+    (attempt-none (start .args .t .0) (view (start .args .b)) (c .before .before .before .before .find-attempt .ensures) (c .before .before .before .live-place .ensures) (c .before .enum-told .given .1))
 
 submitted-at-requires : tie.Need-submitted-at-requires
-submitted-at-requires c κs = (sound-normal (c .before .before .before .before .before .args .b) (c .before .before .before .before .before .pre), live-within (c .before .before .before .before .before .args .t .0) (view (c .before .before .before .before .before .args .b)) (c .before .before .before .before .find-attempt .ensures) (c .before .before .before .live-place .ensures) (c .before .live .given .1))
+submitted-at-requires c κs =
+    let start = c .before .before .before .before .before in
+    (sound-normal (start .args .b) (start .pre), live-within (start .args .t .0) (view (start .args .b)) (c .before .before .before .before .find-attempt .ensures) (c .before .before .before .live-place .ensures) (c .before .live .given .1))
 
 returns-2 : tie.Need-returns-2
-returns-2 c = attempt-ended (c .before .before .before .before .before .before .before .before .args .b) (sound-normal (c .before .before .before .before .before .before .before .before .args .b) (c .before .before .before .before .before .before .before .before .pre)) (some (at (view (c .before .before .before .before .before .before .before .before .args .b)) (c .before .before .before .before .live .given .0 .0) .slots .«active_attempt» .attempt)) (c .filled .ensures ∙ ap (λ (s : SubmittedTx). present (s .slots .«active_attempt» .attempt)) (c .before .before .submitted-at .ensures)) (attempt-live (c .before .before .before .before .before .before .before .before .args .t .0) (view (c .before .before .before .before .before .before .before .before .args .b)) (c .before .before .before .before .before .before .before .find-attempt .ensures) (c .before .before .before .before .before .before .live-place .ensures) (c .before .before .before .before .live .given .1))
+returns-2 c =
+    let start = c .before .before .before .before .before .before .before .before in
+    attempt-ended (start .args .b) (sound-normal (start .args .b) (start .pre)) (some (at (view (start .args .b)) (c .before .before .before .before .live .given .0 .0) .slots .«active_attempt» .attempt))
+    (c .filled .ensures ∙ ap (λ (s : SubmittedTx). present (s .slots .«active_attempt» .attempt)) (c .before .before .submitted-at .ensures))
+    (attempt-live (start .args .t .0) (view (start .args .b)) (c .before .before .before .before .before .before .before .find-attempt .ensures) (c .before .before .before .before .before .before .live-place .ensures)
+    (c .before .before .before .before .live .given .1))
 
 pub attempt-sound-spec : {M : Type 1} → statement M
 attempt-sound-spec =

@@ -6,7 +6,9 @@ use Rattle.call_begin_replay.proofs.begin_replay_sound.Statement.{state
 use Rattle.call_begin_replay.proofs.begin_replay_sound.Tie as tie
 
 set-epoch-requires : tie.Need-set-epoch-requires
-set-epoch-requires c κs = let a = c .before .before .before .args in let s = c .before .before .before .pre in
+set-epoch-requires c κs =
+    let start = c .before .before .before in
+    let a = start .args in let s = start .pre in
     (sound-normal (a .b) s, begun-normal (a .b) _ (c .before .begin .ensures) s)
 
 returns : tie.Need-returns

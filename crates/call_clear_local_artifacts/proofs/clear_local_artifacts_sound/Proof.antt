@@ -27,12 +27,14 @@ clear-pending-requires c κs = let w = c .before .before .withdraw-each in sound
 
 set-epoch-requires : tie.Need-set-epoch-requires
 set-epoch-requires c κs = (
-  unqueued-normal (c .before .before .before .before .before .before .args .b) (c .before .before .before .before .before .all-to-remove .ensures) (c .before .before .before .before .withdraw-each .ensures) (c .before .before .if1 .left) (c .before .clear-pending .ensures),
+  unqueued-normal (c .before .before .before .before .before .before .args .b) (c .before .before .before .before .before .all-to-remove .ensures) (c .before .before .before .before .withdraw-each .ensures)
+      (c .before .before .if1 .left) (c .before .clear-pending .ensures),
   none-normal (c .clear .ensures),
 )
 
 returns-2 : tie.Need-returns-2
-returns-2 c = clear-is (c .before .before .before .before .before .before .before .args .b) (c .before .before .before .before .before .before .all-to-remove .ensures) (c .before .before .before .before .before .withdraw-each .ensures) (c .before .before .before .if1 .left) (c .before .before .clear-pending .ensures) (c .before .clear .ensures) (c .set-epoch .ensures)
+returns-2 c = clear-is (c .before .before .before .before .before .before .before .args .b) (c .before .before .before .before .before .before .all-to-remove .ensures)
+    (c .before .before .before .before .before .withdraw-each .ensures) (c .before .before .before .if1 .left) (c .before .before .clear-pending .ensures) (c .before .clear .ensures) (c .set-epoch .ensures)
 
 pub clear-local-artifacts-sound-spec : {M : Type 1} → statement M
 clear-local-artifacts-sound-spec =

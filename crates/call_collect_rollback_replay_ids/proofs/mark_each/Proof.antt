@@ -25,10 +25,20 @@ mark-one-requires : tie.Need-mark-one-requires Inv-loop μ-loop
 mark-one-requires c κs = c .before .loop .inv .3 .sound
 
 loop-again : tie.Need-loop-again Inv-loop μ-loop
-loop-again c = (search needs, c .before .before .loop .inv .1, c .before .before .loop .inv .2, each-on mark-each (c .mark-one .result) (c .before .before .loop .inv .3) (counted-step (c .before .before .before .before .args .fresh .items) (c .before .before .before .before .args .fresh .count) (c .before .before .loop .i) 0 (c .before .loop-test .taken) (omega (arith, c .before .before .loop .inv .1, c .before .before .loop .inv .2))) (c .mark-one .ensures))
+loop-again c =
+    let start = c .before .before .before .before in (
+      search needs,
+      c .before .before .loop .inv .1,
+      c .before .before .loop .inv .2,
+      each-on mark-each (c .mark-one .result) (c .before .before .loop .inv .3)
+          (counted-step (start .args .fresh .items) (start .args .fresh .count) (c .before .before .loop .i) 0 (c .before .loop-test .taken) (omega (arith, c .before .before .loop .inv .1, c .before .before .loop .inv .2)))
+          (c .mark-one .ensures),
+    )
 
 returns : tie.Need-returns Inv-loop μ-loop
-returns c = each-done mark-each (c .before .loop .inv .3) (counted-end (c .before .before .before .args .fresh .items) (c .before .before .before .args .fresh .count) (c .before .loop .i) (c .loop-test .left) (omega (arith, c .before .loop .inv .1, c .before .loop .inv .2)))
+returns c =
+    let start = c .before .before .before in
+    each-done mark-each (c .before .loop .inv .3) (counted-end (start .args .fresh .items) (start .args .fresh .count) (c .before .loop .i) (c .loop-test .left) (omega (arith, c .before .loop .inv .1, c .before .loop .inv .2)))
 
 pub mark-each-spec : {M : Type 1} → statement M
 mark-each-spec =

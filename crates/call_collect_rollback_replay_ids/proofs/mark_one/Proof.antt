@@ -8,7 +8,9 @@ reopen-submitted-requires : tie.Need-reopen-submitted-requires
 reopen-submitted-requires c κs = replayed-sound (c .before .args .b) (c .before .pre) (c .before .args .id .0) (c .note-replayed .ensures)
 
 returns : tie.Need-returns
-returns c = mark-is (c .before .before .args .b) (c .before .before .pre) (c .before .before .args .id .0) (c .before .note-replayed .ensures) (c .reopen-submitted .ensures)
+returns c =
+    let start = c .before .before in
+    mark-is (start .args .b) (start .pre) (start .args .id .0) (c .before .note-replayed .ensures) (c .reopen-submitted .ensures)
 
 pub mark-one-spec : {M : Type 1} → statement M
 mark-one-spec = tie.close (tie.spec (λ c κs. search needs) reopen-submitted-requires returns)

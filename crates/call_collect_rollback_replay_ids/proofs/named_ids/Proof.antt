@@ -12,10 +12,14 @@ submitted-ids-requires : tie.Need-submitted-ids-requires
 submitted-ids-requires c κs = sound-normal (c .before .args .b) (c .before .pre)
 
 among16-requires : tie.Need-among16-requires
-among16-requires c κs = (count-is (map idOf (view (c .before .before .args .b) .submitted)) (c .submitted-ids .ensures) (ids-fit (c .before .before .args .b) (c .before .before .pre)), cells-are (map idOf (view (c .before .before .args .b) .submitted)) (c .submitted-ids .ensures))
+among16-requires c κs =
+    let start = c .before .before in
+    (count-is (map idOf (view (start .args .b) .submitted)) (c .submitted-ids .ensures) (ids-fit (start .args .b) (start .pre)), cells-are (map idOf (view (start .args .b) .submitted)) (c .submitted-ids .ensures))
 
 returns : tie.Need-returns
-returns c = named-is (c .before .before .before .args .b) (c .before .before .before .pre) (c .before .submitted-ids .ensures) (c .before .before .before .args .ids .now) (c .among16 .ensures)
+returns c =
+    let start = c .before .before .before in
+    named-is (start .args .b) (start .pre) (c .before .submitted-ids .ensures) (start .args .ids .now) (c .among16 .ensures)
 
 pub named-ids-spec : {M : Type 1} → statement M
 named-ids-spec = tie.close (tie.spec submitted-ids-requires among16-requires returns)

@@ -11,16 +11,28 @@ position-of-requires : tie.Need-position-of-requires
 position-of-requires c κs = sound-normal (c .args .b) (c .pre)
 
 returns : tie.Need-returns
-returns c = replay-none (c .before .before .before .args .b) (c .before .before .before .pre) (c .before .before .before .args .id .0) (sym (c .before .before .position-of .ensures) ∙ c .enum-told .given .1)
+returns c =
+    let start = c .before .before .before in
+    replay-none (start .args .b) (start .pre) (start .args .id .0) (sym (c .before .before .position-of .ensures) ∙ c .enum-told .given .1)
 
 mark-replayed-requires : tie.Need-mark-replayed-requires
-mark-replayed-requires c κs = (epoch-normal (c .before .before .before .before .before .args .b) (sound-normal (c .before .before .before .before .before .args .b) (c .before .before .before .before .before .pre)), mark-room (c .before .before .before .before .before .args .b) (c .before .before .before .before .before .pre) (c .before .before .before .before .before .args .id .0) (sym (c .before .before .before .before .position-of .ensures) ∙ c .before .before .place .given .1))
+mark-replayed-requires c κs =
+    let start = c .before .before .before .before .before in
+    (epoch-normal (start .args .b) (sound-normal (start .args .b) (start .pre)), mark-room (start .args .b) (start .pre) (start .args .id .0) (sym (c .before .before .before .before .position-of .ensures) ∙ c .before .before .place .given .1))
 
 set-epoch-requires : tie.Need-set-epoch-requires
-set-epoch-requires c κs = (sound-normal (c .before .before .before .before .before .before .before .args .b) (c .before .before .before .before .before .before .before .pre), epoch-marked (c .before .before .before .before .before .before .before .args .b) (c .before .before .before .before .before .before .before .pre) (c .before .before .before .before .before .before .before .args .id .0) (sym (c .before .before .before .before .before .before .position-of .ensures) ∙ c .before .before .before .before .place .given .1) (c .before .mark-replayed .ensures))
+set-epoch-requires c κs =
+    let start = c .before .before .before .before .before .before .before in (
+      sound-normal (start .args .b) (start .pre),
+      epoch-marked (start .args .b) (start .pre) (start .args .id .0)
+          (sym (c .before .before .before .before .before .before .position-of .ensures) ∙ c .before .before .before .before .place .given .1) (c .before .mark-replayed .ensures),
+    )
 
 returns-2 : tie.Need-returns-2
-returns-2 c = replay-some (c .before .before .before .before .before .before .before .before .args .b) (c .before .before .before .before .before .before .before .before .pre) (c .before .before .before .before .before .before .before .before .args .id .0) (sym (c .before .before .before .before .before .before .before .position-of .ensures) ∙ c .before .before .before .before .before .place .given .1) (c .before .before .mark-replayed .ensures) (c .set-epoch .ensures)
+returns-2 c =
+    let start = c .before .before .before .before .before .before .before .before in
+    replay-some (start .args .b) (start .pre) (start .args .id .0) (sym (c .before .before .before .before .before .before .before .position-of .ensures) ∙ c .before .before .before .before .before .place .given .1)
+    (c .before .before .mark-replayed .ensures) (c .set-epoch .ensures)
 
 pub note-replayed-spec : {M : Type 1} → statement M
 note-replayed-spec =

@@ -27,14 +27,29 @@ offer-requires : tie.Need-offer-requires Inv-loop μ-loop
 offer-requires c κs = c .before .loop .inv .3 .sound
 
 returns : tie.Need-returns Inv-loop μ-loop
-returns c = full-ends tt (c .before .offer .result .book) (runBook (offerAgain (list16 (c .before .before .before .before .before .args .named))) (view (c .before .before .before .before .before .args .b))) (c .if1 .taken)
-    (each-full offer-each (c .before .offer .result .book) (c .before .before .before .loop .inv .3) (counted-step (c .before .before .before .before .before .args .named .items) (c .before .before .before .before .before .args .named .count) (c .before .before .before .loop .i) 0 (c .before .before .loop-test .taken) (omega (arith, c .before .before .before .loop .inv .1, c .before .before .before .loop .inv .2))) (c .if1 .taken) (c .before .offer .ensures))
+returns c =
+    let start = c .before .before .before .before .before in
+    full-ends tt (c .before .offer .result .book) (runBook (offerAgain (list16 (start .args .named))) (view (start .args .b))) (c .if1 .taken)
+    (each-full offer-each (c .before .offer .result .book) (c .before .before .before .loop .inv .3)
+    (counted-step (start .args .named .items) (start .args .named .count) (c .before .before .before .loop .i) 0 (c .before .before .loop-test .taken)
+    (omega (arith, c .before .before .before .loop .inv .1, c .before .before .before .loop .inv .2))) (c .if1 .taken) (c .before .offer .ensures))
 
 loop-again : tie.Need-loop-again Inv-loop μ-loop
-loop-again c = (search needs, c .before .before .before .before .loop .inv .1, c .before .before .before .before .loop .inv .2, each-turn offer-each (c .before .before .offer .result .book) (c .before .before .before .before .loop .inv .3) (counted-step (c .before .before .before .before .before .before .args .named .items) (c .before .before .before .before .before .before .args .named .count) (c .before .before .before .before .loop .i) 0 (c .before .before .before .loop-test .taken) (omega (arith, c .before .before .before .before .loop .inv .1, c .before .before .before .before .loop .inv .2))) (c .before .if1 .left) (c .before .before .offer .ensures))
+loop-again c =
+    let start = c .before .before .before .before .before .before in
+    let offer = c .before .before .offer in (
+      search needs,
+      c .before .before .before .before .loop .inv .1,
+      c .before .before .before .before .loop .inv .2,
+      each-turn offer-each (offer .result .book) (c .before .before .before .before .loop .inv .3)
+          (counted-step (start .args .named .items) (start .args .named .count) (c .before .before .before .before .loop .i) 0 (c .before .before .before .loop-test .taken)
+          (omega (arith, c .before .before .before .before .loop .inv .1, c .before .before .before .before .loop .inv .2))) (c .before .if1 .left) (offer .ensures),
+    )
 
 returns-2 : tie.Need-returns-2 Inv-loop μ-loop
-returns-2 c = each-done offer-each (c .before .loop .inv .3) (counted-end (c .before .before .before .args .named .items) (c .before .before .before .args .named .count) (c .before .loop .i) (c .loop-test .left) (omega (arith, c .before .loop .inv .1, c .before .loop .inv .2)))
+returns-2 c =
+    let start = c .before .before .before in
+    each-done offer-each (c .before .loop .inv .3) (counted-end (start .args .named .items) (start .args .named .count) (c .before .loop .i) (c .loop-test .left) (omega (arith, c .before .loop .inv .1, c .before .loop .inv .2)))
 
 pub offer-again-spec : {M : Type 1} → statement M
 offer-again-spec =

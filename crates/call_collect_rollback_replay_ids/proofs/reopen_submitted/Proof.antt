@@ -10,16 +10,25 @@ position-of-requires : tie.Need-position-of-requires
 position-of-requires c κs = sound-normal (c .args .b) (c .pre)
 
 returns : tie.Need-returns
-returns c = revise-none (c .before .before .before .args .b) (c .before .before .before .pre) (c .before .before .before .args .id .0) (sym (c .before .before .position-of .ensures) ∙ c .enum-told .given .1)
+returns c =
+    let start = c .before .before .before in
+    revise-none (start .args .b) (start .pre) (start .args .id .0) (sym (c .before .before .position-of .ensures) ∙ c .enum-told .given .1)
 
 submitted-at-requires : tie.Need-submitted-at-requires
-submitted-at-requires c κs = (sound-normal (c .before .before .before .before .args .b) (c .before .before .before .before .pre), revise-within (c .before .before .before .before .args .b) (c .before .before .before .before .pre) (c .before .before .before .before .args .id .0) (sym (c .before .before .before .position-of .ensures) ∙ c .before .place .given .1))
+submitted-at-requires c κs =
+    let start = c .before .before .before .before in
+    (sound-normal (start .args .b) (start .pre), revise-within (start .args .b) (start .pre) (start .args .id .0) (sym (c .before .before .before .position-of .ensures) ∙ c .before .place .given .1))
 
 store-submitted-requires : tie.Need-store-submitted-requires
-store-submitted-requires c κs = (sound-normal (c .before .before .before .before .before .before .before .args .b) (c .before .before .before .before .before .before .before .pre), revise-within (c .before .before .before .before .before .before .before .args .b) (c .before .before .before .before .before .before .before .pre) (c .before .before .before .before .before .before .before .args .id .0) (sym (c .before .before .before .before .before .before .position-of .ensures) ∙ c .before .before .before .before .place .given .1))
+store-submitted-requires c κs =
+    let start = c .before .before .before .before .before .before .before in
+    (sound-normal (start .args .b) (start .pre), revise-within (start .args .b) (start .pre) (start .args .id .0) (sym (c .before .before .before .before .before .before .position-of .ensures) ∙ c .before .before .before .before .place .given .1))
 
 returns-2 : tie.Need-returns-2
-returns-2 c = revise-some (c .before .before .before .before .before .before .before .before .args .b) (c .before .before .before .before .before .before .before .before .pre) (c .before .before .before .before .before .before .before .before .args .id .0) (sym (c .before .before .before .before .before .before .before .position-of .ensures) ∙ c .before .before .before .before .before .place .given .1) (c .before .before .before .submitted-at .ensures) (c .before .reopen .ensures) (c .store-submitted .ensures)
+returns-2 c =
+    let start = c .before .before .before .before .before .before .before .before in
+    revise-some (start .args .b) (start .pre) (start .args .id .0) (sym (c .before .before .before .before .before .before .before .position-of .ensures) ∙ c .before .before .before .before .before .place .given .1)
+    (c .before .before .before .submitted-at .ensures) (c .before .reopen .ensures) (c .store-submitted .ensures)
 
 pub reopen-submitted-spec : {M : Type 1} → statement M
 reopen-submitted-spec =

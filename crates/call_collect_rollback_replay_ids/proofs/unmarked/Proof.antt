@@ -5,7 +5,9 @@ use Rattle.call_collect_rollback_replay_ids.proofs.unmarked.Statement.{
 use Rattle.call_collect_rollback_replay_ids.proofs.unmarked.Tie as tie
 
 keep16-requires : tie.Need-keep16-requires
-keep16-requires c κs = (c .before .before .pre .1, c .before .before .pre .2, sizes (c .before .before .args .b) (sound-normal (c .before .before .args .b) (c .before .before .pre .0)) .replayed)
+keep16-requires c κs =
+    let start = c .before .before in
+    (start .pre .1, start .pre .2, sizes (start .args .b) (sound-normal (start .args .b) (start .pre .0)) .replayed)
 
 returns : tie.Need-returns
 unfolding view

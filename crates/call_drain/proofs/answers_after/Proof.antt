@@ -8,7 +8,9 @@ use Rattle.call_drain.proofs.answers_after.Statement.{statement}
 use Rattle.call_drain.proofs.answers_after.Tie as tie
 
 returns : tie.Need-returns
-returns c = sym (ap (λ (k : PlanAction). answersBy k (c .before .before .before .before .before .args .p) (c .before .before .before .before .before .args .a)) (c .enum-told .given .1))
+returns c =
+    let start = c .before .before .before .before .before in
+    sym (ap (λ (k : PlanAction). answersBy k (start .args .p) (start .args .a)) (c .enum-told .given .1))
 
 returns-2 : tie.Need-returns-2
 returns-2 c =
@@ -21,7 +23,9 @@ returns-3 c =
     c .with-removal .ensures ∙ sym (ap (λ (k : PlanAction). answersBy k (the-args .p) (the-args .a)) (c .before .enum-told3 .given .1))
 
 returns-4 : tie.Need-returns-4
-returns-4 c = sym (ap (λ (k : PlanAction). answersBy k (c .before .before .before .before .before .args .p) (c .before .before .before .before .before .args .a)) (c .enum-told4 .given .1))
+returns-4 c =
+    let start = c .before .before .before .before .before in
+    sym (ap (λ (k : PlanAction). answersBy k (start .args .p) (start .args .a)) (c .enum-told4 .given .1))
 
 returns-5 : tie.Need-returns-5
 returns-5 c =

@@ -39,8 +39,9 @@ clear-pending-requires c κs = sound-normal (c .before .args .b) (c .before .pre
 
 loop-holds : tie.Need-loop-holds Inv-loop μ-loop
 loop-holds c =
-    let the-args = c .before .before .before .args in
-    let the-pre = c .before .before .before .pre in
+    let start = c .before .before .before in
+    let the-args = start .args in
+    let the-pre = start .pre in
     (search needs, queue-count (the-args .b) (the-pre), starts (the-args .b) (the-pre) (c .before .clear-pending .ensures) (c .no-answers .ensures))
 
 plan-pending-submission-requires : tie.Need-plan-pending-submission-requires Inv-loop μ-loop
@@ -51,9 +52,10 @@ plan-pending-submission-requires c κs =
 
 turned-away-requires : tie.Need-turned-away-requires Inv-loop μ-loop
 turned-away-requires c κs =
+    let start = c .before .before .before .before .before .before .before .before .before .before in
     let the-loop = c .before .before .before .before .before .before .loop in
-    let the-args = c .before .before .before .before .before .before .before .before .before .before .args in
-    let the-pre = c .before .before .before .before .before .before .before .before .before .before .pre in
+    let the-args = start .args in
+    let the-pre = start .pre in
     let the-loop-test = c .before .before .before .before .before .loop-test in
     let v = the-loop .inv .2 in
     let p = c .before .plan-pending-submission in
@@ -62,10 +64,11 @@ turned-away-requires c κs =
 
 returns : tie.Need-returns Inv-loop μ-loop
 returns c =
+    let start = c .before .before .before .before .before .before .before .before .before .before .before in
     let the-loop = c .before .before .before .before .before .before .before .loop in
     let the-plan-pending-submission = c .before .before .plan-pending-submission in
-    let the-args = c .before .before .before .before .before .before .before .before .before .before .before .args in
-    let the-pre = c .before .before .before .before .before .before .before .before .before .before .before .pre in
+    let the-args = start .args in
+    let the-pre = start .pre in
     let the-loop-test = c .before .before .before .before .before .before .loop-test in
     let v = the-loop .inv .2 in
     let p = the-plan-pending-submission in
@@ -80,9 +83,10 @@ answers-after-requires c κs =
 
 mul-t : tie.Need-mul-t Inv-loop μ-loop
 mul-t c =
+    let start = c .before .before .before .before .before .before .before .before .before .before .before .before .before .before .before .before .before .before in
     let the-plan-pending-submission = c .before .before .before .before .before .before .before .before .before .plan-pending-submission in
-    let the-args = c .before .before .before .before .before .before .before .before .before .before .before .before .before .before .before .before .before .before .args in
-    let the-pre = c .before .before .before .before .before .before .before .before .before .before .before .before .before .before .before .before .before .before .pre in
+    let the-args = start .args in
+    let the-pre = start .pre in
     let the-loop = c .before .before .before .before .before .before .before .before .before .before .before .before .before .before .loop in
     let the-loop-test = c .before .before .before .before .before .before .before .before .before .before .before .before .before .loop-test in
     let the-answer = c .before .before .before .before .before .before .before .answer in
@@ -96,9 +100,10 @@ mul-t c =
 
 element-set-from-t : tie.Need-element-set-from-t Inv-loop μ-loop
 element-set-from-t c =
+    let start = c .before .before .before .before .before .before .before .before .before .before .before .before .before .before .before .before .before .before in
     let the-plan-pending-submission = c .before .before .before .before .before .before .before .before .before .plan-pending-submission in
-    let the-args = c .before .before .before .before .before .before .before .before .before .before .before .before .before .before .before .before .before .before .args in
-    let the-pre = c .before .before .before .before .before .before .before .before .before .before .before .before .before .before .before .before .before .before .pre in
+    let the-args = start .args in
+    let the-pre = start .pre in
     let the-loop = c .before .before .before .before .before .before .before .before .before .before .before .before .before .before .loop in
     let the-loop-test = c .before .before .before .before .before .before .before .before .before .before .before .before .before .loop-test in
     let the-answer = c .before .before .before .before .before .before .before .answer in
@@ -121,11 +126,12 @@ loop-less c = omega (arith, c .before .before .before .before .before .before .b
 
 loop-again : tie.Need-loop-again Inv-loop μ-loop
 loop-again c =
+    let start = c .before .before .before .before .before .before .before .before .before .before .before .before .before .before .before .before .before .before in
     let the-loop = c .before .before .before .before .before .before .before .before .before .before .before .before .before .before .loop in
     let the-loop-test = c .before .before .before .before .before .before .before .before .before .before .before .before .before .loop-test in
     let the-plan-pending-submission = c .before .before .before .before .before .before .before .before .before .plan-pending-submission in
-    let the-args = c .before .before .before .before .before .before .before .before .before .before .before .before .before .before .before .before .before .before .args in
-    let the-pre = c .before .before .before .before .before .before .before .before .before .before .before .before .before .before .before .before .before .before .pre in
+    let the-args = start .args in
+    let the-pre = start .pre in
     let the-answer = c .before .before .before .before .before .before .before .answer in
     let the-stores = c .before .before .before .before .stores in
     let the-if1 = c .before .before .before .if1 in
@@ -139,10 +145,11 @@ loop-again c =
 
 unstored-requires : tie.Need-unstored-requires Inv-loop μ-loop
 unstored-requires c κs =
+    let start = c .before .before .before .before .before .before .before .before .before .before .before .before .before .before .before in
     let the-loop = c .before .before .before .before .before .before .before .before .before .before .before .loop in
     let the-plan-pending-submission = c .before .before .before .before .before .before .plan-pending-submission in
-    let the-args = c .before .before .before .before .before .before .before .before .before .before .before .before .before .before .before .args in
-    let the-pre = c .before .before .before .before .before .before .before .before .before .before .before .before .before .before .before .pre in
+    let the-args = start .args in
+    let the-pre = start .pre in
     let the-loop-test = c .before .before .before .before .before .before .before .before .before .before .loop-test in
     let the-answer = c .before .before .before .before .answer in
     let v = the-loop .inv .2 in
@@ -161,11 +168,12 @@ loop-less-2 c = omega (arith, c .before .before .before .before .before .before 
 
 loop-again-2 : tie.Need-loop-again-2 Inv-loop μ-loop
 loop-again-2 c =
+    let start = c .before .before .before .before .before .before .before .before .before .before .before .before .before .before .before .before in
     let the-loop = c .before .before .before .before .before .before .before .before .before .before .before .before .loop in
     let the-loop-test = c .before .before .before .before .before .before .before .before .before .before .before .loop-test in
     let the-plan-pending-submission = c .before .before .before .before .before .before .before .plan-pending-submission in
-    let the-args = c .before .before .before .before .before .before .before .before .before .before .before .before .before .before .before .before .args in
-    let the-pre = c .before .before .before .before .before .before .before .before .before .before .before .before .before .before .before .before .pre in
+    let the-args = start .args in
+    let the-pre = start .pre in
     let the-answer = c .before .before .before .before .before .answer in
     let the-stores = c .before .before .stores in
     let the-answers-after = c .before .before .before .answers-after in
@@ -178,9 +186,10 @@ loop-again-2 c =
 
 returns-2 : tie.Need-returns-2 Inv-loop μ-loop
 returns-2 c =
+    let start = c .before .before .before .before .before .before in
     let the-loop = c .before .before .loop in
-    let the-args = c .before .before .before .before .before .before .args in
-    let the-pre = c .before .before .before .before .before .before .pre in
+    let the-args = start .args in
+    let the-pre = start .pre in
     c .finished .ensures ∙ ends (the-loop .inv .2) (queue-end (the-args .b) (the-pre) (the-loop .i) (c .before .loop-test .left))
 
 pub drain-sound-spec : {M : Type 1} → statement M

@@ -44,8 +44,9 @@ returns-3 c =
 
 plan-known-requires : tie.Need-plan-known-requires
 plan-known-requires c κs =
-    let the-pre = c .before .before .before .before .before .before .before .before .before .before .before .pre in
-    let the-args = c .before .before .before .before .before .before .before .before .before .before .before .args in
+    let start = c .before .before .before .before .before .before .before .before .before .before .before in
+    let the-pre = start .pre in
+    let the-args = start .args in
     let the-position-of = c .before .before .before .position-of in
     let h = the-pre in
     (h .0, h .1, at-first (hasId _) (view (the-args .b) .submitted) (sym (the-position-of .ensures) ∙ c .before .place .given .1) .within)

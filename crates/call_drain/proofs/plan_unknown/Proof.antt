@@ -8,14 +8,16 @@ use Rattle.call_drain.proofs.plan_unknown.Tie as tie
 
 unknown-requires : tie.Need-unknown-requires
 unknown-requires c κs =
-    let a = c .before .before .before .args in
-    let h = c .before .before .before .pre in
+    let start = c .before .before .before in
+    let a = start .args in
+    let h = start .pre in
     (h .1, ids-short (a .b) (h .0) (c .submitted-ids .ensures), h .2, sizes (a .b) (h .0) .submitted)
 
 returns : tie.Need-returns
 returns c =
-    let a = c .before .before .before .before .args in
-    unknown-on (a .b) (c .before .before .before .before .pre .0) (list16 (a .emitted)) (a .n) (a .c) (a .f) (c .before .submitted-ids .ensures) (c .unknown .ensures)
+    let start = c .before .before .before .before in
+    let a = start .args in
+    unknown-on (a .b) (start .pre .0) (list16 (a .emitted)) (a .n) (a .c) (a .f) (c .before .submitted-ids .ensures) (c .unknown .ensures)
 
 pub plan-unknown-spec : {M : Type 1} → statement M
 plan-unknown-spec = tie.close (tie.spec (λ c κs. search needs) unknown-requires returns)

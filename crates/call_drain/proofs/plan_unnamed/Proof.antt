@@ -15,8 +15,9 @@ returns c =
 
 plan-known-requires : tie.Need-plan-known-requires
 plan-known-requires c κs =
-    let a = c .before .before .before .before .args in
-    let h = c .before .before .before .before .pre in
+    let start = c .before .before .before .before in
+    let a = start .args in
+    let h = start .pre in
     (h .0, h .1, at-first (hasIntent (a .f)) (view (a .b) .submitted) (sym (c .before .before .before .position-of-intent .ensures) ∙ c .before .place .given .1) .within)
 
 returns-2 : tie.Need-returns-2

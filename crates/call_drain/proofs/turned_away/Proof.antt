@@ -16,16 +16,18 @@ returns c =
 
 mul-t : tie.Need-mul-t
 mul-t c =
-    let the-args = c .before .before .before .before .before .args in
+    let start = c .before .before .before .before .before in
+    let the-args = start .args in
     let the-enum-told2 = c .before .before .before .enum-told2 in
-    let the-pre = c .before .before .before .before .before .pre in
+    let the-pre = start .pre in
     let k = subst (λ (x : PlanAnswer). AnswerFits x (the-args .p) (view (the-args .book))) (the-enum-told2 .given .1) (the-pre .1) .below in let l = the-pre .0 in search needs
 
 element-set-from-t : tie.Need-element-set-from-t
 element-set-from-t c =
-    let the-args = c .before .before .before .before .before .args in
+    let start = c .before .before .before .before .before in
+    let the-args = start .args in
     let the-enum-told2 = c .before .before .before .enum-told2 in
-    let the-pre = c .before .before .before .before .before .pre in
+    let the-pre = start .pre in
     let k = subst (λ (x : PlanAnswer). AnswerFits x (the-args .p) (view (the-args .book))) (the-enum-told2 .given .1) (the-pre .1) .below in let l = the-pre .0 in search needs
 
 returns-2 : tie.Need-returns-2

@@ -9,15 +9,20 @@ use Rattle.call_drain.proofs.unstored.Statement.{statement}
 use Rattle.call_drain.proofs.unstored.Tie as tie
 
 returns : tie.Need-returns
-returns c = sym (ap (λ (k : PlanAction). unstoredBy k (c .before .before .before .before .args .p) (c .before .before .before .before .args .b)) (c .enum-told .given .1))
+returns c =
+    let start = c .before .before .before .before in
+    sym (ap (λ (k : PlanAction). unstoredBy k (start .args .p) (start .args .b)) (c .enum-told .given .1))
 
 returns-2 : tie.Need-returns-2
-returns-2 c = sym (ap (λ (k : PlanAction). unstoredBy k (c .before .before .before .before .args .p) (c .before .before .before .before .args .b)) (c .enum-told2 .given .1))
+returns-2 c =
+    let start = c .before .before .before .before in
+    sym (ap (λ (k : PlanAction). unstoredBy k (start .args .p) (start .args .b)) (c .enum-told2 .given .1))
 
 withdraw-requires : tie.Need-withdraw-requires
 withdraw-requires c κs =
-    let the-pre = c .before .before .before .before .pre in
-    let the-args = c .before .before .before .before .args in
+    let start = c .before .before .before .before in
+    let the-pre = start .pre in
+    let the-args = start .args in
     (the-pre .0, subst (λ (k : PlanAction). FitsBy k (the-args .p) (view (the-args .b))) (c .enum-told3 .given .1) (the-pre .1))
 
 returns-3 : tie.Need-returns-3
@@ -26,10 +31,14 @@ returns-3 c =
     c .withdraw .ensures ∙ sym (ap (λ (k : PlanAction). unstoredBy k (the-args .p) (the-args .b)) (c .before .enum-told3 .given .1))
 
 returns-4 : tie.Need-returns-4
-returns-4 c = sym (ap (λ (k : PlanAction). unstoredBy k (c .before .before .before .before .args .p) (c .before .before .before .before .args .b)) (c .enum-told4 .given .1))
+returns-4 c =
+    let start = c .before .before .before .before in
+    sym (ap (λ (k : PlanAction). unstoredBy k (start .args .p) (start .args .b)) (c .enum-told4 .given .1))
 
 returns-5 : tie.Need-returns-5
-returns-5 c = sym (ap (λ (k : PlanAction). unstoredBy k (c .before .before .before .before .args .p) (c .before .before .before .before .args .b)) (c .enum-told5 .given .1))
+returns-5 c =
+    let start = c .before .before .before .before in
+    sym (ap (λ (k : PlanAction). unstoredBy k (start .args .p) (start .args .b)) (c .enum-told5 .given .1))
 
 pub unstored-spec : {M : Type 1} → statement M
 unstored-spec =

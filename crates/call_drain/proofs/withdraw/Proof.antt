@@ -9,8 +9,9 @@ retire-requires c κs = removed-normal (c .before .args .b) (c .before .args .id
 
 returns : tie.Need-returns
 returns c =
-    let a = c .before .before .before .args in
-    let h = c .before .before .before .pre in
+    let start = c .before .before .before in
+    let a = start .args in
+    let h = start .pre in
     withdrawn-is (a .b) (a .id .0) (h .0) (h .1) (c .before .before .remove-submitted .ensures) (c .before .retire .ensures)
 
 pub withdraw-spec : {M : Type 1} → statement M

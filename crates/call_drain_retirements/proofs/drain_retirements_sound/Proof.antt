@@ -8,7 +8,9 @@ clear-retired-requires : tie.Need-clear-retired-requires
 clear-retired-requires c κs = sound-normal (c .args .b) (c .pre)
 
 returns : tie.Need-returns
-returns c = drain-is (c .before .before .args .b) (c .before .before .pre) (c .before .clear-retired .ensures)
+returns c =
+    let start = c .before .before in
+    drain-is (start .args .b) (start .pre) (c .before .clear-retired .ensures)
 
 pub drain-retirements-sound-spec : {M : Type 1} → statement M
 drain-retirements-sound-spec = tie.close (tie.spec clear-retired-requires returns)

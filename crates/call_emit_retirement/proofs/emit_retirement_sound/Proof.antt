@@ -10,12 +10,16 @@ retire-requires : tie.Need-retire-requires
 retire-requires c κs = sound-normal (c .args .b) (c .pre)
 
 returns : tie.Need-returns
-returns c = let a = c .before .before .before .args in
-    c .refused-done .ensures ∙ emit-full (a .b) (c .before .before .before .pre) (a .id .0) (c .before .before .retire .ensures) (c .before .if1 .taken)
+returns c =
+    let start = c .before .before .before in
+    let a = start .args in
+    c .refused-done .ensures ∙ emit-full (a .b) (start .pre) (a .id .0) (c .before .before .retire .ensures) (c .before .if1 .taken)
 
 returns-2 : tie.Need-returns-2
-returns-2 c = let a = c .before .before .before .args in
-    emit-is (a .b) (c .before .before .before .pre) (a .id .0) (c .before .before .retire .ensures) (c .before .if1 .left)
+returns-2 c =
+    let start = c .before .before .before in
+    let a = start .args in
+    emit-is (a .b) (start .pre) (a .id .0) (c .before .before .retire .ensures) (c .before .if1 .left)
 
 pub emit-retirement-sound-spec : {M : Type 1} → statement M
 emit-retirement-sound-spec = tie.close (tie.spec retire-requires (λ c κs. search needs) returns returns-2)

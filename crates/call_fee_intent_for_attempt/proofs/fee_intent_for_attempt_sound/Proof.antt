@@ -18,18 +18,31 @@ find-attempt-requires : tie.Need-find-attempt-requires
 find-attempt-requires c κs = sound-normal (c .args .b) (c .pre)
 
 fee-intent-inactive-requires : tie.Need-fee-intent-inactive-requires
-fee-intent-inactive-requires c κs = sound-normal (c .before .before .before .before .args .b) (c .before .before .before .before .pre)
+fee-intent-inactive-requires c κs =
+    let start = c .before .before .before .before in
+    sound-normal (start .args .b) (start .pre)
 
 returns : tie.Need-returns
 unfolding feeIntentForAttempt
-returns c = c .fee-intent-inactive .ensures ∙ ap (feeIntentReply (c .before .before .before .before .before .args .b)) (with-inactive (c .before .before .before .before .before .args .t .0) (view (c .before .before .before .before .before .args .b)) (c .before .before .before .before .find-attempt .ensures) (c .before .before .before .live-place .ensures) none (λ s. done (some (openFeeIntent (s .entry)))) (c .before .enum-told .given .1))
+returns c =
+    let start = c .before .before .before .before .before in
+    c .fee-intent-inactive .ensures ∙ ap (feeIntentReply (start .args .b))
+    (with-inactive (start .args .t .0) (view (start .args .b)) (c .before .before .before .before .find-attempt .ensures) (c .before .before .before .live-place .ensures) none (λ s. done (some (openFeeIntent (s .entry))))
+    (c .before .enum-told .given .1))
 
 submitted-at-requires : tie.Need-submitted-at-requires
-submitted-at-requires c κs = (sound-normal (c .before .before .before .before .before .args .b) (c .before .before .before .before .before .pre), live-within (c .before .before .before .before .before .args .t .0) (view (c .before .before .before .before .before .args .b)) (c .before .before .before .before .find-attempt .ensures) (c .before .before .before .live-place .ensures) (c .before .live .given .1))
+submitted-at-requires c κs =
+    let start = c .before .before .before .before .before in
+    (sound-normal (start .args .b) (start .pre), live-within (start .args .t .0) (view (start .args .b)) (c .before .before .before .before .find-attempt .ensures) (c .before .before .before .live-place .ensures) (c .before .live .given .1))
 
 returns-2 : tie.Need-returns-2
 unfolding feeIntentForAttempt run
-returns-2 c = fee-intent-ended (c .before .before .before .before .before .before .before .before .args .b) (sound-normal (c .before .before .before .before .before .before .before .before .args .b) (c .before .before .before .before .before .before .before .before .pre)) (some (openFeeIntent (at (view (c .before .before .before .before .before .before .before .before .args .b)) (c .before .before .before .before .live .given .0 .0) .entry))) (c .open-fee-intent .ensures ∙ ap (λ (s : SubmittedTx). openFeeIntent (s .entry)) (c .before .before .submitted-at .ensures)) (with-live (c .before .before .before .before .before .before .before .before .args .t .0) (view (c .before .before .before .before .before .before .before .before .args .b)) (c .before .before .before .before .before .before .before .find-attempt .ensures) (c .before .before .before .before .before .before .live-place .ensures) none (λ s. done (some (openFeeIntent (s .entry)))) (c .before .before .before .before .live .given .1))
+returns-2 c =
+    let start = c .before .before .before .before .before .before .before .before in
+    fee-intent-ended (start .args .b) (sound-normal (start .args .b) (start .pre)) (some (openFeeIntent (at (view (start .args .b)) (c .before .before .before .before .live .given .0 .0) .entry)))
+    (c .open-fee-intent .ensures ∙ ap (λ (s : SubmittedTx). openFeeIntent (s .entry)) (c .before .before .submitted-at .ensures))
+    (with-live (start .args .t .0) (view (start .args .b)) (c .before .before .before .before .before .before .before .find-attempt .ensures) (c .before .before .before .before .before .before .live-place .ensures) none
+    (λ s. done (some (openFeeIntent (s .entry)))) (c .before .before .before .before .live .given .1))
 
 pub fee-intent-for-attempt-sound-spec : {M : Type 1} → statement M
 fee-intent-for-attempt-sound-spec =

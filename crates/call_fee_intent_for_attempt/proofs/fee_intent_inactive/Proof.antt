@@ -10,10 +10,14 @@ use Rattle.call_fee_intent_for_attempt.proofs.fee_intent_inactive.State
 use Rattle.call_fee_intent_for_attempt.proofs.fee_intent_inactive.Tie as tie
 
 returns : tie.Need-returns
-returns c = c .fee-intent-refused .ensures ∙ ap (feeIntentReply (c .before .before .before .args .b)) (inactive-never (view (c .before .before .before .args .b)) none (c .before .before .before .args .place) (c .before .before .is-never-issued .ensures) (c .before .if1 .taken))
+returns c =
+    let start = c .before .before .before in
+    c .fee-intent-refused .ensures ∙ ap (feeIntentReply (start .args .b)) (inactive-never (view (start .args .b)) none (start .args .place) (c .before .before .is-never-issued .ensures) (c .before .if1 .taken))
 
 returns-2 : tie.Need-returns-2
-returns-2 c = fee-intent-ended (c .before .before .before .args .b) (c .before .before .before .pre) none (c .zero .ensures) (inactive-issued (view (c .before .before .before .args .b)) none (c .before .before .before .args .place) (c .before .before .is-never-issued .ensures) (c .before .if1 .left))
+returns-2 c =
+    let start = c .before .before .before in
+    fee-intent-ended (start .args .b) (start .pre) none (c .zero .ensures) (inactive-issued (view (start .args .b)) none (start .args .place) (c .before .before .is-never-issued .ensures) (c .before .if1 .left))
 
 pub fee-intent-inactive-spec : {M : Type 1} → statement M
 fee-intent-inactive-spec =

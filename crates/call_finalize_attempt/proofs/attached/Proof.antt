@@ -11,10 +11,12 @@ use Rattle.call_finalize_attempt.proofs.attached.Statement.{statement}
 use Rattle.call_finalize_attempt.proofs.attached.Tie as tie
 
 returns : tie.Need-returns
-returns c = let z = c .before .before .before .before .args in
+returns c =
+    let attached-final = c .before .before .attached-final in
+    let z = c .before .before .before .before .args in
     c .decided .ensures
-    ∙ ap (λ (x : SubmittedEntry). finalAs (c .before .before .attached-final .result) (record { slots = z .s .slots; entry = x })) (c .before .attach .ensures)
-    ∙ ap (λ (x : FinalizedSubmission). finalAs x (withEntry (revised (attach (z .joined))) (z .s))) (c .before .before .attached-final .ensures)
+    ∙ ap (λ (x : SubmittedEntry). finalAs (attached-final .result) (record { slots = z .s .slots; entry = x })) (c .before .attach .ensures)
+    ∙ ap (λ (x : FinalizedSubmission). finalAs x (withEntry (revised (attach (z .joined))) (z .s))) (attached-final .ensures)
 
 pub attached-spec : {M : Type 1} → statement M
 attached-spec = tie.close (tie.spec (λ c κs. search needs) (λ c κs. search needs) (λ c κs. search needs) returns)

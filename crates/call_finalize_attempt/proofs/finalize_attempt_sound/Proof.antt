@@ -13,22 +13,45 @@ use Rattle.call_finalize_attempt.proofs.finalize_attempt_sound.Statemen
 use Rattle.call_finalize_attempt.proofs.finalize_attempt_sound.Tie as tie
 
 returns : tie.Need-returns
-returns c = c .finalize-refused .ensures ∙ ap (finalizeReply (c .before .before .before .args .b)) (source-unsound (c .before .before .before .args .source) (c .before .before .before .args .joined) (c .before .before .before .args .t .0) (view (c .before .before .before .args .b)) (sym (c .before .before .is-sound-source .ensures) ∙ not-true _ (c .before .if1 .taken)))
+returns c =
+    let start = c .before .before .before in
+    c .finalize-refused .ensures ∙ ap (finalizeReply (start .args .b))
+    (source-unsound (start .args .source) (start .args .joined) (start .args .t .0) (view (start .args .b)) (sym (c .before .before .is-sound-source .ensures) ∙ not-true _ (c .before .if1 .taken)))
 
 find-attempt-requires : tie.Need-find-attempt-requires
-find-attempt-requires c κs = sound-normal (c .before .before .args .b) (c .before .before .pre)
+find-attempt-requires c κs =
+    let start = c .before .before in
+    sound-normal (start .args .b) (start .pre)
 
 finalize-inactive-requires : tie.Need-finalize-inactive-requires
-finalize-inactive-requires c κs = sound-normal (c .before .before .before .before .before .before .args .b) (c .before .before .before .before .before .before .pre)
+finalize-inactive-requires c κs =
+    let start = c .before .before .before .before .before .before in
+    sound-normal (start .args .b) (start .pre)
 
 returns-2 : tie.Need-returns-2
-returns-2 c = c .finalize-inactive .ensures ∙ ap (finalizeReply (c .before .before .before .before .before .before .before .args .b)) (with-inactive (c .before .before .before .before .before .before .before .args .t .0) (view (c .before .before .before .before .before .before .before .args .b)) (c .before .before .before .before .find-attempt .ensures) (c .before .before .before .live-place .ensures) none (finalizeLive (c .before .before .before .before .before .before .before .args .source) (c .before .before .before .before .before .before .before .args .joined)) (c .before .enum-told .given .1) ∙ source-sound (c .before .before .before .before .before .before .before .args .source) (c .before .before .before .before .before .before .before .args .joined) (c .before .before .before .before .before .before .before .args .t .0) (view (c .before .before .before .before .before .before .before .args .b)) (sym (c .before .before .before .before .before .before .is-sound-source .ensures) ∙ not-false _ (c .before .before .before .before .before .if1 .left)))
+returns-2 c =
+    let start = c .before .before .before .before .before .before .before in
+    c .finalize-inactive .ensures ∙ ap (finalizeReply (start .args .b))
+    (with-inactive (start .args .t .0) (view (start .args .b)) (c .before .before .before .before .find-attempt .ensures) (c .before .before .before .live-place .ensures) none
+    (finalizeLive (start .args .source) (start .args .joined)) (c .before .enum-told .given .1) ∙ source-sound (start .args .source) (start .args .joined) (start .args .t .0) (view (start .args .b))
+    (sym (c .before .before .before .before .before .before .is-sound-source .ensures) ∙ not-false _ (c .before .before .before .before .before .if1 .left)))
 
 finalize-live-requires : tie.Need-finalize-live-requires
-finalize-live-requires c κs = (c .before .before .before .before .before .before .before .pre, live-within (c .before .before .before .before .before .before .before .args .t .0) (view (c .before .before .before .before .before .before .before .args .b)) (c .before .before .before .before .find-attempt .ensures) (c .before .before .before .live-place .ensures) (c .before .live .given .1), sym (c .before .before .before .before .before .before .is-sound-source .ensures) ∙ not-false _ (c .before .before .before .before .before .if1 .left))
+finalize-live-requires c κs =
+    let start = c .before .before .before .before .before .before .before in (
+      start .pre,
+      live-within (start .args .t .0) (view (start .args .b)) (c .before .before .before .before .find-attempt .ensures) (c .before .before .before .live-place .ensures) (c .before .live .given .1),
+      sym
+          (c .before .before .before .before .before .before .is-sound-source .ensures) ∙ not-false _ (c .before .before .before .before .before .if1 .left),
+    )
 
 returns-3 : tie.Need-returns-3
-returns-3 c = c .finalize-live .ensures ∙ ap (finalizeReply (c .before .before .before .before .before .before .before .before .args .b)) (with-live (c .before .before .before .before .before .before .before .before .args .t .0) (view (c .before .before .before .before .before .before .before .before .args .b)) (c .before .before .before .before .before .find-attempt .ensures) (c .before .before .before .before .live-place .ensures) none (finalizeLive (c .before .before .before .before .before .before .before .before .args .source) (c .before .before .before .before .before .before .before .before .args .joined)) (c .before .before .live .given .1) ∙ source-sound (c .before .before .before .before .before .before .before .before .args .source) (c .before .before .before .before .before .before .before .before .args .joined) (c .before .before .before .before .before .before .before .before .args .t .0) (view (c .before .before .before .before .before .before .before .before .args .b)) (sym (c .before .before .before .before .before .before .before .is-sound-source .ensures) ∙ not-false _ (c .before .before .before .before .before .before .if1 .left)))
+returns-3 c =
+    let start = c .before .before .before .before .before .before .before .before in
+    c .finalize-live .ensures ∙ ap (finalizeReply (start .args .b))
+    (with-live (start .args .t .0) (view (start .args .b)) (c .before .before .before .before .before .find-attempt .ensures) (c .before .before .before .before .live-place .ensures) none
+    (finalizeLive (start .args .source) (start .args .joined)) (c .before .before .live .given .1) ∙ source-sound (start .args .source) (start .args .joined) (start .args .t .0) (view (start .args .b))
+    (sym (c .before .before .before .before .before .before .before .is-sound-source .ensures) ∙ not-false _ (c .before .before .before .before .before .before .if1 .left)))
 
 pub finalize-attempt-sound-spec : {M : Type 1} → statement M
 finalize-attempt-sound-spec =

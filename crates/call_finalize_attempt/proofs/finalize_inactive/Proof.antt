@@ -10,10 +10,14 @@ use Rattle.call_finalize_attempt.proofs.finalize_inactive.Statement.{st
 use Rattle.call_finalize_attempt.proofs.finalize_inactive.Tie as tie
 
 returns : tie.Need-returns
-returns c = c .finalize-refused .ensures ∙ ap (finalizeReply (c .before .before .before .args .b)) (inactive-never (view (c .before .before .before .args .b)) none (c .before .before .before .args .place) (c .before .before .is-never-issued .ensures) (c .before .if1 .taken))
+returns c =
+    let start = c .before .before .before in
+    c .finalize-refused .ensures ∙ ap (finalizeReply (start .args .b)) (inactive-never (view (start .args .b)) none (start .args .place) (c .before .before .is-never-issued .ensures) (c .before .if1 .taken))
 
 returns-2 : tie.Need-returns-2
-returns-2 c = none-ended (c .before .before .before .args .b) (c .before .before .before .pre) (c .zero .ensures) (inactive-issued (view (c .before .before .before .args .b)) none (c .before .before .before .args .place) (c .before .before .is-never-issued .ensures) (c .before .if1 .left))
+returns-2 c =
+    let start = c .before .before .before in
+    none-ended (start .args .b) (start .pre) (c .zero .ensures) (inactive-issued (view (start .args .b)) none (start .args .place) (c .before .before .is-never-issued .ensures) (c .before .if1 .left))
 
 pub finalize-inactive-spec : {M : Type 1} → statement M
 finalize-inactive-spec =

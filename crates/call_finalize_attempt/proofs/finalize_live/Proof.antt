@@ -37,7 +37,8 @@ returns-3 c = let z = c .before .before .before .before .before .before .before 
     c .finalize-refused3 .ensures
     ∙ ap (finalizeReply (z .args .t1))
     (of-read (finalizeLive (z .args .source) (z .args .joined)) (view (z .args .t1)) (read-at (z .args .t1) (sound-normal (z .args .t1) (z .pre .0)) (z .args .k) (z .pre .1) _)
-    (live-other (z .args .source) (z .args .joined) _ (view (z .args .t1)) (c .before .before .before .before .before .before .before .before .before .before .if1 .left) (sym (c .before .before .before .before .before .before .before .before .validate .ensures) ∙ not-false _ (c .before .before .before .before .before .before .before .if2 .left))
+    (live-other (z .args .source) (z .args .joined) _ (view (z .args .t1)) (c .before .before .before .before .before .before .before .before .before .before .if1 .left)
+    (sym (c .before .before .before .before .before .before .before .before .validate .ensures) ∙ not-false _ (c .before .before .before .before .before .before .before .if2 .left))
     (compared (c .before .before .same32 .ensures) (c .before .before .before .before .before .before .current-variant-fingerprint .ensures) refl (not-true _ (c .before .if3 .taken)))))
 
 decide-requires : tie.Need-decide-requires
@@ -46,21 +47,26 @@ decide-requires c κs = (c .before .before .before .before .before .current-vari
 returns-4 : tie.Need-returns-4
 returns-4 c = let z = c .before .before .before .before .before .before .before .before .before .before .before .before .before .before .before in
     c .finalize-refused4 .ensures
-    ∙ decided-refused (z .args .t1) (z .args .k) _ (record { sound = z .pre .0; within = z .pre .1; read = read-at (z .args .t1) (sound-normal (z .args .t1) (z .pre .0)) (z .args .k) (z .pre .1) _ }) (z .args .source) (z .args .joined) (c .before .before .decide .ensures) (c .before .if4 .taken)
+    ∙ decided-refused (z .args .t1) (z .args .k) _ (record { sound = z .pre .0; within = z .pre .1; read = read-at (z .args .t1) (sound-normal (z .args .t1) (z .pre .0)) (z .args .k) (z .pre .1) _ }) (z .args .source)
+    (z .args .joined) (c .before .before .decide .ensures) (c .before .if4 .taken)
     ∙ ap (finalizeReply (z .args .t1))
     (of-read (finalizeLive (z .args .source) (z .args .joined)) (view (z .args .t1)) (read-at (z .args .t1) (sound-normal (z .args .t1) (z .pre .0)) (z .args .k) (z .pre .1) _)
-    (live-on (z .args .source) (z .args .joined) _ (view (z .args .t1)) (c .before .before .before .before .before .before .before .before .before .before .before .before .if1 .left) (sym (c .before .before .before .before .before .before .before .before .before .before .validate .ensures) ∙ not-false _ (c .before .before .before .before .before .before .before .before .before .if2 .left))
+    (live-on (z .args .source) (z .args .joined) _ (view (z .args .t1)) (c .before .before .before .before .before .before .before .before .before .before .before .before .if1 .left)
+    (sym (c .before .before .before .before .before .before .before .before .before .before .validate .ensures) ∙ not-false _ (c .before .before .before .before .before .before .before .before .before .if2 .left))
     (compared (c .before .before .before .before .same32 .ensures) (c .before .before .before .before .before .before .before .before .current-variant-fingerprint .ensures) refl (not-false _ (c .before .before .before .if3 .left)))))
 
 returns-5 : tie.Need-returns-5
 returns-5 c = let z = c .before .before .before .before .before .before .before .before .before .before .before .before .before .before .before .before in
     let d = c .before .before .before .decide in
     ap {B = FinalizeReply} (λ (x : BookData). record { answer = Done; present = true; finalized = d .result .last; book = x }) (store-is (z .args .t1) (sound-normal (z .args .t1) (z .pre .0)) (z .args .k) (d .result .next) (z .pre .1))
-    ∙ decided-stored (z .args .t1) (z .args .k) _ (record { sound = z .pre .0; within = z .pre .1; read = read-at (z .args .t1) (sound-normal (z .args .t1) (z .pre .0)) (z .args .k) (z .pre .1) _ }) (z .args .source) (z .args .joined) (d .ensures) (c .before .before .if4 .left)
+    ∙ decided-stored (z .args .t1) (z .args .k) _ (record { sound = z .pre .0; within = z .pre .1; read = read-at (z .args .t1) (sound-normal (z .args .t1) (z .pre .0)) (z .args .k) (z .pre .1) _ }) (z .args .source)
+    (z .args .joined) (d .ensures) (c .before .before .if4 .left)
     ∙ ap (finalizeReply (z .args .t1))
     (of-read (finalizeLive (z .args .source) (z .args .joined)) (view (z .args .t1)) (read-at (z .args .t1) (sound-normal (z .args .t1) (z .pre .0)) (z .args .k) (z .pre .1) _)
-    (live-on (z .args .source) (z .args .joined) _ (view (z .args .t1)) (c .before .before .before .before .before .before .before .before .before .before .before .before .before .if1 .left) (sym (c .before .before .before .before .before .before .before .before .before .before .before .validate .ensures) ∙ not-false _ (c .before .before .before .before .before .before .before .before .before .before .if2 .left))
-    (compared (c .before .before .before .before .before .same32 .ensures) (c .before .before .before .before .before .before .before .before .before .current-variant-fingerprint .ensures) refl (not-false _ (c .before .before .before .before .if3 .left)))))
+    (live-on (z .args .source) (z .args .joined) _ (view (z .args .t1)) (c .before .before .before .before .before .before .before .before .before .before .before .before .before .if1 .left)
+    (sym (c .before .before .before .before .before .before .before .before .before .before .before .validate .ensures) ∙ not-false _ (c .before .before .before .before .before .before .before .before .before .before .if2 .left))
+    (compared (c .before .before .before .before .before .same32 .ensures) (c .before .before .before .before .before .before .before .before .before .current-variant-fingerprint .ensures) refl
+    (not-false _ (c .before .before .before .before .if3 .left)))))
 
 pub finalize-live-spec : {M : Type 1} → statement M
 finalize-live-spec =
@@ -80,6 +86,8 @@ finalize-live-spec =
     decide-requires
     (λ c κs. search needs)
     returns-4
-    (λ c. let z = c .before .before .before .before .before .before .before .before .before .before .before .before .before .before .before .before in search (needs, within-16 (z .args .t1) (sound-normal (z .args .t1) (z .pre .0)) (z .args .k) (z .pre .1)))
-    (λ c. let z = c .before .before .before .before .before .before .before .before .before .before .before .before .before .before .before .before in search (needs, within-16 (z .args .t1) (sound-normal (z .args .t1) (z .pre .0)) (z .args .k) (z .pre .1)))
+    (λ c. let z = c .before .before .before .before .before .before .before .before .before .before .before .before .before .before .before .before in search
+    (needs, within-16 (z .args .t1) (sound-normal (z .args .t1) (z .pre .0)) (z .args .k) (z .pre .1)))
+    (λ c. let z = c .before .before .before .before .before .before .before .before .before .before .before .before .before .before .before .before in search
+    (needs, within-16 (z .args .t1) (sound-normal (z .args .t1) (z .pre .0)) (z .args .k) (z .pre .1)))
     returns-5)

@@ -6,10 +6,14 @@ use Rattle.call_finalize_attempt.proofs.is_sound_source.Statement.{stat
 use Rattle.call_finalize_attempt.proofs.is_sound_source.Tie as tie
 
 returns : tie.Need-returns
-returns c = c .is-sound-bundle .ensures ∙ joined-sound (c .before .before .before .args .source) (c .before .before .before .args .joined) (c .before .before .is-joined .ensures) (c .before .if1 .taken)
+returns c =
+    let start = c .before .before .before in
+    c .is-sound-bundle .ensures ∙ joined-sound (start .args .source) (start .args .joined) (c .before .before .is-joined .ensures) (c .before .if1 .taken)
 
 returns-2 : tie.Need-returns-2
-returns-2 c = c .is-zero .ensures ∙ unjoined-zero (c .before .before .before .args .source) (c .before .before .before .args .joined) (c .before .before .is-joined .ensures) (c .before .if1 .left)
+returns-2 c =
+    let start = c .before .before .before in
+    c .is-zero .ensures ∙ unjoined-zero (start .args .source) (start .args .joined) (c .before .before .is-joined .ensures) (c .before .if1 .left)
 
 pub is-sound-source-spec : {M : Type 1} → statement M
 is-sound-source-spec =

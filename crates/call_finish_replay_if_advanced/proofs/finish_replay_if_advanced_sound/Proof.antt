@@ -6,7 +6,9 @@ use Rattle.call_finish_replay_if_advanced.proofs.finish_replay_if_advan
 use Rattle.call_finish_replay_if_advanced.proofs.finish_replay_if_advanced_sound.Tie as tie
 
 set-epoch-requires : tie.Need-set-epoch-requires
-set-epoch-requires c κs = let a = c .before .before .args in let s = c .before .before .pre in
+set-epoch-requires c κs =
+    let start = c .before .before in
+    let a = start .args in let s = start .pre in
     (sound-normal (a .b) s, finished-normal (a .b) _ (c .finish-if-advanced .ensures) s)
 
 returns : tie.Need-returns

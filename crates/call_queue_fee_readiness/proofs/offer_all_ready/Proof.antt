@@ -28,25 +28,34 @@ loop-holds : tie.Need-loop-holds Inv-loop μ-loop
 loop-holds c = (search needs, submitted-are (c .args .b) (sound-normal (c .args .b) (c .pre)) .count, record { sound = c .pre; rest = readiness-is (view (c .args .b)) })
 
 submitted-at-requires : tie.Need-submitted-at-requires Inv-loop μ-loop
-submitted-at-requires c κs = (sound-normal (c .before .before .args .b) (c .before .before .pre), omega (arith, c .before .loop .inv .1, c .loop-test .taken))
+submitted-at-requires c κs =
+    let start = c .before .before in
+    (sound-normal (start .args .b) (start .pre), omega (arith, c .before .loop .inv .1, c .loop-test .taken))
 
 offer-ready-requires : tie.Need-offer-ready-requires Inv-loop μ-loop
 offer-ready-requires c κs = c .before .before .loop .inv .2 .sound
 
 returns : tie.Need-returns Inv-loop μ-loop
-returns c = full-ends tt (c .before .offer-ready .result .book) (runBook queueFeeReadiness (view (c .before .before .before .before .before .args .b))) (c .if1 .taken)
+returns c =
+    let start = c .before .before .before .before .before in
+    full-ends tt (c .before .offer-ready .result .book) (runBook queueFeeReadiness (view (start .args .b))) (c .if1 .taken)
     (each-full ready-each (c .before .offer-ready .result .book) (c .before .before .before .before .loop .inv .2)
-    (rest-step (view (c .before .before .before .before .before .args .b) .submitted) (c .before .before .before .before .loop .i) zeroSubmitted (omega (arith, c .before .before .before .before .loop .inv .1, c .before .before .before .loop-test .taken)) ∙ ap (λ (t : SubmittedTx). t ∷ drop (c .before .before .before .before .loop .i + 1) (view (c .before .before .before .before .before .args .b) .submitted)) (sym (c .before .before .submitted-at .ensures)))
+    (rest-step (view (start .args .b) .submitted) (c .before .before .before .before .loop .i) zeroSubmitted (omega (arith, c .before .before .before .before .loop .inv .1, c .before .before .before .loop-test .taken)) ∙ ap
+    (λ (t : SubmittedTx). t ∷ drop (c .before .before .before .before .loop .i + 1) (view (start .args .b) .submitted)) (sym (c .before .before .submitted-at .ensures)))
     (c .if1 .taken) (c .before .offer-ready .ensures))
 
 loop-again : tie.Need-loop-again Inv-loop μ-loop
-loop-again c = (
-  search needs,
-  c .before .before .before .before .before .loop .inv .1,
-  each-turn ready-each (c .before .before .offer-ready .result .book) (c .before .before .before .before .before .loop .inv .2)
-      (rest-step (view (c .before .before .before .before .before .before .args .b) .submitted) (c .before .before .before .before .before .loop .i) zeroSubmitted (omega (arith, c .before .before .before .before .before .loop .inv .1, c .before .before .before .before .loop-test .taken)) ∙ ap (λ (t : SubmittedTx). t ∷ drop (c .before .before .before .before .before .loop .i + 1) (view (c .before .before .before .before .before .before .args .b) .submitted)) (sym (c .before .before .before .submitted-at .ensures)))
-      (c .before .if1 .left) (c .before .before .offer-ready .ensures),
-)
+loop-again c =
+    let start = c .before .before .before .before .before .before in
+    let offer-ready = c .before .before .offer-ready in (
+      search needs,
+      c .before .before .before .before .before .loop .inv .1,
+      each-turn ready-each (offer-ready .result .book) (c .before .before .before .before .before .loop .inv .2)
+          (rest-step (view (start .args .b) .submitted) (c .before .before .before .before .before .loop .i) zeroSubmitted
+          (omega (arith, c .before .before .before .before .before .loop .inv .1, c .before .before .before .before .loop-test .taken)) ∙ ap
+          (λ (t : SubmittedTx). t ∷ drop (c .before .before .before .before .before .loop .i + 1) (view (start .args .b) .submitted)) (sym (c .before .before .before .submitted-at .ensures)))
+          (c .before .if1 .left) (offer-ready .ensures),
+    )
 
 returns-2 : tie.Need-returns-2 Inv-loop μ-loop
 returns-2 c = each-done ready-each (c .before .loop .inv .2) (drop-of-length-le (view (c .before .before .args .b) .submitted) {i = c .before .loop .i} (omega (arith, c .before .loop .inv .1, c .loop-test .left)))

@@ -17,16 +17,20 @@ offer-requires : tie.Need-offer-requires
 offer-requires c κs = c .before .before .before .before .before .before .pre
 
 returns : tie.Need-returns
-returns c = let a = c .before .before .before .before .before .active-entry .ensures in let u = c .before .before .before .before .fee-unresolved .ensures in let e = c .before .before .before .if1 .taken in
-    let r : isReady (c .before .before .before .before .before .before .before .args .t) ≡ true = cc in
-    ends-as tt (c .offer .result .book) (runBook (offer (idOf (c .before .before .before .before .before .before .before .args .t)) ProviderReadiness (c .before .goal-for .result)) (view (c .before .before .before .before .before .before .before .args .b))) (c .offer .result .full)
-    (ready-offered (c .before .before .before .before .before .before .before .args .t) (view (c .before .before .before .before .before .before .before .args .b)) r ∙ ap (λ (g : SubmissionDeliveryGoal). runBook (offer (idOf (c .before .before .before .before .before .before .before .args .t)) ProviderReadiness g) (view (c .before .before .before .before .before .before .before .args .b))) (sym (c .before .goal-for .ensures)))
+returns c =
+    let start = c .before .before .before .before .before .before .before in
+    let a = c .before .before .before .before .before .active-entry .ensures in let u = c .before .before .before .before .fee-unresolved .ensures in let e = c .before .before .before .if1 .taken in
+    let r : isReady (start .args .t) ≡ true = cc in
+    ends-as tt (c .offer .result .book) (runBook (offer (idOf (start .args .t)) ProviderReadiness (c .before .goal-for .result)) (view (start .args .b))) (c .offer .result .full)
+    (ready-offered (start .args .t) (view (start .args .b)) r ∙ ap (λ (g : SubmissionDeliveryGoal). runBook (offer (idOf (start .args .t)) ProviderReadiness g) (view (start .args .b))) (sym (c .before .goal-for .ensures)))
     (c .offer .ensures)
 
 returns-2 : tie.Need-returns-2
-returns-2 c = let a = c .before .before .active-entry .ensures in let u = c .before .fee-unresolved .ensures in let e = c .if1 .left in
-    let r : isReady (c .before .before .before .before .args .t) ≡ false = cc in
-    stays tt (c .before .before .before .before .args .b) (runBook (readyOne (c .before .before .before .before .args .t)) (view (c .before .before .before .before .args .b))) (c .before .before .before .before .pre) (ready-not (c .before .before .before .before .args .t) (view (c .before .before .before .before .args .b)) r)
+returns-2 c =
+    let start = c .before .before .before .before in
+    let a = c .before .before .active-entry .ensures in let u = c .before .fee-unresolved .ensures in let e = c .if1 .left in
+    let r : isReady (start .args .t) ≡ false = cc in
+    stays tt (start .args .b) (runBook (readyOne (start .args .t)) (view (start .args .b))) (start .pre) (ready-not (start .args .t) (view (start .args .b)) r)
 
 pub offer-ready-spec : {M : Type 1} → statement M
 offer-ready-spec =

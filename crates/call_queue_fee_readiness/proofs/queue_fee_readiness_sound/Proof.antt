@@ -12,7 +12,9 @@ offer-all-ready-requires : tie.Need-offer-all-ready-requires
 offer-all-ready-requires c κs = c .pre
 
 returns : tie.Need-returns
-returns c = c .settled .ensures ∙ settled-is (c .before .before .args .b) (c .before .offer-all-ready .result .full) (c .before .offer-all-ready .result .book) (runBook queueFeeReadiness (view (c .before .before .args .b))) (c .before .offer-all-ready .ensures)
+returns c =
+    let start = c .before .before in
+    c .settled .ensures ∙ settled-is (start .args .b) (c .before .offer-all-ready .result .full) (c .before .offer-all-ready .result .book) (runBook queueFeeReadiness (view (start .args .b))) (c .before .offer-all-ready .ensures)
 
 pub queue-fee-readiness-sound-spec : {M : Type 1} → statement M
 queue-fee-readiness-sound-spec =

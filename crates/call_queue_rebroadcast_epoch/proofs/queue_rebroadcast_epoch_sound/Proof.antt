@@ -11,14 +11,20 @@ use Rattle.call_queue_rebroadcast_epoch.proofs.queue_rebroadcast_epoch_
 use Rattle.book.specs.Refusals as refusals
 
 returns : tie.Need-returns
-returns c = c .refused .ensures ∙ refused-is (c .before .before .before .args .b) refusals.badList (runBook (rules.queueRebroadcastEpoch (c .before .before .before .args .ids .now) (c .before .before .before .args .trigger)) (view (c .before .before .before .args .b))) (epoch-long (c .before .before .before .args .ids .now) (c .before .before .before .args .trigger) (view (c .before .before .before .args .b)) (c .before .if1 .taken))
+returns c =
+    let start = c .before .before .before in
+    c .refused .ensures ∙ refused-is (start .args .b) refusals.badList (runBook (rules.queueRebroadcastEpoch (start .args .ids .now) (start .args .trigger)) (view (start .args .b)))
+    (epoch-long (start .args .ids .now) (start .args .trigger) (view (start .args .b)) (c .before .if1 .taken))
 
 rebroadcast-requires : tie.Need-rebroadcast-requires
 rebroadcast-requires c κs = c .before .before .pre
 
 returns-2 : tie.Need-returns-2
-returns-2 c = c .settled .ensures ∙ settled-is (c .before .before .before .before .args .b) (c .before .rebroadcast .result .full) (c .before .rebroadcast .result .book) (runBook (rules.queueRebroadcastEpoch (c .before .before .before .before .args .ids .now) (c .before .before .before .before .args .trigger)) (view (c .before .before .before .before .args .b)))
-    (ends-as tt (c .before .rebroadcast .result .book) (runBook (rules.rebroadcast (c .before .before .before .before .args .trigger) (c .before .before .before .before .args .ids .now)) (view (c .before .before .before .before .args .b))) (c .before .rebroadcast .result .full) (epoch-taken (c .before .before .before .before .args .ids .now) (c .before .before .before .before .args .trigger) (view (c .before .before .before .before .args .b)) (c .before .before .if1 .left)) (c .before .rebroadcast .ensures))
+returns-2 c =
+    let start = c .before .before .before .before in
+    c .settled .ensures ∙ settled-is (start .args .b) (c .before .rebroadcast .result .full) (c .before .rebroadcast .result .book) (runBook (rules.queueRebroadcastEpoch (start .args .ids .now) (start .args .trigger)) (view (start .args .b)))
+    (ends-as tt (c .before .rebroadcast .result .book) (runBook (rules.rebroadcast (start .args .trigger) (start .args .ids .now)) (view (start .args .b))) (c .before .rebroadcast .result .full)
+    (epoch-taken (start .args .ids .now) (start .args .trigger) (view (start .args .b)) (c .before .before .if1 .left)) (c .before .rebroadcast .ensures))
 
 pub queue-rebroadcast-epoch-sound-spec : {M : Type 1} → statement M
 queue-rebroadcast-epoch-sound-spec =

@@ -25,14 +25,25 @@ rebroadcast-one-requires : tie.Need-rebroadcast-one-requires Inv-loop μ-loop
 rebroadcast-one-requires c κs = c .before .before .loop .inv .1 .sound
 
 returns : tie.Need-returns Inv-loop μ-loop
-returns c = full-ends tt (c .before .rebroadcast-one .result .book) (runBook (rules.rebroadcast (c .before .before .before .before .before .before .args .trigger) (c .before .before .before .before .before .before .args .ids .now)) (view (c .before .before .before .before .before .before .args .b))) (c .if1 .taken)
-    (each-full (rebroadcast-each (c .before .before .before .before .before .before .args .trigger)) (c .before .rebroadcast-one .result .book) (c .before .before .before .before .loop .inv .1) (rest-step (c .before .before .before .before .before .before .args .ids .now) (c .before .before .before .before .loop .i) 0 (c .before .before .before .loop-test .taken)) (c .if1 .taken) (c .before .rebroadcast-one .ensures))
+returns c =
+    let start = c .before .before .before .before .before .before in
+    full-ends tt (c .before .rebroadcast-one .result .book) (runBook (rules.rebroadcast (start .args .trigger) (start .args .ids .now)) (view (start .args .b))) (c .if1 .taken)
+    (each-full (rebroadcast-each (start .args .trigger)) (c .before .rebroadcast-one .result .book) (c .before .before .before .before .loop .inv .1)
+    (rest-step (start .args .ids .now) (c .before .before .before .before .loop .i) 0 (c .before .before .before .loop-test .taken)) (c .if1 .taken) (c .before .rebroadcast-one .ensures))
 
 loop-again : tie.Need-loop-again Inv-loop μ-loop
-loop-again c = (search needs, each-turn (rebroadcast-each (c .before .before .before .before .before .before .before .args .trigger)) (c .before .before .rebroadcast-one .result .book) (c .before .before .before .before .before .loop .inv .1) (rest-step (c .before .before .before .before .before .before .before .args .ids .now) (c .before .before .before .before .before .loop .i) 0 (c .before .before .before .before .loop-test .taken)) (c .before .if1 .left) (c .before .before .rebroadcast-one .ensures))
+loop-again c =
+    let start = c .before .before .before .before .before .before .before in
+    let rebroadcast-one = c .before .before .rebroadcast-one in (
+      search needs,
+      each-turn (rebroadcast-each (start .args .trigger)) (rebroadcast-one .result .book) (c .before .before .before .before .before .loop .inv .1)
+          (rest-step (start .args .ids .now) (c .before .before .before .before .before .loop .i) 0 (c .before .before .before .before .loop-test .taken)) (c .before .if1 .left) (rebroadcast-one .ensures),
+    )
 
 returns-2 : tie.Need-returns-2 Inv-loop μ-loop
-returns-2 c = each-done (rebroadcast-each (c .before .before .before .args .trigger)) (c .before .loop .inv .1) (drop-of-length-le (c .before .before .before .args .ids .now) {i = c .before .loop .i} (c .loop-test .left))
+returns-2 c =
+    let start = c .before .before .before in
+    each-done (rebroadcast-each (start .args .trigger)) (c .before .loop .inv .1) (drop-of-length-le (start .args .ids .now) {i = c .before .loop .i} (c .loop-test .left))
 
 pub rebroadcast-spec : {M : Type 1} → statement M
 rebroadcast-spec =

@@ -18,18 +18,26 @@ position-of-requires : tie.Need-position-of-requires
 position-of-requires c κs = sound-normal (c .args .b) (c .pre)
 
 returns : tie.Need-returns
-returns c = stays tt (c .before .before .before .args .b) (runBook (rebroadcastOne (c .before .before .before .args .trigger) (c .before .before .before .args .id .0)) (view (c .before .before .before .args .b))) (c .before .before .before .pre) (rebroadcast-absent (c .before .before .before .args .b) (c .before .before .before .args .trigger) (c .before .before .before .args .id .0) (sym (c .before .before .position-of .ensures) ∙ c .enum-told .given .1))
+returns c =
+    let start = c .before .before .before in
+    stays tt (start .args .b) (runBook (rebroadcastOne (start .args .trigger) (start .args .id .0)) (view (start .args .b))) (start .pre)
+    (rebroadcast-absent (start .args .b) (start .args .trigger) (start .args .id .0) (sym (c .before .before .position-of .ensures) ∙ c .enum-told .given .1))
 
 submitted-at-requires : tie.Need-submitted-at-requires
-submitted-at-requires c κs = (sound-normal (c .before .before .before .before .args .b) (c .before .before .before .before .pre), at-first (hasId (c .before .before .before .before .args .id .0)) (view (c .before .before .before .before .args .b) .submitted) (sym (c .before .before .before .position-of .ensures) ∙ c .before .place .given .1) .within)
+submitted-at-requires c κs =
+    let start = c .before .before .before .before in
+    (sound-normal (start .args .b) (start .pre), at-first (hasId (start .args .id .0)) (view (start .args .b) .submitted) (sym (c .before .before .before .position-of .ensures) ∙ c .before .place .given .1) .within)
 
 offer-requires : tie.Need-offer-requires
 offer-requires c κs = c .before .before .before .before .before .before .before .pre
 
 returns-2 : tie.Need-returns-2
-returns-2 c = ends-as tt (c .offer .result .book) (runBook (offer (c .before .before .before .before .before .before .before .before .args .id .0) (c .before .before .before .before .before .before .before .before .args .trigger) (c .before .goal-for .result)) (view (c .before .before .before .before .before .before .before .before .args .b))) (c .offer .result .full)
-    (rebroadcast-at (c .before .before .before .before .before .before .before .before .args .b) (c .before .before .before .before .before .before .before .before .args .trigger) (c .before .before .before .before .before .before .before .before .args .id .0) _ (sym (c .before .before .before .before .before .before .before .position-of .ensures) ∙ c .before .before .before .before .before .place .given .1)
-    ∙ ap (λ (g : SubmissionDeliveryGoal). runBook (offer (c .before .before .before .before .before .before .before .before .args .id .0) (c .before .before .before .before .before .before .before .before .args .trigger) g) (view (c .before .before .before .before .before .before .before .before .args .b))) (ap (λ (t : SubmittedTx). goalFor (t .entry)) (sym (c .before .before .before .submitted-at .ensures)) ∙ sym (c .before .goal-for .ensures)))
+returns-2 c =
+    let start = c .before .before .before .before .before .before .before .before in
+    ends-as tt (c .offer .result .book) (runBook (offer (start .args .id .0) (start .args .trigger) (c .before .goal-for .result)) (view (start .args .b))) (c .offer .result .full)
+    (rebroadcast-at (start .args .b) (start .args .trigger) (start .args .id .0) _ (sym (c .before .before .before .before .before .before .before .position-of .ensures) ∙ c .before .before .before .before .before .place .given .1)
+    ∙ ap (λ (g : SubmissionDeliveryGoal). runBook (offer (start .args .id .0) (start .args .trigger) g) (view (start .args .b)))
+    (ap (λ (t : SubmittedTx). goalFor (t .entry)) (sym (c .before .before .before .submitted-at .ensures)) ∙ sym (c .before .goal-for .ensures)))
     (c .offer .ensures)
 
 pub rebroadcast-one-spec : {M : Type 1} → statement M

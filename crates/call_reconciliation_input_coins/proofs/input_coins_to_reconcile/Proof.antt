@@ -29,7 +29,9 @@ abbrev μ-loop : tie.MeasureT-loop
 μ-loop outputs b n acc₀ i₀ acc i = n - i
 
 loop-holds : tie.Need-loop-holds Inv-loop μ-loop
-loop-holds c = let a = c .before .before .args in let b = a .t1 in let s = sizes b (c .before .before .pre) in
+loop-holds c =
+    let start = c .before .before in
+    let a = start .args in let b = a .t1 in let s = sizes b (start .pre) in
     (search needs, s .submitted, s .submitted-long, omega (arith, c .empty .ensures .count), gathering-start (coinsIn (a .outputs .now)) (take (b .«submitted_count») (b .submitted)) (c .empty .ensures .none))
 
 gather-inputs-requires : tie.Need-gather-inputs-requires Inv-loop μ-loop

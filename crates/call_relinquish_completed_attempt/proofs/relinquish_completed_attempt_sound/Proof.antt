@@ -14,13 +14,24 @@ find-attempt-requires : tie.Need-find-attempt-requires
 find-attempt-requires c κs = sound-normal (c .args .b) (c .pre)
 
 returns : tie.Need-returns
-returns c = c .status-refused .ensures ∙ ap (statusReply (c .before .before .before .before .args .b)) (relinquish-never (c .before .before .before .before .args .t .0) (view (c .before .before .before .before .args .b)) (c .before .before .before .find-attempt .ensures) (sym (c .before .before .is-never-issued .ensures) ∙ c .before .if1 .taken))
+returns c =
+    let start = c .before .before .before .before in
+    c .status-refused .ensures ∙ ap (statusReply (start .args .b))
+    (relinquish-never (start .args .t .0) (view (start .args .b)) (c .before .before .before .find-attempt .ensures) (sym (c .before .before .is-never-issued .ensures) ∙ c .before .if1 .taken))
 
 returns-2 : tie.Need-returns-2
-returns-2 c = c .status-done .ensures ∙ status-ended (c .before .before .before .before .before .before .args .b) Applied (sound-normal (c .before .before .before .before .before .before .args .b) (c .before .before .before .before .before .before .pre) .held) (relinquish-issued (c .before .before .before .before .before .before .args .t .0) (view (c .before .before .before .before .before .before .args .b)) (c .before .before .before .before .before .find-attempt .ensures) (sym (c .before .before .before .before .is-never-issued .ensures) ∙ c .before .before .before .if1 .left) (sym (c .before .before .is-set-aside .ensures) ∙ c .before .if2 .taken))
+returns-2 c =
+    let start = c .before .before .before .before .before .before in
+    c .status-done .ensures ∙ status-ended (start .args .b) Applied (sound-normal (start .args .b) (start .pre) .held)
+    (relinquish-issued (start .args .t .0) (view (start .args .b)) (c .before .before .before .before .before .find-attempt .ensures)
+    (sym (c .before .before .before .before .is-never-issued .ensures) ∙ c .before .before .before .if1 .left) (sym (c .before .before .is-set-aside .ensures) ∙ c .before .if2 .taken))
 
 returns-3 : tie.Need-returns-3
-returns-3 c = c .status-done2 .ensures ∙ status-ended (c .before .before .before .before .before .before .args .b) Stale (sound-normal (c .before .before .before .before .before .before .args .b) (c .before .before .before .before .before .before .pre) .held) (relinquish-issued (c .before .before .before .before .before .before .args .t .0) (view (c .before .before .before .before .before .before .args .b)) (c .before .before .before .before .before .find-attempt .ensures) (sym (c .before .before .before .before .is-never-issued .ensures) ∙ c .before .before .before .if1 .left) (sym (c .before .before .is-set-aside .ensures) ∙ c .before .if2 .left))
+returns-3 c =
+    let start = c .before .before .before .before .before .before in
+    c .status-done2 .ensures ∙ status-ended (start .args .b) Stale (sound-normal (start .args .b) (start .pre) .held)
+    (relinquish-issued (start .args .t .0) (view (start .args .b)) (c .before .before .before .before .before .find-attempt .ensures)
+    (sym (c .before .before .before .before .is-never-issued .ensures) ∙ c .before .before .before .if1 .left) (sym (c .before .before .is-set-aside .ensures) ∙ c .before .if2 .left))
 
 pub relinquish-completed-attempt-sound-spec : {M : Type 1} → statement M
 relinquish-completed-attempt-sound-spec =

@@ -5,7 +5,9 @@ use Rattle.call_replay_rollback_height.proofs.replay_rollback_height_so
 use Rattle.call_replay_rollback_height.proofs.replay_rollback_height_sound.Tie as tie
 
 returns : tie.Need-returns
-returns c = height-is (c .before .before .args .b) (c .before .before .pre) (c .rollback-height .ensures)
+returns c =
+    let start = c .before .before in
+    height-is (start .args .b) (start .pre) (c .rollback-height .ensures)
 
 pub replay-rollback-height-sound-spec : {M : Type 1} → statement M
 replay-rollback-height-sound-spec = tie.close (tie.spec (λ c κs. search needs) returns)

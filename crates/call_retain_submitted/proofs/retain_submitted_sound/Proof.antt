@@ -14,10 +14,14 @@ returns : tie.Need-returns
 returns c = let a = c .before .before .before .args in c .refused-ids .ensures ∙ retain-many (a .b) (a .ids .now) (c .before .if1 .taken)
 
 to-remove-requires : tie.Need-to-remove-requires
-to-remove-requires c κs = sound-normal (c .before .before .args .b) (c .before .before .pre)
+to-remove-requires c κs =
+    let start = c .before .before in
+    sound-normal (start .args .b) (start .pre)
 
 withdraw-each-requires : tie.Need-withdraw-each-requires
-withdraw-each-requires c κs = let a = c .before .before .before .args in let s = c .before .before .before .pre in
+withdraw-each-requires c κs =
+    let start = c .before .before .before in
+    let a = start .args in let s = start .pre in
     (s, count-is (toRemove (a .ids .now) (view (a .b))) (c .to-remove .ensures) (removed-fit (view (a .b)) (sound-normal (a .b) s .fits) (a .ids .now)))
 
 returns-2 : tie.Need-returns-2
@@ -26,7 +30,9 @@ returns-2 c = let a = c .before .before .before .before .before .before .before 
     ∙ retain-full (a .b) (a .ids .now) (c .before .before .before .before .before .if1 .left) (c .before .before .before .before .to-remove .ensures) (c .before .before .before .withdraw-each .ensures) (c .before .if2 .taken)
 
 widened-requires : tie.Need-widened-requires
-widened-requires c κs = let a = c .before .before .before .before .before .before .args in let s = c .before .before .before .before .before .before .pre in
+widened-requires c κs =
+    let start = c .before .before .before .before .before .before in
+    let a = start .args in let s = start .pre in
     count-is (toRemove (a .ids .now) (view (a .b))) (c .before .before .before .to-remove .ensures) (removed-fit (view (a .b)) (sound-normal (a .b) s .fits) (a .ids .now))
 
 returns-3 : tie.Need-returns-3

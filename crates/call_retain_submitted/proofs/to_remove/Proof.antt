@@ -13,15 +13,21 @@ use Rattle.call_retain_submitted.proofs.to_remove.Statement.{statement}
 use Rattle.call_retain_submitted.proofs.to_remove.Tie as tie
 
 among16-requires : tie.Need-among16-requires
-among16-requires c κs = let m = view (c .before .before .args .b) in
-    (count-is (map idOf (m .submitted)) (c .submitted-ids .ensures) (ids-fit m (c .before .before .pre .fits)), cells-are (map idOf (m .submitted)) (c .submitted-ids .ensures))
+among16-requires c κs =
+    let start = c .before .before in
+    let m = view (start .args .b) in
+    (count-is (map idOf (m .submitted)) (c .submitted-ids .ensures) (ids-fit m (start .pre .fits)), cells-are (map idOf (m .submitted)) (c .submitted-ids .ensures))
 
 rising16-requires : tie.Need-rising16-requires
-rising16-requires c κs = let m = view (c .before .before .before .args .b) in let is = c .before .before .before .args .ids .now in
-    count-is (filterb (λ (i : ℕ). elemb i is) (map idOf (m .submitted))) (chosen-is (map idOf (m .submitted)) (c .before .submitted-ids .ensures) is (c .among16 .ensures)) (some-fit m (c .before .before .before .pre .fits) is)
+rising16-requires c κs =
+    let start = c .before .before .before in
+    let m = view (start .args .b) in let is = start .args .ids .now in
+    count-is (filterb (λ (i : ℕ). elemb i is) (map idOf (m .submitted))) (chosen-is (map idOf (m .submitted)) (c .before .submitted-ids .ensures) is (c .among16 .ensures)) (some-fit m (start .pre .fits) is)
 
 returns : tie.Need-returns
-returns c = let m = view (c .before .before .before .before .args .b) in let is = c .before .before .before .before .args .ids .now in
+returns c =
+    let start = c .before .before .before .before in
+    let m = view (start .args .b) in let is = start .args .ids .now in
     rising-is (filterb (λ (i : ℕ). elemb i is) (map idOf (m .submitted))) (chosen-is (map idOf (m .submitted)) (c .before .before .submitted-ids .ensures) is (c .before .among16 .ensures)) (c .rising16 .ensures)
     ∙ ap ids16 (remove-is is m)
 

@@ -10,10 +10,14 @@ submitted-at-requires : tie.Need-submitted-at-requires
 submitted-at-requires c κs = (sound-normal (c .args .b) (c .pre .0), c .pre .1)
 
 store-submitted-requires : tie.Need-store-submitted-requires
-store-submitted-requires c κs = (sound-normal (c .before .before .before .args .b) (c .before .before .before .pre .0), c .before .before .before .pre .1)
+store-submitted-requires c κs =
+    let start = c .before .before .before in
+    (sound-normal (start .args .b) (start .pre .0), start .pre .1)
 
 returns : tie.Need-returns
-returns c = c .status-done .ensures ∙ stop-answer (c .before .before .before .before .before .args .b) (c .before .before .before .before .before .pre .0) (c .before .before .before .before .before .args .k) (c .before .before .before .before .before .pre .1) (c .before .before .before .before .submitted-at .ensures) (c .before .before .stop-lent .ensures) (c .before .store-submitted .ensures)
+returns c =
+    let start = c .before .before .before .before .before in
+    c .status-done .ensures ∙ stop-answer (start .args .b) (start .pre .0) (start .args .k) (start .pre .1) (c .before .before .before .before .submitted-at .ensures) (c .before .before .stop-lent .ensures) (c .before .store-submitted .ensures)
 
 pub stop-live-spec : {M : Type 1} → statement M
 stop-live-spec =

@@ -14,10 +14,11 @@ put-requires c κs = simp (length-take, length-drop) (omega arith)
 
 returns : tie.Need-returns
 returns c =
-    let q : c .before .before .before .before .before .before .before .args .at + c .before .before .before .before .before .before .before .args .n - c .before .before .before .before .before .before
-    .before .args .at ≡ c .before .before .before .before .before .before .before .args .n = omega arith in
-    c .before .before .put .ensures .bytes ∙ ap (λ (k : ℕ). overlay (take k (drop (c .before .before .before .before .before .before .before .args .at) (c .before .before .before .before .before .before
-    .before .args .s .now))) (c .before .before .before .before .before .before .before .args .dst .now)) q
+    let start = c .before .before .before .before .before .before .before in
+    let q : start .args .at + start .args .n - c .before .before .before .before .before .before
+    .before .args .at ≡ start .args .n = omega arith in
+    c .before .before .put .ensures .bytes ∙ ap (λ (k : ℕ). overlay (take k (drop (start .args .at) (c .before .before .before .before .before .before
+    .before .args .s .now))) (start .args .dst .now)) q
 
 pub copy-at-spec : {M : Type 1} → statement M
 copy-at-spec = tie.close (tie.spec (λ c. search needs) (λ c. search needs) (λ c. search needs) (λ c. search needs) put-requires (λ c. search needs) returns)

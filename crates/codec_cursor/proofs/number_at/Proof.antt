@@ -33,14 +33,15 @@ add-v c =
 
 loop-again : tie.Need-loop-again Inv-loop μ-loop
 loop-again c =
-    let x : c .wide .result ≡ getD (c .before .before .before .before .before .args .s .now) (c .before .before .before .before .before .args .at + c .before .before .before .loop .i) 0 = c .wide .ensures
+    let start = c .before .before .before .before .before in
+    let x : c .wide .result ≡ getD (start .args .s .now) (start .args .at + c .before .before .before .loop .i) 0 = c .wide .ensures
     in
-    let k : c .wide .result < 256 = omega (arith, x, c .before .shared-slice-known2 .given (c .before .before .before .before .before .args .at + c .before .before .before .loop .i)) in (
+    let k : c .wide .result < 256 = omega (arith, x, c .before .shared-slice-known2 .given (start .args .at + c .before .before .before .loop .i)) in (
       omega arith,
       digit-bound (c .before .before .before .loop .i) (c .before .before .before .loop .v) (c .wide .result) (c .before .before .before .loop .inv .1) k,
       rw x (digit-read (c .before .before
-          .before .before .before .args .s .now) (c .before .before .before .before .before .args .at) (c .before .before .before .loop .i) (c .before .before .before .loop .v) _ (c .before .before .loop-test
-          .taken) (c .before .before .before .before .before .pre) (c .before .before .before .loop .inv .2)),
+          .before .before .before .args .s .now) (start .args .at) (c .before .before .before .loop .i) (c .before .before .before .loop .v) _ (c .before .before .loop-test
+          .taken) (start .pre) (c .before .before .before .loop .inv .2)),
     )
 
 returns : tie.Need-returns Inv-loop μ-loop

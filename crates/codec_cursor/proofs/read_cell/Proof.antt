@@ -13,10 +13,11 @@ add-at : tie.Need-add-at
 add-at c = let h = has-long _ (c .before .before .before .before .before .before .args .s .now) _ (c .before .has .ensures) (c .if1 .left) in omega (arith, h)
 
 copy-at-requires : tie.Need-copy-at-requires
-copy-at-requires c κs = (
-  has-long (c .before .before .before .before .read-count .result) (c .before .before .before .before .before .before .before .args .s .now) _ (c .before .before .has .ensures) (c .before .if1 .left),
-  omega (arith, c .before .before .before .before .read-count .ensures .few),
-)
+copy-at-requires c κs =
+    let read-count = c .before .before .before .before .read-count in (
+      has-long (read-count .result) (c .before .before .before .before .before .before .before .args .s .now) _ (c .before .before .has .ensures) (c .before .if1 .left),
+      omega (arith, read-count .ensures .few),
+    )
 
 returns-2 : tie.Need-returns-2
 returns-2 c =

@@ -15,7 +15,9 @@ returns c =
     rw (refused .ensures) (count-short (args .most) (args .s .now) (args .at .now) (has .ensures) (if1 .taken))
 
 shared-slice-read-n : tie.Need-shared-slice-read-n
-shared-slice-read-n c = omega (arith, has-long 1 (c .before .before .before .before .before .args .s .now) (c .before .before .before .before .before .args .at .now) (c .before .before .has .ensures) (c .before .if1 .left))
+shared-slice-read-n c =
+    let start = c .before .before .before .before .before in
+    omega (arith, has-long 1 (start .args .s .now) (start .args .at .now) (c .before .before .has .ensures) (c .before .if1 .left))
 
 returns-2 : tie.Need-returns-2
 returns-2 c =
@@ -28,16 +30,18 @@ returns-2 c =
 
 add-at : tie.Need-add-at
 add-at c =
+    let start = c .before .before .before .before .before .before in
     omega (
       arith,
-      has-long 1 (c .before .before .before .before .before .before .args .s .now) (c .before .before .before .before .before .before .args .at .now) (c .before .before .before .has .ensures)
+      has-long 1 (start .args .s .now) (start .args .at .now) (c .before .before .before .has .ensures)
           (c .before .before .if1 .left),
     )
 
 returns-3 : tie.Need-returns-3
 returns-3 c =
-    count-got (c .before .before .before .before .before .before .args .most) (c .before .before .before .before .before .before .args .s .now) (c .before .before .before .before .before .before .args .at
-    .now) (has-long 1 (c .before .before .before .before .before .before .args .s .now) (c .before .before .before .before .before .before .args .at .now) (c .before .before .before .has .ensures) (c
+    let start = c .before .before .before .before .before .before in
+    count-got (start .args .most) (start .args .s .now) (start .args .at
+    .now) (has-long 1 (start .args .s .now) (start .args .at .now) (c .before .before .before .has .ensures) (c
     .before .before .if1 .left)) (omega arith) (c .if2 .left)
 
 pub read-count-spec : {M : Type 1} → statement M

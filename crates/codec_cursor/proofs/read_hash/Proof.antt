@@ -7,18 +7,25 @@ use Rattle.codec_cursor.proofs.read_hash.Statement.{statement}
 use Rattle.codec_cursor.proofs.read_hash.Tie as tie
 
 returns : tie.Need-returns
-returns c = rw (c .refused .ensures) (run-refused 32 _ (c .before .before .before .before .before .args .s .now) (c .before .before .before .before .before .args .at .now) (c .before .before .has .ensures) (c .before .if1 .taken))
+returns c =
+    let start = c .before .before .before .before .before in
+    rw (c .refused .ensures) (run-refused 32 _ (start .args .s .now) (start .args .at .now) (c .before .before .has .ensures) (c .before .if1 .taken))
 
 add-at : tie.Need-add-at
-add-at c = omega (arith, has-long 32 (c .before .before .before .before .args .s .now) (c .before .before .before .before .args .at .now) (c .before .has .ensures) (c .if1 .left))
+add-at c =
+    let start = c .before .before .before .before in
+    omega (arith, has-long 32 (start .args .s .now) (start .args .at .now) (c .before .has .ensures) (c .if1 .left))
 
 copy-at-requires : tie.Need-copy-at-requires
-copy-at-requires c κs = (has-long 32 (c .before .before .before .before .before .args .s .now) (c .before .before .before .before .before .args .at .now) (c .before .before .has .ensures) (c .before .if1 .left), search needs)
+copy-at-requires c κs =
+    let start = c .before .before .before .before .before in
+    (has-long 32 (start .args .s .now) (start .args .at .now) (c .before .before .has .ensures) (c .before .if1 .left), search needs)
 
 returns-2 : tie.Need-returns-2
 returns-2 c =
-    run-reads 32 (c .before .before .before .before .before .before .before .args .s .now) _ (c .before .before .before .before .before .before .before .args .at .now) (has-long 32 (c .before .before
-    .before .before .before .before .before .args .s .now) (c .before .before .before .before .before .before .before .args .at .now) (c .before .before .before .before .has .ensures) (c .before .before
+    let start = c .before .before .before .before .before .before .before in
+    run-reads 32 (start .args .s .now) _ (start .args .at .now) (has-long 32 (c .before .before
+    .before .before .before .before .before .args .s .now) (start .args .at .now) (c .before .before .before .before .has .ensures) (c .before .before
     .before .if1 .left)) (omega arith) (c .before .copy-at .ensures)
 
 pub read-hash-spec : {M : Type 1} → statement M

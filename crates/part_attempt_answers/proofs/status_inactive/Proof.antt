@@ -10,10 +10,14 @@ use Rattle.part_attempt_answers.proofs.status_inactive.Statement.{state
 use Rattle.part_attempt_answers.proofs.status_inactive.Tie as tie
 
 returns : tie.Need-returns
-returns c = c .status-refused .ensures ∙ ap (statusReply (c .before .before .before .args .b)) (inactive-never (view (c .before .before .before .args .b)) Stale (c .before .before .before .args .place) (c .before .before .is-never-issued .ensures) (c .before .if1 .taken))
+returns c =
+    let start = c .before .before .before in
+    c .status-refused .ensures ∙ ap (statusReply (start .args .b)) (inactive-never (view (start .args .b)) Stale (start .args .place) (c .before .before .is-never-issued .ensures) (c .before .if1 .taken))
 
 returns-2 : tie.Need-returns-2
-returns-2 c = c .status-done .ensures ∙ status-ended (c .before .before .before .args .b) Stale ((c .before .before .before .pre) .held) (inactive-issued (view (c .before .before .before .args .b)) Stale (c .before .before .before .args .place) (c .before .before .is-never-issued .ensures) (c .before .if1 .left))
+returns-2 c =
+    let start = c .before .before .before in
+    c .status-done .ensures ∙ status-ended (start .args .b) Stale ((start .pre) .held) (inactive-issued (view (start .args .b)) Stale (start .args .place) (c .before .before .is-never-issued .ensures) (c .before .if1 .left))
 
 pub status-inactive-spec : {M : Type 1} → statement M
 status-inactive-spec =

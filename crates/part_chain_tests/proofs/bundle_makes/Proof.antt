@@ -24,17 +24,32 @@ loop-holds : tie.Need-loop-holds Inv-loop μ-loop
 loop-holds c = (search needs, rw (c .at-most-four .ensures) (min-le-right (c .before .before .args .b .count) 4), search (needs, spends-long), refl)
 
 returns : tie.Need-returns Inv-loop μ-loop
-returns c = let b = c .before .before .before .before .before .before .before .args .b in let p = spendMakes (c .before .before .before .before .before .before .before .args .id) in let n = c .before .before .before .before .before .at-most-four .result in
-    any-hit p (counted-step (b .spends) n (c .before .before .before .before .loop .i) noSpend (c .before .before .before .loop-test .taken) (omega (arith, c .before .before .before .before .loop .inv .1, c .before .before .before .before .loop .inv .2))) (sym (c .before .spend-makes .ensures) ∙ c .if1 .taken) (c .before .before .before .before .loop .inv .3)
-    ∙ ap (anyb p) (take-cut 4 (b .count) n (b .spends) (c .before .before .before .before .loop .inv .2) (c .before .before .before .before .before .at-most-four .ensures))
+returns c =
+    let start = c .before .before .before .before .before .before .before in
+    let at-most-four = c .before .before .before .before .before .at-most-four in
+    let b = start .args .b in let p = spendMakes (start .args .id) in let n = at-most-four .result in
+    any-hit p (counted-step (b .spends) n (c .before .before .before .before .loop .i) noSpend (c .before .before .before .loop-test .taken)
+    (omega (arith, c .before .before .before .before .loop .inv .1, c .before .before .before .before .loop .inv .2))) (sym (c .before .spend-makes .ensures) ∙ c .if1 .taken) (c .before .before .before .before .loop .inv .3)
+    ∙ ap (anyb p) (take-cut 4 (b .count) n (b .spends) (c .before .before .before .before .loop .inv .2) (at-most-four .ensures))
 
 loop-again : tie.Need-loop-again Inv-loop μ-loop
-loop-again c = (search needs, c .before .before .before .before .loop .inv .1, c .before .before .before .before .loop .inv .2, any-turn (spendMakes (c .before .before .before .before .before .before .before .args .id)) (counted-step (c .before .before .before .before .before .before .before .args .b .spends) (c .before .before .before .before .before .at-most-four .result) (c .before .before .before .before .loop .i) noSpend (c .before .before .before .loop-test .taken) (omega (arith, c .before .before .before .before .loop .inv .1, c .before .before .before .before .loop .inv .2))) (sym (c .before .spend-makes .ensures) ∙ c .if1 .left) (c .before .before .before .before .loop .inv .3))
+loop-again c =
+    let start = c .before .before .before .before .before .before .before in (
+      search needs,
+      c .before .before .before .before .loop .inv .1,
+      c .before .before .before .before .loop .inv .2,
+      any-turn (spendMakes (start .args .id))
+          (counted-step (start .args .b .spends) (c .before .before .before .before .before .at-most-four .result) (c .before .before .before .before .loop .i) noSpend (c .before .before .before .loop-test .taken)
+          (omega (arith, c .before .before .before .before .loop .inv .1, c .before .before .before .before .loop .inv .2))) (sym (c .before .spend-makes .ensures) ∙ c .if1 .left) (c .before .before .before .before .loop .inv .3),
+    )
 
 returns-2 : tie.Need-returns-2 Inv-loop μ-loop
-returns-2 c = let b = c .before .before .before .before .args .b in let p = spendMakes (c .before .before .before .before .args .id) in let n = c .before .before .at-most-four .result in
+returns-2 c =
+    let start = c .before .before .before .before in
+    let at-most-four = c .before .before .at-most-four in
+    let b = start .args .b in let p = spendMakes (start .args .id) in let n = at-most-four .result in
     any-done p (counted-end (b .spends) n (c .before .loop .i) (c .loop-test .left) (omega (arith, c .before .loop .inv .1, c .before .loop .inv .2))) (c .before .loop .inv .3)
-    ∙ ap (anyb p) (take-cut 4 (b .count) n (b .spends) (c .before .loop .inv .2) (c .before .before .at-most-four .ensures))
+    ∙ ap (anyb p) (take-cut 4 (b .count) n (b .spends) (c .before .loop .inv .2) (at-most-four .ensures))
 
 pub bundle-makes-spec : {M : Type 1} → statement M
 bundle-makes-spec =

@@ -26,17 +26,37 @@ loop-holds : tie.Need-loop-holds Inv-loop μ-loop
 loop-holds c = (search needs, rw (c .before .at-most-four .ensures) (min-le-right (c .before .before .before .before .args .p .«base_bundle» .count) 4), search needs, refl)
 
 returns : tie.Need-returns Inv-loop μ-loop
-returns c = let p = isIn (idsIn (c .before .before .before .before .before .before .before .before .before .before .args .spent .now)) in let n = c .before .before .before .before .before .before .before .at-most-four .result in let ids = c .before .before .before .before .before .before .input-coin-ids .result in let l : length (c .before .before .before .before .before .before .before .before .before .before .args .p .«base_bundle» .spends) ≡ 4 = search (needs, spends-long) in
-    any-hit p (counted-step ids n (c .before .before .before .before .before .loop .i) [] (c .before .before .before .before .loop-test .taken) (omega (arith, c .before .before .before .before .before .loop .inv .1, c .before .before .before .before .before .loop .inv .2))) (sym (c .before .has-id .ensures) ∙ c .if1 .taken) (c .before .before .before .before .before .loop .inv .3)
-    ∙ ap (anyb p) (rows-are (c .before .before .before .before .before .before .before .before .before .before .args .p .«base_bundle») n l (c .before .before .before .before .before .before .before .at-most-four .ensures) (c .before .before .before .before .before .before .input-coin-ids .ensures)) ∙ spent-is (idsIn (c .before .before .before .before .before .before .before .before .before .before .args .spent .now)) (c .before .before .before .before .before .before .before .before .before .before .args .p)
+returns c =
+    let start = c .before .before .before .before .before .before .before .before .before .before in
+    let at-most-four = c .before .before .before .before .before .before .before .at-most-four in
+    let input-coin-ids = c .before .before .before .before .before .before .input-coin-ids in
+    let p = isIn (idsIn (start .args .spent .now)) in let n = at-most-four .result in let ids = input-coin-ids .result in let l : length (start .args .p .«base_bundle» .spends) ≡ 4 = search (needs, spends-long) in
+    any-hit p (counted-step ids n (c .before .before .before .before .before .loop .i) [] (c .before .before .before .before .loop-test .taken)
+    (omega (arith, c .before .before .before .before .before .loop .inv .1, c .before .before .before .before .before .loop .inv .2))) (sym (c .before .has-id .ensures) ∙ c .if1 .taken)
+    (c .before .before .before .before .before .loop .inv .3)
+    ∙ ap (anyb p) (rows-are (start .args .p .«base_bundle») n l (at-most-four .ensures) (input-coin-ids .ensures)) ∙ spent-is (idsIn (start .args .spent .now)) (start .args .p)
 
 loop-again : tie.Need-loop-again Inv-loop μ-loop
-loop-again c = (search needs, c .before .before .before .before .before .loop .inv .1, c .before .before .before .before .before .loop .inv .2, any-turn (isIn (idsIn (c .before .before .before .before .before .before .before .before .before .before .args .spent .now))) (counted-step (c .before .before .before .before .before .before .input-coin-ids .result) (c .before .before .before .before .before .before .before .at-most-four .result) (c .before .before .before .before .before .loop .i) [] (c .before .before .before .before .loop-test .taken) (omega (arith, c .before .before .before .before .before .loop .inv .1, c .before .before .before .before .before .loop .inv .2))) (sym (c .before .has-id .ensures) ∙ c .if1 .left) (c .before .before .before .before .before .loop .inv .3))
+loop-again c = (
+  search needs,
+  c .before .before .before .before .before .loop .inv .1,
+  c .before .before .before .before .before .loop .inv .2,
+  any-turn
+      (isIn (idsIn (c .before .before .before .before .before .before .before .before .before .before .args .spent .now)))
+      (counted-step (c .before .before .before .before .before .before .input-coin-ids .result) (c .before .before .before .before .before .before .before .at-most-four .result)
+      (c .before .before .before .before .before .loop .i) [] (c .before .before .before .before .loop-test .taken)
+      (omega (arith, c .before .before .before .before .before .loop .inv .1, c .before .before .before .before .before .loop .inv .2))) (sym (c .before .has-id .ensures) ∙ c .if1 .left)
+      (c .before .before .before .before .before .loop .inv .3),
+)
 
 returns-2 : tie.Need-returns-2 Inv-loop μ-loop
-returns-2 c = let p = isIn (idsIn (c .before .before .before .before .before .before .args .spent .now)) in let n = c .before .before .before .at-most-four .result in let ids = c .before .before .input-coin-ids .result in let l : length (c .before .before .before .before .before .before .args .p .«base_bundle» .spends) ≡ 4 = search (needs, spends-long) in
+returns-2 c =
+    let start = c .before .before .before .before .before .before in
+    let at-most-four = c .before .before .before .at-most-four in
+    let input-coin-ids = c .before .before .input-coin-ids in
+    let p = isIn (idsIn (start .args .spent .now)) in let n = at-most-four .result in let ids = input-coin-ids .result in let l : length (start .args .p .«base_bundle» .spends) ≡ 4 = search (needs, spends-long) in
     any-done p (counted-end ids n (c .before .loop .i) (c .loop-test .left) (omega (arith, c .before .loop .inv .1, c .before .loop .inv .2))) (c .before .loop .inv .3)
-    ∙ ap (anyb p) (rows-are (c .before .before .before .before .before .before .args .p .«base_bundle») n l (c .before .before .before .at-most-four .ensures) (c .before .before .input-coin-ids .ensures)) ∙ spent-is (idsIn (c .before .before .before .before .before .before .args .spent .now)) (c .before .before .before .before .before .before .args .p)
+    ∙ ap (anyb p) (rows-are (start .args .p .«base_bundle») n l (at-most-four .ensures) (input-coin-ids .ensures)) ∙ spent-is (idsIn (start .args .spent .now)) (start .args .p)
 
 pub input-spent-spec : {M : Type 1} → statement M
 input-spent-spec =

@@ -26,18 +26,37 @@ loop-holds : tie.Need-loop-holds Inv-loop μ-loop
 loop-holds c = (search needs, rw (c .before .at-most-four .ensures) (min-le-right (c .before .before .before .args .b .count) 4), search needs, refl)
 
 returns : tie.Need-returns Inv-loop μ-loop
-returns c = let b = c .before .before .before .before .before .before .before .before .args .b in let live = idsIn (c .before .before .before .before .before .before .before .before .args .inputs .now) in let p = liveOrMade live b in let n = c .before .before .before .before .before .before .at-most-four .result in let ids = c .before .before .before .before .before .input-coin-ids .result in let l : length (b .spends) ≡ 4 = search (needs, spends-long) in
-    all-fails p (counted-step ids n (c .before .before .before .before .loop .i) [] (c .before .before .before .loop-test .taken) (omega (arith, c .before .before .before .before .loop .inv .1, c .before .before .before .before .loop .inv .2))) (sym (c .before .live-or-made .ensures) ∙ not-true _ (c .if1 .taken)) (c .before .before .before .before .loop .inv .3)
-    ∙ ap (allb p) (rows-are b n l (c .before .before .before .before .before .before .at-most-four .ensures) (c .before .before .before .before .before .input-coin-ids .ensures)) ∙ outer-is live b
+returns c =
+    let start = c .before .before .before .before .before .before .before .before in
+    let at-most-four = c .before .before .before .before .before .before .at-most-four in
+    let input-coin-ids = c .before .before .before .before .before .input-coin-ids in
+    let b = start .args .b in let live = idsIn (start .args .inputs .now) in let p = liveOrMade live b in let n = at-most-four .result in let ids = input-coin-ids .result in let l : length (b .spends) ≡ 4 = search (needs, spends-long) in
+    all-fails p (counted-step ids n (c .before .before .before .before .loop .i) [] (c .before .before .before .loop-test .taken)
+    (omega (arith, c .before .before .before .before .loop .inv .1, c .before .before .before .before .loop .inv .2))) (sym (c .before .live-or-made .ensures) ∙ not-true _ (c .if1 .taken))
+    (c .before .before .before .before .loop .inv .3)
+    ∙ ap (allb p) (rows-are b n l (at-most-four .ensures) (input-coin-ids .ensures)) ∙ outer-is live b
 
 loop-again : tie.Need-loop-again Inv-loop μ-loop
-loop-again c = let b = c .before .before .before .before .before .before .before .before .args .b in let live = idsIn (c .before .before .before .before .before .before .before .before .args .inputs .now) in
-    (search needs, c .before .before .before .before .loop .inv .1, c .before .before .before .before .loop .inv .2, all-passes (liveOrMade live b) (counted-step (c .before .before .before .before .before .input-coin-ids .result) (c .before .before .before .before .before .before .at-most-four .result) (c .before .before .before .before .loop .i) [] (c .before .before .before .loop-test .taken) (omega (arith, c .before .before .before .before .loop .inv .1, c .before .before .before .before .loop .inv .2))) (sym (c .before .live-or-made .ensures) ∙ not-false _ (c .if1 .left)) (c .before .before .before .before .loop .inv .3))
+loop-again c =
+    let start = c .before .before .before .before .before .before .before .before in
+    let b = start .args .b in let live = idsIn (start .args .inputs .now) in (
+      search needs,
+      c .before .before .before .before .loop .inv .1,
+      c .before .before .before .before .loop .inv .2,
+      all-passes (liveOrMade live b)
+          (counted-step (c .before .before .before .before .before .input-coin-ids .result) (c .before .before .before .before .before .before .at-most-four .result) (c .before .before .before .before .loop .i) []
+          (c .before .before .before .loop-test .taken) (omega (arith, c .before .before .before .before .loop .inv .1, c .before .before .before .before .loop .inv .2)))
+          (sym (c .before .live-or-made .ensures) ∙ not-false _ (c .if1 .left)) (c .before .before .before .before .loop .inv .3),
+    )
 
 returns-2 : tie.Need-returns-2 Inv-loop μ-loop
-returns-2 c = let b = c .before .before .before .before .before .args .b in let live = idsIn (c .before .before .before .before .before .args .inputs .now) in let p = liveOrMade live b in let n = c .before .before .before .at-most-four .result in let ids = c .before .before .input-coin-ids .result in let l : length (b .spends) ≡ 4 = search (needs, spends-long) in
+returns-2 c =
+    let start = c .before .before .before .before .before in
+    let at-most-four = c .before .before .before .at-most-four in
+    let input-coin-ids = c .before .before .input-coin-ids in
+    let b = start .args .b in let live = idsIn (start .args .inputs .now) in let p = liveOrMade live b in let n = at-most-four .result in let ids = input-coin-ids .result in let l : length (b .spends) ≡ 4 = search (needs, spends-long) in
     all-ends p (counted-end ids n (c .before .loop .i) (c .loop-test .left) (omega (arith, c .before .loop .inv .1, c .before .loop .inv .2))) (c .before .loop .inv .3)
-    ∙ ap (allb p) (rows-are b n l (c .before .before .before .at-most-four .ensures) (c .before .before .input-coin-ids .ensures)) ∙ outer-is live b
+    ∙ ap (allb p) (rows-are b n l (at-most-four .ensures) (input-coin-ids .ensures)) ∙ outer-is live b
 
 pub outer-inputs-live-spec : {M : Type 1} → statement M
 outer-inputs-live-spec =

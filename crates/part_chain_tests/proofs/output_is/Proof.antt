@@ -9,7 +9,8 @@ use Rattle.part_chain_tests.proofs.output_is.Statement.{statement}
 use Rattle.part_chain_tests.proofs.output_is.Tie as tie
 
 returns : tie.Need-returns
-returns c = c .same32 .ensures ∙ ap (λ (l : List ℕ). eqs l (c .before .before .before .before .before .before .args .t4)) (c .before .before .before .to-coin-id .ensures ∙ ap coinIdOf (from-parts-bytes (c .before .before .before .before .before .output-coin .ensures)))
+returns c = c .same32 .ensures ∙ ap (λ (l : List ℕ). eqs l (c .before .before .before .before .before .before .args .t4))
+    (c .before .before .before .to-coin-id .ensures ∙ ap coinIdOf (from-parts-bytes (c .before .before .before .before .before .output-coin .ensures)))
 
 pub output-is-spec : {M : Type 1} → statement M
 output-is-spec =

@@ -8,10 +8,14 @@ use Rattle.part_chain_tests.proofs.output_observed.Statement.{statement
 use Rattle.part_chain_tests.proofs.output_observed.Tie as tie
 
 returns : tie.Need-returns
-returns c = ap isFound (sym (c .enum-told .given .1) ∙ c .before .before .first-output-among .ensures) ∙ found-observed (coinsIn (c .before .before .before .before .before .args .observed .now)) (c .before .before .before .before .before .args .p)
+returns c =
+    let start = c .before .before .before .before .before in
+    ap isFound (sym (c .enum-told .given .1) ∙ c .before .before .first-output-among .ensures) ∙ found-observed (coinsIn (start .args .observed .now)) (start .args .p)
 
 returns-2 : tie.Need-returns-2
-returns-2 c = ap isFound (sym (c .enum-told2 .given .1) ∙ c .before .before .first-output-among .ensures) ∙ found-observed (coinsIn (c .before .before .before .before .before .args .observed .now)) (c .before .before .before .before .before .args .p)
+returns-2 c =
+    let start = c .before .before .before .before .before in
+    ap isFound (sym (c .enum-told2 .given .1) ∙ c .before .before .first-output-among .ensures) ∙ found-observed (coinsIn (start .args .observed .now)) (start .args .p)
 
 pub output-observed-spec : {M : Type 1} → statement M
 output-observed-spec =

@@ -9,13 +9,21 @@ use Rattle.part_chain_tests.proofs.rolled_back.Statement.{statement}
 use Rattle.part_chain_tests.proofs.rolled_back.Tie as tie
 
 returns : tie.Need-returns
-returns c = still-active (coinsIn (c .before .before .before .before .args .absent .now)) (idsIn (c .before .before .before .before .args .inputs .now)) (c .before .before .before .before .args .e) (sym (c .before .active-entry .ensures) ∙ c .if1 .taken)
+returns c =
+    let start = c .before .before .before .before in
+    still-active (coinsIn (start .args .absent .now)) (idsIn (start .args .inputs .now)) (start .args .e) (sym (c .before .active-entry .ensures) ∙ c .if1 .taken)
 
 returns-2 : tie.Need-returns-2
-returns-2 c = still-there (coinsIn (c .before .before .before .before .before .before .args .absent .now)) (idsIn (c .before .before .before .before .before .before .args .inputs .now)) (c .before .before .before .before .before .before .args .e) (sym (c .before .before .before .active-entry .ensures) ∙ c .before .before .if1 .left) (sym (c .before .spent-or-absent .ensures) ∙ not-true _ (c .if2 .taken))
+returns-2 c =
+    let start = c .before .before .before .before .before .before in
+    still-there (coinsIn (start .args .absent .now)) (idsIn (start .args .inputs .now)) (start .args .e) (sym (c .before .before .before .active-entry .ensures) ∙ c .before .before .if1 .left)
+    (sym (c .before .spent-or-absent .ensures) ∙ not-true _ (c .if2 .taken))
 
 returns-3 : tie.Need-returns-3
-returns-3 c = by-inputs (coinsIn (c .before .before .before .before .before .before .before .before .args .absent .now)) (idsIn (c .before .before .before .before .before .before .before .before .args .inputs .now)) (c .before .before .before .before .before .before .before .before .args .e) (sym (c .before .before .before .before .before .active-entry .ensures) ∙ c .before .before .before .before .if1 .left) (sym (c .before .before .before .spent-or-absent .ensures) ∙ not-false _ (c .before .before .if2 .left)) (c .outer-inputs-live .ensures)
+returns-3 c =
+    let start = c .before .before .before .before .before .before .before .before in
+    by-inputs (coinsIn (start .args .absent .now)) (idsIn (start .args .inputs .now)) (start .args .e) (sym (c .before .before .before .before .before .active-entry .ensures) ∙ c .before .before .before .before .if1 .left)
+    (sym (c .before .before .before .spent-or-absent .ensures) ∙ not-false _ (c .before .before .if2 .left)) (c .outer-inputs-live .ensures)
 
 pub rolled-back-spec : {M : Type 1} → statement M
 rolled-back-spec =

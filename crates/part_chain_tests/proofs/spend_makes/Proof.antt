@@ -27,18 +27,36 @@ output-is-requires : tie.Need-output-is-requires Inv-loop μ-loop
 output-is-requires c κs = omega (arith, c .before .loop .inv .1, c .loop-test .taken)
 
 returns : tie.Need-returns Inv-loop μ-loop
-returns c = let s = c .before .before .before .before .before .before .args .s in let p = hasCoinId (c .before .before .before .before .before .before .args .id) s in let n = c .before .before .before .before .at-most-four .result in
-    any-hit p (counted-step (s .outputs) n (c .before .before .before .loop .j) noOutput (c .before .before .loop-test .taken) (omega (arith, c .before .before .before .loop .inv .1, c .before .before .before .loop .inv .2))) (sym (made-of s (c .before .before .before .loop .j) (c .before .before .before .before .before .before .args .id) (c .before .before .before .before .before .input-coin-id .ensures) (c .before .output-is .ensures)) ∙ c .if1 .taken) (c .before .before .before .loop .inv .3)
-    ∙ ap (anyb p) (take-cut 4 (s .«output_count») n (s .outputs) (c .before .before .before .loop .inv .2) (c .before .before .before .before .at-most-four .ensures))
+returns c =
+    let start = c .before .before .before .before .before .before in
+    let at-most-four = c .before .before .before .before .at-most-four in
+    let s = start .args .s in let p = hasCoinId (start .args .id) s in let n = at-most-four .result in
+    any-hit p (counted-step (s .outputs) n (c .before .before .before .loop .j) noOutput (c .before .before .loop-test .taken) (omega (arith, c .before .before .before .loop .inv .1, c .before .before .before .loop .inv .2)))
+    (sym (made-of s (c .before .before .before .loop .j) (start .args .id) (c .before .before .before .before .before .input-coin-id .ensures) (c .before .output-is .ensures)) ∙ c .if1 .taken)
+    (c .before .before .before .loop .inv .3)
+    ∙ ap (anyb p) (take-cut 4 (s .«output_count») n (s .outputs) (c .before .before .before .loop .inv .2) (at-most-four .ensures))
 
 loop-again : tie.Need-loop-again Inv-loop μ-loop
-loop-again c = let s = c .before .before .before .before .before .before .args .s in
-    (search needs, c .before .before .before .loop .inv .1, c .before .before .before .loop .inv .2, any-turn (hasCoinId (c .before .before .before .before .before .before .args .id) s) (counted-step (s .outputs) (c .before .before .before .before .at-most-four .result) (c .before .before .before .loop .j) noOutput (c .before .before .loop-test .taken) (omega (arith, c .before .before .before .loop .inv .1, c .before .before .before .loop .inv .2))) (sym (made-of s (c .before .before .before .loop .j) (c .before .before .before .before .before .before .args .id) (c .before .before .before .before .before .input-coin-id .ensures) (c .before .output-is .ensures)) ∙ c .if1 .left) (c .before .before .before .loop .inv .3))
+loop-again c =
+    let start = c .before .before .before .before .before .before in
+    let s = start .args .s in (
+      search needs,
+      c .before .before .before .loop .inv .1,
+      c .before .before .before .loop .inv .2,
+      any-turn (hasCoinId (start .args .id) s)
+          (counted-step (s .outputs) (c .before .before .before .before .at-most-four .result) (c .before .before .before .loop .j) noOutput (c .before .before .loop-test .taken)
+          (omega (arith, c .before .before .before .loop .inv .1, c .before .before .before .loop .inv .2)))
+          (sym (made-of s (c .before .before .before .loop .j) (start .args .id) (c .before .before .before .before .before .input-coin-id .ensures) (c .before .output-is .ensures)) ∙ c .if1 .left)
+          (c .before .before .before .loop .inv .3),
+    )
 
 returns-2 : tie.Need-returns-2 Inv-loop μ-loop
-returns-2 c = let s = c .before .before .before .before .args .s in let p = hasCoinId (c .before .before .before .before .args .id) s in let n = c .before .before .at-most-four .result in
+returns-2 c =
+    let start = c .before .before .before .before in
+    let at-most-four = c .before .before .at-most-four in
+    let s = start .args .s in let p = hasCoinId (start .args .id) s in let n = at-most-four .result in
     any-done p (counted-end (s .outputs) n (c .before .loop .j) (c .loop-test .left) (omega (arith, c .before .loop .inv .1, c .before .loop .inv .2))) (c .before .loop .inv .3)
-    ∙ ap (anyb p) (take-cut 4 (s .«output_count») n (s .outputs) (c .before .loop .inv .2) (c .before .before .at-most-four .ensures))
+    ∙ ap (anyb p) (take-cut 4 (s .«output_count») n (s .outputs) (c .before .loop .inv .2) (at-most-four .ensures))
 
 pub spend-makes-spec : {M : Type 1} → statement M
 spend-makes-spec =

@@ -27,7 +27,9 @@ loop-holds c = let a = c .before .args .a in
     (search needs, s, search needs, c .zero .ensures, l, sym (length-take-le n a (omega arith)), move-start 16 zeroDelivery (notFor (c .before .args .id .0)) (take n a) (c .before .pre .1))
 
 loop-again : tie.Need-loop-again Inv-loop μ-loop
-loop-again c = let v = c .before .before .before .before .before .loop .inv in
+loop-again c =
+    let start = c .before .before .before .before .before .before .before in
+    let v = c .before .before .before .before .before .loop .inv in
     let t = c .before .before .before .before .loop-test .taken in
     let n = v .5 in (
       search needs,
@@ -36,11 +38,14 @@ loop-again c = let v = c .before .before .before .before .before .loop .inv in
       v .3,
       simp length-set (v .4),
       n,
-      skip-by 16 zeroDelivery (notFor (c .before .before .before .before .before .before .before .args .id .0)) (take (c .before .before .before .before .before .before .before .args .n) (c .before .before .before .before .before .before .before .args .a)) (c .before .before .before .before .before .loop .out) (c .before .before .before .before .before .loop .w) (c .before .before .before .before .before .loop .i) (v .6) _ (omega arith) (v .3) (ap not (sym (c .before .is-id .ensures) ∙ c .if1 .taken)),
+      skip-by 16 zeroDelivery (notFor (start .args .id .0)) (take (start .args .n) (start .args .a)) (c .before .before .before .before .before .loop .out) (c .before .before .before .before .before .loop .w)
+          (c .before .before .before .before .before .loop .i) (v .6) _ (omega arith) (v .3) (ap not (sym (c .before .is-id .ensures) ∙ c .if1 .taken)),
     )
 
 loop-again-2 : tie.Need-loop-again-2 Inv-loop μ-loop
-loop-again-2 c = let v = c .before .before .before .before .before .before .loop .inv in
+loop-again-2 c =
+    let start = c .before .before .before .before .before .before .before .before in
+    let v = c .before .before .before .before .before .before .loop .inv in
     let t = c .before .before .before .before .before .loop-test .taken in
     let n = v .5 in (
       search needs,
@@ -49,11 +54,14 @@ loop-again-2 c = let v = c .before .before .before .before .before .before .loop
       v .3,
       v .4,
       n,
-      move-stay 16 zeroDelivery (notFor (c .before .before .before .before .before .before .before .before .args .id .0)) (take (c .before .before .before .before .before .before .before .before .args .n) (c .before .before .before .before .before .before .before .before .args .a)) (c .before .before .before .before .before .before .loop .out) (c .before .before .before .before .before .before .loop .w) (c .before .before .before .before .before .before .loop .i) (v .6) _ (omega arith) (let e = c .if2 .taken in omega arith) (ap not (sym (c .before .before .is-id .ensures) ∙ c .before .if1 .left)),
+      move-stay 16 zeroDelivery (notFor (start .args .id .0)) (take (start .args .n) (start .args .a)) (c .before .before .before .before .before .before .loop .out) (c .before .before .before .before .before .before .loop .w)
+          (c .before .before .before .before .before .before .loop .i) (v .6) _ (omega arith) (let e = c .if2 .taken in omega arith) (ap not (sym (c .before .before .is-id .ensures) ∙ c .before .if1 .left)),
     )
 
 loop-again-3 : tie.Need-loop-again-3 Inv-loop μ-loop
-loop-again-3 c = let v = c .before .before .before .before .before .before .loop .inv in
+loop-again-3 c =
+    let start = c .before .before .before .before .before .before .before .before in
+    let v = c .before .before .before .before .before .before .loop .inv in
     let t = c .before .before .before .before .before .loop-test .taken in
     let n = v .5 in (
       search needs,
@@ -62,15 +70,18 @@ loop-again-3 c = let v = c .before .before .before .before .before .before .loop
       v .3,
       simp length-set (v .4),
       n,
-      keep-by 16 zeroDelivery (notFor (c .before .before .before .before .before .before .before .before .args .id .0)) (take (c .before .before .before .before .before .before .before .before .args .n) (c .before .before .before .before .before .before .before .before .args .a)) (c .before .before .before .before .before .before .loop .out) (c .before .before .before .before .before .before .loop .w) (c .before .before .before .before .before .before .loop .i) (v .6) _ (omega arith) (v .3) (ap not (sym (c .before .before .is-id .ensures) ∙ c .before .if1 .left)),
+      keep-by 16 zeroDelivery (notFor (start .args .id .0)) (take (start .args .n) (start .args .a)) (c .before .before .before .before .before .before .loop .out) (c .before .before .before .before .before .before .loop .w)
+          (c .before .before .before .before .before .before .loop .i) (v .6) _ (omega arith) (v .3) (ap not (sym (c .before .before .is-id .ensures) ∙ c .before .if1 .left)),
     )
 
 returns : tie.Need-returns Inv-loop μ-loop
 unfolding unqueued
-returns c = let v = c .before .loop .inv in
+returns c =
+    let start = c .before .before .before in
+    let v = c .before .loop .inv in
     let l = c .loop-test .left in
     let n = v .5 in
-    move-done 16 zeroDelivery (notFor (c .before .before .before .args .id .0)) (take (c .before .before .before .args .n) (c .before .before .before .args .a)) (c .before .loop .out) (c .before .loop .w) (c .before .loop .i) (v .6) (omega arith) (omega (arith, v .1))
+    move-done 16 zeroDelivery (notFor (start .args .id .0)) (take (start .args .n) (start .args .a)) (c .before .loop .out) (c .before .loop .w) (c .before .loop .i) (v .6) (omega arith) (omega (arith, v .1))
 
 pub keep-others-spec : {M : Type 1} → statement M
 keep-others-spec =

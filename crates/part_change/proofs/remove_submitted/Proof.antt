@@ -8,10 +8,17 @@ unqueue-requires : tie.Need-unqueue-requires
 unqueue-requires c κs = dropped-normal (c .before .args .id .0) (c .before .args .b) (c .before .pre) (c .drop-submitted .result) (c .drop-submitted .ensures)
 
 remove-requires : tie.Need-remove-requires
-remove-requires c κs = epoch-normal (c .before .unqueue .result) (unqueued-normal (c .before .before .before .args .id .0) (c .before .before .before .args .b) (c .before .before .before .pre) (c .before .before .drop-submitted .result) (c .before .before .drop-submitted .ensures) (c .before .unqueue .result) (c .before .unqueue .ensures))
+remove-requires c κs =
+    let start = c .before .before .before in
+    let drop-submitted = c .before .before .drop-submitted in
+    epoch-normal (c .before .unqueue .result) (unqueued-normal (start .args .id .0) (start .args .b) (start .pre) (drop-submitted .result) (drop-submitted .ensures) (c .before .unqueue .result) (c .before .unqueue .ensures))
 
 returns : tie.Need-returns
-returns c = removed-is (c .before .before .before .before .args .id .0) (c .before .before .before .before .args .b) (c .before .before .before .before .pre) (c .before .before .before .drop-submitted .result) (c .before .before .before .drop-submitted .ensures) (c .before .before .unqueue .result) (c .before .before .unqueue .ensures) (c .remove .result) (c .remove .ensures)
+returns c =
+    let start = c .before .before .before .before in
+    let drop-submitted = c .before .before .before .drop-submitted in
+    let unqueue = c .before .before .unqueue in
+    removed-is (start .args .id .0) (start .args .b) (start .pre) (drop-submitted .result) (drop-submitted .ensures) (unqueue .result) (unqueue .ensures) (c .remove .result) (c .remove .ensures)
 
 pub remove-submitted-spec : {M : Type 1} → statement M
 remove-submitted-spec =

@@ -12,7 +12,9 @@ push-new64-requires c κs = (sizes (c .before .args .b) (c .before .pre) .retire
 
 returns : tie.Need-returns
 unfolding view
-returns c = retire-is (c .before .before .before .args .b) (c .before .before .before .pre) (c .before .before .before .args .id .0) (c .before .push-new64 .ensures)
+returns c =
+    let start = c .before .before .before in
+    retire-is (start .args .b) (start .pre) (start .args .id .0) (c .before .push-new64 .ensures)
 
 pub retire-spec : {M : Type 1} → statement M
 retire-spec = tie.close (tie.spec push-new64-requires returns)

@@ -13,7 +13,9 @@ keep-others-requires c κs = (sizes (c .before .args .b) (c .before .pre) .pendi
 
 returns : tie.Need-returns
 unfolding view
-returns c = unqueue-is (c .before .before .before .args .b) (c .before .before .before .pre) (c .before .before .before .args .id .0) (c .before .keep-others .result .count) (c .before .keep-others .result .items) (c .before .keep-others .ensures)
+returns c =
+    let start = c .before .before .before in
+    unqueue-is (start .args .b) (start .pre) (start .args .id .0) (c .before .keep-others .result .count) (c .before .keep-others .result .items) (c .before .keep-others .ensures)
 
 pub unqueue-spec : {M : Type 1} → statement M
 unqueue-spec = tie.close (tie.spec keep-others-requires returns)

@@ -30,17 +30,30 @@ loop-holds c = let s = sizes (c .args .t1) (c .pre) in (search needs, s .pending
 
 returns : tie.Need-returns Inv-loop μ-loop
 unfolding isQueued view
-returns c = let v = c .before .before .before .before .before .loop .inv in
-    any-hit (isFor (c .before .before .before .before .before .before .args .id .0)) (counted-step (c .before .before .before .before .before .before .args .t1 .«pending_deliveries») (c .before .before .before .before .before .before .args .t1 .«pending_count») (c .before .before .before .before .before .loop .i) _ (c .before .before .before .before .loop-test .taken) (omega (arith, v .1, v .2))) (sym (c .before .is-id .ensures) ∙ c .if1 .taken) (v .3)
+returns c =
+    let start = c .before .before .before .before .before .before in
+    let v = c .before .before .before .before .before .loop .inv in
+    any-hit (isFor (start .args .id .0)) (counted-step (start .args .t1 .«pending_deliveries») (start .args .t1 .«pending_count») (c .before .before .before .before .before .loop .i) _
+    (c .before .before .before .before .loop-test .taken) (omega (arith, v .1, v .2))) (sym (c .before .is-id .ensures) ∙ c .if1 .taken) (v .3)
 
 loop-again : tie.Need-loop-again Inv-loop μ-loop
-loop-again c = let v = c .before .before .before .before .before .loop .inv in
-    (search needs, v .1, v .2, any-turn (isFor (c .before .before .before .before .before .before .args .id .0)) (counted-step (c .before .before .before .before .before .before .args .t1 .«pending_deliveries») (c .before .before .before .before .before .before .args .t1 .«pending_count») (c .before .before .before .before .before .loop .i) _ (c .before .before .before .before .loop-test .taken) (omega (arith, v .1, v .2))) (sym (c .before .is-id .ensures) ∙ c .if1 .left) (v .3))
+loop-again c =
+    let start = c .before .before .before .before .before .before in
+    let v = c .before .before .before .before .before .loop .inv in (
+      search needs,
+      v .1,
+      v .2,
+      any-turn (isFor (start .args .id .0))
+          (counted-step (start .args .t1 .«pending_deliveries») (start .args .t1 .«pending_count») (c .before .before .before .before .before .loop .i) _ (c .before .before .before .before .loop-test .taken)
+          (omega (arith, v .1, v .2))) (sym (c .before .is-id .ensures) ∙ c .if1 .left) (v .3),
+    )
 
 returns-2 : tie.Need-returns-2 Inv-loop μ-loop
 unfolding isQueued view
-returns-2 c = let v = c .before .loop .inv in
-    any-done (isFor (c .before .before .args .id .0)) (counted-end (c .before .before .args .t1 .«pending_deliveries») (c .before .before .args .t1 .«pending_count») (c .before .loop .i) (c .loop-test .left) (omega (arith, v .1, v .2))) (v .3)
+returns-2 c =
+    let start = c .before .before in
+    let v = c .before .loop .inv in
+    any-done (isFor (start .args .id .0)) (counted-end (start .args .t1 .«pending_deliveries») (start .args .t1 .«pending_count») (c .before .loop .i) (c .loop-test .left) (omega (arith, v .1, v .2))) (v .3)
 
 pub is-queued-spec : {M : Type 1} → statement M
 is-queued-spec =

@@ -23,15 +23,26 @@ loop-holds : tie.Need-loop-holds Inv-loop μ-loop
 loop-holds c = let s = sizes (c .args .t1) (c .pre) in (search needs, s .submitted, s .submitted-long, search needs, copy-start idOf 16 (take (c .args .t1 .«submitted_count») (c .args .t1 .submitted)))
 
 loop-again : tie.Need-loop-again Inv-loop μ-loop
-loop-again c = let v = c .before .loop .inv in let t = c .loop-test .taken in
-    (search needs, v .1, v .2, search needs, copy-turn idOf 16 (take (c .before .before .args .t1 .«submitted_count») (c .before .before .args .t1 .submitted)) (c .before .loop .out) (c .before .loop .i) (v .4) (omega (arith, v .1)) (v .3) (counted-step (c .before .before .args .t1 .submitted) (c .before .before .args .t1 .«submitted_count») (c .before .loop .i) _ t (omega (arith, v .1, v .2))))
+loop-again c =
+    let start = c .before .before in
+    let v = c .before .loop .inv in let t = c .loop-test .taken in (
+      search needs,
+      v .1,
+      v .2,
+      search needs,
+      copy-turn idOf 16 (take (start .args .t1 .«submitted_count») (start .args .t1 .submitted)) (c .before .loop .out) (c .before .loop .i) (v .4) (omega (arith, v .1)) (v .3)
+          (counted-step (start .args .t1 .submitted) (start .args .t1 .«submitted_count») (c .before .loop .i) _ t (omega (arith, v .1, v .2))),
+    )
 
 returns : tie.Need-returns Inv-loop μ-loop
 unfolding view
-returns c = let v = c .before .loop .inv in
-    let e : c .before .loop .i ≡ c .before .before .args .t1 .«submitted_count» = omega (arith, v .0, c .loop-test .left) in
+returns c =
+    let start = c .before .before in
+    let v = c .before .loop .inv in
+    let e : c .before .loop .i ≡ start .args .t1 .«submitted_count» = omega (arith, v .0, c .loop-test .left) in
     ap (λ (k : ℕ). record { count = k; items = c .before .loop .out }) (sym e)
-    ∙ ids16-of _ _ (copy-all idOf 16 (take (c .before .before .args .t1 .«submitted_count») (c .before .before .args .t1 .submitted)) (c .before .loop .out) (c .before .loop .i) (v .4) (counted-end (c .before .before .args .t1 .submitted) (c .before .before .args .t1 .«submitted_count») (c .before .loop .i) (c .loop-test .left) (omega (arith, v .1, v .2))))
+    ∙ ids16-of _ _ (copy-all idOf 16 (take (start .args .t1 .«submitted_count») (start .args .t1 .submitted)) (c .before .loop .out) (c .before .loop .i) (v .4)
+    (counted-end (start .args .t1 .submitted) (start .args .t1 .«submitted_count») (c .before .loop .i) (c .loop-test .left) (omega (arith, v .1, v .2))))
 
 pub submitted-ids-spec : {M : Type 1} → statement M
 submitted-ids-spec =

@@ -5,13 +5,19 @@ use Rattle.part_offer.proofs.enqueue.Statement.{statement}
 use Rattle.part_offer.proofs.enqueue.Tie as tie
 
 returns : tie.Need-returns
-returns c = enqueue-full (c .before .before .args .b) (c .before .before .pre .0) (c .before .before .args .d) (c .before .before .pre .1) (c .if1 .taken)
+returns c =
+    let start = c .before .before in
+    enqueue-full (start .args .b) (start .pre .0) (start .args .d) (start .pre .1) (c .if1 .taken)
 
 push-pending-requires : tie.Need-push-pending-requires
-push-pending-requires c κs = (sound-normal (c .before .before .args .b) (c .before .before .pre .0), room (c .before .before .args .b) (c .before .before .pre .0) (c .before .before .args .d) (c .before .before .pre .1) (c .if1 .left), c .before .before .pre .1)
+push-pending-requires c κs =
+    let start = c .before .before in
+    (sound-normal (start .args .b) (start .pre .0), room (start .args .b) (start .pre .0) (start .args .d) (start .pre .1) (c .if1 .left), start .pre .1)
 
 returns-2 : tie.Need-returns-2
-returns-2 c = enqueue-on (c .before .before .before .args .b) (c .before .before .before .pre .0) (c .before .before .before .args .d) (c .before .before .before .pre .1) (c .before .if1 .left) (c .push-pending .ensures)
+returns-2 c =
+    let start = c .before .before .before in
+    enqueue-on (start .args .b) (start .pre .0) (start .args .d) (start .pre .1) (c .before .if1 .left) (c .push-pending .ensures)
 
 pub enqueue-spec : {M : Type 1} → statement M
 enqueue-spec = tie.close (tie.spec returns push-pending-requires returns-2)

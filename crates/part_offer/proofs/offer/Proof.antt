@@ -15,24 +15,50 @@ position-of-requires : tie.Need-position-of-requires
 position-of-requires c κs = sound-normal (c .args .b) (c .pre)
 
 returns : tie.Need-returns
-returns c = stays tt (c .before .before .before .args .b) (runBook (rules.offer (c .before .before .before .args .id .0) (c .before .before .before .args .trigger) (c .before .before .before .args .goal)) (view (c .before .before .before .args .b))) (c .before .before .before .pre) (offer-absent (c .before .before .before .args .b) (c .before .before .before .pre) (c .before .before .before .args .id .0) (c .before .before .before .args .trigger) (c .before .before .before .args .goal) (sym (c .before .before .position-of .ensures) ∙ c .enum-told .given .1))
+returns c =
+    let start = c .before .before .before in
+    stays tt (start .args .b) (runBook (rules.offer (start .args .id .0) (start .args .trigger) (start .args .goal)) (view (start .args .b))) (start .pre)
+    (offer-absent (start .args .b) (start .pre) (start .args .id .0) (start .args .trigger) (start .args .goal) (sym (c .before .before .position-of .ensures) ∙ c .enum-told .given .1))
 
 is-queued-requires : tie.Need-is-queued-requires
-is-queued-requires c κs = sound-normal (c .before .before .before .before .args .b) (c .before .before .before .before .pre)
+is-queued-requires c κs =
+    let start = c .before .before .before .before in
+    sound-normal (start .args .b) (start .pre)
 
 submitted-at-requires : tie.Need-submitted-at-requires
-submitted-at-requires c κs = (sound-normal (c .before .before .before .before .before .args .b) (c .before .before .before .before .before .pre), within (c .before .before .before .before .before .args .b) (c .before .before .before .before .before .pre) (c .before .before .before .before .before .args .id .0) (c .before .before .before .before .before .args .trigger) (c .before .before .before .before .before .args .goal) _ (sym (c .before .before .before .before .position-of .ensures) ∙ c .before .before .place .given .1))
+submitted-at-requires c κs =
+    let start = c .before .before .before .before .before in (
+      sound-normal (start .args .b) (start .pre),
+      within (start .args .b) (start .pre) (start .args .id .0) (start .args .trigger) (start .args .goal) _
+          (sym (c .before .before .before .before .position-of .ensures) ∙ c .before .before .place .given .1),
+    )
 
 enqueue-requires : tie.Need-enqueue-requires
-enqueue-requires c κs = (c .before .before .before .before .before .before .before .before .before .before .pre, due-sound (c .before .before .before .before .before .before .before .before .before .before .args .b) (c .before .before .before .before .before .before .before .before .before .before .pre) (c .before .before .before .before .before .before .before .before .before .before .args .id .0) (c .before .before .before .before .before .before .before .before .before .before .args .trigger) (c .before .before .before .before .before .before .before .before .before .before .args .goal) _ (sym (c .before .before .before .before .before .before .before .before .before .position-of .ensures) ∙ c .before .before .before .before .before .before .before .place .given .1) (c .before .before .before .before .submitted-at .ensures) (c .redelivery .ensures))
+enqueue-requires c κs =
+    let start = c .before .before .before .before .before .before .before .before .before .before in (
+      start .pre,
+      due-sound (start .args .b) (start .pre) (start .args .id .0) (start .args .trigger) (start .args .goal) _
+          (sym (c .before .before .before .before .before .before .before .before .before .position-of .ensures) ∙ c .before .before .before .before .before .before .before .place .given .1)
+          (c .before .before .before .before .submitted-at .ensures) (c .redelivery .ensures),
+    )
 
 returns-2 : tie.Need-returns-2
-returns-2 c = ends-as tt (c .enqueue .result .book) (runBook (step (note (enqueue (c .before .redelivery .result)))) (view (c .before .before .before .before .before .before .before .before .before .before .before .args .b))) (c .enqueue .result .full)
-    (offer-due (c .before .before .before .before .before .before .before .before .before .before .before .args .b) (c .before .before .before .before .before .before .before .before .before .before .before .pre) (c .before .before .before .before .before .before .before .before .before .before .before .args .id .0) (c .before .before .before .before .before .before .before .before .before .before .before .args .trigger) (c .before .before .before .before .before .before .before .before .before .before .before .args .goal) _ (sym (c .before .before .before .before .before .before .before .before .before .before .position-of .ensures) ∙ c .before .before .before .before .before .before .before .before .place .given .1) (c .before .before .before .before .before .submitted-at .ensures) (c .before .redelivery .ensures) (c .before .before .before .before .before .before .is-queued .ensures) (c .before .before .before .before .deliverable .ensures) (c .before .before .before .if1 .taken))
+returns-2 c =
+    let start = c .before .before .before .before .before .before .before .before .before .before .before in
+    ends-as tt (c .enqueue .result .book) (runBook (step (note (enqueue (c .before .redelivery .result)))) (view (start .args .b))) (c .enqueue .result .full)
+    (offer-due (start .args .b) (start .pre) (start .args .id .0) (start .args .trigger) (start .args .goal) _
+    (sym (c .before .before .before .before .before .before .before .before .before .before .position-of .ensures) ∙ c .before .before .before .before .before .before .before .before .place .given .1)
+    (c .before .before .before .before .before .submitted-at .ensures) (c .before .redelivery .ensures) (c .before .before .before .before .before .before .is-queued .ensures)
+    (c .before .before .before .before .deliverable .ensures) (c .before .before .before .if1 .taken))
     (c .enqueue .ensures)
 
 returns-3 : tie.Need-returns-3
-returns-3 c = stays tt (c .before .before .before .before .before .before .before .before .args .b) (runBook (rules.offer (c .before .before .before .before .before .before .before .before .args .id .0) (c .before .before .before .before .before .before .before .before .args .trigger) (c .before .before .before .before .before .before .before .before .args .goal)) (view (c .before .before .before .before .before .before .before .before .args .b))) (c .before .before .before .before .before .before .before .before .pre) (offer-idle (c .before .before .before .before .before .before .before .before .args .b) (c .before .before .before .before .before .before .before .before .pre) (c .before .before .before .before .before .before .before .before .args .id .0) (c .before .before .before .before .before .before .before .before .args .trigger) (c .before .before .before .before .before .before .before .before .args .goal) _ (sym (c .before .before .before .before .before .before .before .position-of .ensures) ∙ c .before .before .before .before .before .place .given .1) (c .before .before .submitted-at .ensures) (c .before .before .before .is-queued .ensures) (c .before .deliverable .ensures) (c .if1 .left))
+returns-3 c =
+    let start = c .before .before .before .before .before .before .before .before in
+    stays tt (start .args .b) (runBook (rules.offer (start .args .id .0) (start .args .trigger) (start .args .goal)) (view (start .args .b))) (start .pre)
+    (offer-idle (start .args .b) (start .pre) (start .args .id .0) (start .args .trigger) (start .args .goal) _
+    (sym (c .before .before .before .before .before .before .before .position-of .ensures) ∙ c .before .before .before .before .before .place .given .1) (c .before .before .submitted-at .ensures)
+    (c .before .before .before .is-queued .ensures) (c .before .deliverable .ensures) (c .if1 .left))
 
 pub offer-spec : {M : Type 1} → statement M
 offer-spec =

@@ -11,7 +11,9 @@ retire-requires : tie.Need-retire-requires
 retire-requires c κs = kept-normal (c .before .args .b) (c .before .pre) (c .before .args .id .0) (c .remove-submitted .ensures)
 
 returns : tie.Need-returns
-returns c = withdraw-is (c .before .before .args .b) (c .before .before .pre) (c .before .before .args .id .0) (c .before .remove-submitted .ensures) (c .retire .ensures)
+returns c =
+    let start = c .before .before in
+    withdraw-is (start .args .b) (start .pre) (start .args .id .0) (c .before .remove-submitted .ensures) (c .retire .ensures)
 
 pub withdraw-spec : {M : Type 1} → statement M
 withdraw-spec = tie.close (tie.spec remove-submitted-requires retire-requires returns)

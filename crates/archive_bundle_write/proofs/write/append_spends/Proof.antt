@@ -17,7 +17,9 @@ abbrev μ-loop : tie.MeasureT-loop
 μ-loop out₀ at n a k e₀ i₀ out e i = k - i
 
 loop-holds : tie.Need-loop-holds Inv-loop μ-loop
-loop-holds c = (each-start encodeSpend (c .before .before .args .t3) (c .before .before .args .at) (c .before .before .args .out .now), omega arith, omega (arith, c .at-most .ensures))
+loop-holds c =
+    let start = c .before .before in
+    (each-start encodeSpend (start .args .t3) (start .args .at) (start .args .out .now), omega arith, omega (arith, c .at-most .ensures))
 
 loop-again : tie.Need-loop-again Inv-loop μ-loop
 loop-again c =

@@ -16,7 +16,9 @@ abbrev μ-loop : tie.MeasureT-loop
 μ-loop s at₀ count retained n items₀ i₀ at items i = n - i
 
 loop-holds : tie.Need-loop-holds Inv-loop μ-loop
-loop-holds c = filled-start 16 0 (parseReplayed (take (c .before .before .before .args .count) (c .before .before .before .args .t3))) (c .before .before .before .args .s .now) _ _
+loop-holds c =
+    let start = c .before .before .before in
+    filled-start 16 0 (parseReplayed (take (start .args .count) (start .args .t3))) (start .args .s .now) _ _
 
 loop-less : tie.Need-loop-less Inv-loop μ-loop
 loop-less c = omega (arith, c .before .before .before .before .before .before .before .loop .inv .some)

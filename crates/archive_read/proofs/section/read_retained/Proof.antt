@@ -17,7 +17,9 @@ abbrev μ-loop : tie.MeasureT-loop
 μ-loop s at₀ next n items₀ ids₀ tokens₀ m₀ i₀ at items ids tokens m i = n - i
 
 loop-holds : tie.Need-loop-holds Inv-loop μ-loop
-loop-holds c = rw (c .zero .ensures) (filled-start 16 zeroSubmitted (parseSubmitted (c .before .before .before .before .args .next .0)) (c .before .before .before .before .args .s .now) _ _, seen-start)
+loop-holds c =
+    let start = c .before .before .before .before in
+    rw (c .zero .ensures) (filled-start 16 zeroSubmitted (parseSubmitted (start .args .next .0)) (start .args .s .now) _ _, seen-start)
 
 part-read-submitted-end : tie.Need-part-read-submitted-end Inv-loop μ-loop
 part-read-submitted-end c = omega (arith, c .before .before .before .loop .inv .1 .ids-long, c .before .before .before .before .before .read-count .ensures .few)

@@ -15,7 +15,9 @@ abbrev μ-loop : tie.MeasureT-loop
 μ-loop s at₀ next n ids₀ tokens₀ places₀ m₀ i₀ at ids tokens places m i = n - i
 
 loop-holds : tie.Need-loop-holds Inv-loop μ-loop
-loop-holds c = retained-start (c .before .before .before .before .args .next .0) (c .before .before .before .before .args .s .now) _ _
+loop-holds c =
+    let start = c .before .before .before .before in
+    retained-start (start .args .next .0) (start .args .s .now) _ _
 
 part-walk-submitted-end : tie.Need-part-walk-submitted-end Inv-loop μ-loop
 part-walk-submitted-end c = omega (arith, c .before .before .before .loop .inv .seen .ids-long, c .before .before .before .before .before .read-count .ensures .few)

@@ -18,16 +18,18 @@ returns c =
 
 add-at : tie.Need-add-at
 add-at c =
+    let start = c .before .before .before .before in
     omega (
       arith,
-      has-long (c .before .before .before .before .args .n) (c .before .before .before .before .args .s .now) (c .before .before .before .before .args .at .now) (c .before .has .ensures) (c
+      has-long (start .args .n) (start .args .s .now) (start .args .at .now) (c .before .has .ensures) (c
           .if1 .left),
     )
 
 returns-2 : tie.Need-returns-2
 returns-2 c =
-    run-passed (c .before .before .before .before .args .n) (c .before .before .before .before .args .s .now) (c .before .before .before .before .args .at .now) (has-long (c .before .before .before
-    .before .args .n) (c .before .before .before .before .args .s .now) (c .before .before .before .before .args .at .now) (c .before .has .ensures) (c .if1 .left)) (omega arith)
+    let start = c .before .before .before .before in
+    run-passed (start .args .n) (start .args .s .now) (start .args .at .now) (has-long (c .before .before .before
+    .before .args .n) (start .args .s .now) (start .args .at .now) (c .before .has .ensures) (c .if1 .left)) (omega arith)
 
 pub skip-spec : {M : Type 1} → statement M
 skip-spec = tie.close (tie.spec (λ c κs. search needs) (λ c κs. search needs) returns add-at returns-2)

@@ -42,17 +42,20 @@ loop-again c = let l = c .before .before .before .before .loop in
     )
 
 returns : tie.Need-returns Inv-loop μ-loop
-returns c = let l = c .before .loop in
-    let a = c .before .before .before .args .t1 in
-    let n = c .before .before .before .args .n in
-    let k = c .before .before .at-most .result in
+returns c =
+    let start = c .before .before .before in
+    let at-most = c .before .before .at-most in
+    let l = c .before .loop in
+    let a = start .args .t1 in
+    let n = start .args .n in
+    let k = at-most .result in
     let long : length a ≡ 16 = search needs in
     let end = counted-end a k (l .i) (c .loop-test .left) (search needs) in
-    let cut = take-cut 16 n k a long (c .before .before .at-most .ensures) in
+    let cut = take-cut 16 n k a long (at-most .ensures) in
     let e : l .i ≡ k = search needs in (
       all-done soundSubmitted (l .ok) end (l .inv .4) ∙ ap (allb soundSubmitted) cut,
       (λ j. record {
-        count = (count-cut 16 n k a long (c .before .before .at-most .ensures) ∙ sym (length-map (take n a) idOf)) j;
+        count = (count-cut 16 n k a long (at-most .ensures) ∙ sym (length-map (take n a) idOf)) j;
         items = (l .inv .5 ∙ ap (λ (m : ℕ). cells 16 0 (map idOf (take m a))) e ∙ ap (λ (xs : List SubmittedTx). cells 16 0 (map idOf xs)) cut) j;
       }),
       flat-done tokensOf _ end (l .inv .6) ∙ ap (flatMap tokensOf) cut,

@@ -6,7 +6,9 @@ use Rattle.book_sound.proofs.cells.ids16_tail.Statement.{statement}
 use Rattle.book_sound.proofs.cells.ids16_tail.Tie as tie
 
 returns : tie.Need-returns
-returns c = tail-of 16 isZero (c .before .before .before .args .x .count) (c .before .before .before .args .x .items) (search needs) (c .zeros-from .ensures)
+returns c =
+    let start = c .before .before .before in
+    tail-of 16 isZero (start .args .x .count) (start .args .x .items) (search needs) (c .zeros-from .ensures)
 
 pub ids16-tail-spec : {M : Type 1} → statement M
 ids16-tail-spec = tie.close (tie.spec (λ c. search needs) (λ c κs. search needs) returns)

@@ -6,7 +6,9 @@ use Rattle.book_sound.proofs.cells.ids64_tail.Statement.{statement}
 use Rattle.book_sound.proofs.cells.ids64_tail.Tie as tie
 
 returns : tie.Need-returns
-returns c = tail-of 64 isZero (c .before .before .before .args .x .count) (c .before .before .before .args .x .items) (search needs) (c .zeros-from .ensures)
+returns c =
+    let start = c .before .before .before in
+    tail-of 64 isZero (start .args .x .count) (start .args .x .items) (search needs) (c .zeros-from .ensures)
 
 pub ids64-tail-spec : {M : Type 1} → statement M
 ids64-tail-spec = tie.close (tie.spec (λ c. search needs) (λ c κs. search needs) returns)

@@ -21,10 +21,21 @@ loop-holds : tie.Need-loop-holds Inv-loop μ-loop
 loop-holds c = (search needs, rw (c .at-most .ensures) (min-le-right (c .before .args .n) 16), search needs, refl)
 
 loop-again : tie.Need-loop-again Inv-loop μ-loop
-loop-again c = (search needs, search needs, search needs, all-turn-by soundDelivery (c .before .before .before .loop .ok) (c .is-sound-delivery .ensures) (counted-step (c .before .before .before .before .before .args .t1) (c .before .before .before .before .at-most .result) (c .before .before .before .loop .i) _ (c .before .before .loop-test .taken) (search needs)) (c .before .before .before .loop .inv .3))
+loop-again c = (
+  search needs,
+  search needs,
+  search needs,
+  all-turn-by soundDelivery (c .before .before .before .loop .ok) (c .is-sound-delivery .ensures)
+      (counted-step (c .before .before .before .before .before .args .t1) (c .before .before .before .before .at-most .result) (c .before .before .before .loop .i) _ (c .before .before .loop-test .taken) (search needs))
+      (c .before .before .before .loop .inv .3),
+)
 
 returns : tie.Need-returns Inv-loop μ-loop
-returns c = all-done soundDelivery (c .before .loop .ok) (counted-end (c .before .before .before .args .t1) (c .before .before .at-most .result) (c .before .loop .i) (c .loop-test .left) (search needs)) (c .before .loop .inv .3) ∙ ap (allb soundDelivery) (take-cut 16 (c .before .before .before .args .n) (c .before .before .at-most .result) (c .before .before .before .args .t1) (search needs) (c .before .before .at-most .ensures))
+returns c =
+    let start = c .before .before .before in
+    let at-most = c .before .before .at-most in
+    all-done soundDelivery (c .before .loop .ok) (counted-end (start .args .t1) (at-most .result) (c .before .loop .i) (c .loop-test .left) (search needs)) (c .before .loop .inv .3) ∙ ap (allb soundDelivery)
+    (take-cut 16 (start .args .n) (at-most .result) (start .args .t1) (search needs) (at-most .ensures))
 
 pub sound-deliveries-spec : {M : Type 1} → statement M
 sound-deliveries-spec =

@@ -23,10 +23,15 @@ loop-holds : tie.Need-loop-holds Inv-loop μ-loop
 loop-holds c = refl
 
 loop-again : tie.Need-loop-again Inv-loop μ-loop
-loop-again c = all-turn-by (Among (c .before .before .before .before .before .before .args .ids .now)) (c .before .before .before .loop .ok) (c .contains .ensures) (rest-step (c .before .before .before .before .before .before .args .s .now) (c .before .before .before .loop .i) 0 (c .before .before .loop-test .taken)) (c .before .before .before .loop .inv)
+loop-again c =
+    let start = c .before .before .before .before .before .before in
+    all-turn-by (Among (start .args .ids .now)) (c .before .before .before .loop .ok) (c .contains .ensures) (rest-step (start .args .s .now) (c .before .before .before .loop .i) 0 (c .before .before .loop-test .taken))
+    (c .before .before .before .loop .inv)
 
 returns : tie.Need-returns Inv-loop μ-loop
-returns c = all-done (Among (c .before .before .before .before .args .ids .now)) (c .before .loop .ok) (drop-of-length-le (c .before .before .before .before .args .s .now) {i = c .before .loop .i} (c .loop-test .left)) (c .before .loop .inv)
+returns c =
+    let start = c .before .before .before .before in
+    all-done (Among (start .args .ids .now)) (c .before .loop .ok) (drop-of-length-le (start .args .s .now) {i = c .before .loop .i} (c .loop-test .left)) (c .before .loop .inv)
 
 pub all-among-spec : {M : Type 1} → statement M
 all-among-spec =

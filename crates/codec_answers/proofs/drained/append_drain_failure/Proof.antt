@@ -7,7 +7,11 @@ use Rattle.codec_answers.proofs.drained.append_drain_failure.Statement.
 use Rattle.codec_answers.proofs.drained.append_drain_failure.Tie as tie
 
 returns : tie.Need-returns
-returns c = within-as (failed-parts (c .before .before .before .before .before .before .before .before .before .before .args .f) (c .before .before .before .before .retained-id .result) (c .before .before .before .before .before .stage-number .result) (c .before .before .before .before .retained-id .ensures) (c .before .before .before .before .before .stage-number .ensures ∙ ap stageNumber (c .before .before .before .before .before .before .stage-of .ensures))) (c .before .before .append-failure .ensures)
+returns c =
+    let stage-number = c .before .before .before .before .before .stage-number in
+    let retained-id = c .before .before .before .before .retained-id in
+    within-as (failed-parts (c .before .before .before .before .before .before .before .before .before .before .args .f) (retained-id .result) (stage-number .result) (retained-id .ensures)
+    (stage-number .ensures ∙ ap stageNumber (c .before .before .before .before .before .before .stage-of .ensures))) (c .before .before .append-failure .ensures)
 
 pub append-drain-failure-spec : {M : Type 1} → statement M
 append-drain-failure-spec =

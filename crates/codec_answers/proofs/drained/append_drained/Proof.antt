@@ -10,7 +10,12 @@ use Rattle.codec_answers.proofs.drained.append_drained.Tie as tie
 
 returns : tie.Need-returns
 unfolding encodeDrained
-returns c = record { fits = fits-join (fits-join (fits-join (fits-join (fits-join (fits-join (c .before .before .before .before .before .before .before .before .before .before .before .before .before .before .before .before .before .before .before .before .before .before .before .before .before .before .append-number .ensures) (c .before .before .before .before .before .before .before .before .before .before .before .before .before .before .before .before .before .before .before .before .before .before .append-number2 .ensures)) (c .before .before .before .before .before .before .before .before .before .before .before .before .before .before .before .before .before .before .append-token .ensures)) (fits-as (ap (be 1) (c .before .before .before .before .before .before .before .before .before .before .before .before .before .before .before .before .before .before .before .before .before .before .before .before .before .before .before .before .relationship-number .ensures)) (c .before .before .before .before .before .before .before .before .before .before .before .before .before .before .append-byte .ensures))) (c .before .before .before .before .before .before .before .before .before .before .append-bundle .ensures)) (c .before .before .before .before .before .before .append-height .ensures)) (c .before .before .append-fee-intent .ensures); few = drained-most (c .before .before .before .before .before .before .before .before .before .before .before .before .before .before .before .before .before .before .before .before .before .before .before .before .before .before .before .before .before .before .before .before .before .before .before .args .d) (c .before .before .before .before .before .before .before .before .before .before .before .before .before .before .before .before .before .before .before .before .before .before .before .before .before .before .before .before .before .before .before .size-bundle .ensures) (c .before .before .before .before .before .before .before .before .before .before .before .before .before .before .before .before .before .before .before .before .before .before .before .before .before .before .before .before .before .before .size-height .ensures) (c .before .before .before .before .before .before .before .before .before .before .before .before .before .before .before .before .before .before .before .before .before .before .before .before .before .before .before .before .before .size-fee-intent .ensures) }
+returns c = record {
+  fits = fits-join (fits-join
+      (fits-join (fits-join (fits-join (fits-join
+      (c .before .before .before .before .before .before .before .before .before .before .before .before .before .before .before .before .before .before .before .before .before .before .before .before .before .before .append-number .ensures) (c .before .before .before .before .before .before .before .before .before .before .before .before .before .before .before .before .before .before .before .before .before .before .append-number2 .ensures)) (c .before .before .before .before .before .before .before .before .before .before .before .before .before .before .before .before .before .before .append-token .ensures)) (fits-as (ap (be 1) (c .before .before .before .before .before .before .before .before .before .before .before .before .before .before .before .before .before .before .before .before .before .before .before .before .before .before .before .before .relationship-number .ensures)) (c .before .before .before .before .before .before .before .before .before .before .before .before .before .before .append-byte .ensures))) (c .before .before .before .before .before .before .before .before .before .before .append-bundle .ensures)) (c .before .before .before .before .before .before .append-height .ensures)) (c .before .before .append-fee-intent .ensures);
+  few = drained-most (c .before .before .before .before .before .before .before .before .before .before .before .before .before .before .before .before .before .before .before .before .before .before .before .before .before .before .before .before .before .before .before .before .before .before .before .args .d) (c .before .before .before .before .before .before .before .before .before .before .before .before .before .before .before .before .before .before .before .before .before .before .before .before .before .before .before .before .before .before .before .size-bundle .ensures) (c .before .before .before .before .before .before .before .before .before .before .before .before .before .before .before .before .before .before .before .before .before .before .before .before .before .before .before .before .before .before .size-height .ensures) (c .before .before .before .before .before .before .before .before .before .before .before .before .before .before .before .before .before .before .before .before .before .before .before .before .before .before .before .before .before .size-fee-intent .ensures);
+}
 
 pub append-drained-spec : {M : Type 1} → statement M
 append-drained-spec =

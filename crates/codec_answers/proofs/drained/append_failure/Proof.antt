@@ -6,7 +6,16 @@ use Rattle.codec_answers.proofs.drained.append_failure.Statement.{state
 use Rattle.codec_answers.proofs.drained.append_failure.Tie as tie
 
 returns : tie.Need-returns
-returns c = record { fits = fits-join (fits-join (fits-join (fits-join (c .before .before .before .before .before .before .before .before .before .before .before .before .before .before .before .before .before .before .before .append-number .ensures) (c .before .before .before .before .before .before .before .before .before .before .before .before .before .before .before .append-id .ensures)) (c .before .before .before .before .before .before .before .before .before .before .before .append-id2 .ensures)) (c .before .before .before .before .before .before .append-bytes .ensures)) (c .before .before .append-byte .ensures); few = failure-most (c .before .before .before .before .before .before .before .before .before .before .before .before .before .before .before .before .before .before .before .before .before .before .args .index) (c .before .before .before .before .before .before .before .before .before .before .before .before .before .before .before .before .before .before .before .before .before .before .args .retained) (c .before .before .before .before .before .before .before .before .before .before .before .before .before .before .before .before .before .before .before .before .before .before .args .candidate) (c .before .before .before .before .before .before .before .before .before .before .before .before .before .before .before .before .before .before .before .before .before .before .args .t6) (c .before .before .before .before .before .before .before .before .before .before .before .before .before .before .before .before .before .before .before .before .before .before .args .stage) (search needs) }
+returns c =
+    let start = c .before .before .before .before .before .before .before .before .before .before .before .before .before .before .before .before .before .before .before .before .before .before in
+    record {
+      fits = fits-join (fits-join (fits-join
+          (fits-join (c .before .before .before .before .before .before .before .before .before .before .before .before .before .before .before .before .before .before .before .append-number .ensures)
+          (c .before .before .before .before .before .before .before .before .before .before .before .before .before .before .before .append-id .ensures))
+          (c .before .before .before .before .before .before .before .before .before .before .before .append-id2 .ensures)) (c .before .before .before .before .before .before .append-bytes .ensures))
+          (c .before .before .append-byte .ensures);
+      few = failure-most (start .args .index) (start .args .retained) (start .args .candidate) (start .args .t6) (start .args .stage) (search needs);
+    }
 
 pub append-failure-spec : {M : Type 1} → statement M
 append-failure-spec =

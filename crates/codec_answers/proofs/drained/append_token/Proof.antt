@@ -9,7 +9,8 @@ returns : tie.Need-returns
 returns c = fits-as (token-no (c .before .before .before .before .before .before .before .args .t) (c .before .before .before .before .enum-told .given .1)) (c .before .before .append-byte .ensures)
 
 returns-2 : tie.Need-returns-2
-returns-2 c = fits-as (token-of (c .before .before .before .before .before .before .before .before .before .before .before .before .args .t) _ (c .before .before .before .before .before .before .before .before .before .t .given .1)) (fits-join (c .before .before .before .before .before .before .append-byte2 .ensures) (c .before .before .append-number .ensures))
+returns-2 c = fits-as (token-of (c .before .before .before .before .before .before .before .before .before .before .before .before .args .t) _
+    (c .before .before .before .before .before .before .before .before .before .t .given .1)) (fits-join (c .before .before .before .before .before .before .append-byte2 .ensures) (c .before .before .append-number .ensures))
 
 pub append-token-spec : {M : Type 1} → statement M
 append-token-spec =

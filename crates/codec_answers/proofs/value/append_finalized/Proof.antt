@@ -9,7 +9,8 @@ use Rattle.codec_answers.proofs.value.append_finalized.Tie as tie
 
 returns : tie.Need-returns
 unfolding encodeFinal
-returns c = fits-join (fits-join (fits-join (fits-join (fits-join (c .before .before .before .before .before .before .before .before .before .before .before .before .before .before .before .before .before .before .before .before .before .before .before .append-bundle .ensures) (c .before .before .before .before .before .before .before .before .before .before .before .before .before .before .before .before .before .before .before .append-number .ensures)) (c .before .before .before .before .before .before .before .before .before .before .before .before .before .before .before .append-flag .ensures)) (fits-as (ap (be 1) (c .before .before .before .before .before .before .before .before .before .before .before .before .before .before .before .before .before .before .before .before .before .before .before .before .before .disposition-number .ensures)) (c .before .before .before .before .before .before .before .before .before .before .before .append-byte .ensures))) (c .before .before .before .before .before .before .append-bytes .ensures)) (c .before .before .append-flag2 .ensures)
+returns c = fits-join (fits-join (fits-join
+    (fits-join (fits-join (c .before .before .before .before .before .before .before .before .before .before .before .before .before .before .before .before .before .before .before .before .before .before .before .append-bundle .ensures) (c .before .before .before .before .before .before .before .before .before .before .before .before .before .before .before .before .before .before .before .append-number .ensures)) (c .before .before .before .before .before .before .before .before .before .before .before .before .before .before .before .append-flag .ensures)) (fits-as (ap (be 1) (c .before .before .before .before .before .before .before .before .before .before .before .before .before .before .before .before .before .before .before .before .before .before .before .before .before .disposition-number .ensures)) (c .before .before .before .before .before .before .before .before .before .before .before .append-byte .ensures))) (c .before .before .before .before .before .before .append-bytes .ensures)) (c .before .before .append-flag2 .ensures)
 
 pub append-finalized-spec : {M : Type 1} → statement M
 append-finalized-spec =

@@ -19,7 +19,9 @@ at-most-requires : tie.Need-at-most-requires Inv-loop μ-loop
 at-most-requires c κs = search needs
 
 loop-holds : tie.Need-loop-holds Inv-loop μ-loop
-loop-holds c = let l : length (c .before .before .args .t3) ≡ 64 = search needs in (each-start (be 8) (c .before .before .args .t3) (c .before .before .args .at) (c .before .before .args .out .now), omega arith, omega (arith, c .at-most .ensures), refl)
+loop-holds c =
+    let start = c .before .before in
+    let l : length (start .args .t3) ≡ 64 = search needs in (each-start (be 8) (start .args .t3) (start .args .at) (start .args .out .now), omega arith, omega (arith, c .at-most .ensures), refl)
 
 mul-append-number : tie.Need-mul-append-number Inv-loop μ-loop
 mul-append-number c = search needs
@@ -37,13 +39,24 @@ loop-less : tie.Need-loop-less Inv-loop μ-loop
 loop-less c = search needs
 
 loop-again : tie.Need-loop-again Inv-loop μ-loop
-loop-again c = let l : length (c .before .before .before .before .before .before .before .before .args .t3) ≡ 64 = search needs in (each-more 0 (be 8) (c .before .before .before .before .before .before .before .before .args .t3) (c .before .before .before .before .before .loop .i) (omega (arith, l, c .before .before .before .before .before .loop .inv .2)) (c .before .before .before .before .before .loop .inv .0) (c .before .before .append-number .ensures), omega arith, c .before .before .before .before .before .loop .inv .2, search needs)
+loop-again c =
+    let start = c .before .before .before .before .before .before .before .before in
+    let l : length (start .args .t3) ≡ 64 = search needs in (
+      each-more 0 (be 8) (start .args .t3) (c .before .before .before .before .before .loop .i) (omega (arith, l, c .before .before .before .before .before .loop .inv .2)) (c .before .before .before .before .before .loop .inv .0)
+          (c .before .before .append-number .ensures),
+      omega arith,
+      c .before .before .before .before .before .loop .inv .2,
+      search needs,
+    )
 
 same-length : tie.Need-same-length Inv-loop μ-loop
 same-length c = c .before .loop .inv .3
 
 returns : tie.Need-returns Inv-loop μ-loop
-returns c = let l : length (c .before .before .before .before .args .t3) ≡ 64 = search needs in each-done (be 8) (c .before .before .before .before .args .t3) 64 (c .before .before .before .before .args .n) (c .before .before .at-most .result) (c .before .loop .i) l (c .before .before .at-most .ensures) (c .before .loop .inv .1) (c .loop-test .left) (c .before .loop .inv .0)
+returns c =
+    let start = c .before .before .before .before in
+    let at-most = c .before .before .at-most in
+    let l : length (start .args .t3) ≡ 64 = search needs in each-done (be 8) (start .args .t3) 64 (start .args .n) (at-most .result) (c .before .loop .i) l (at-most .ensures) (c .before .loop .inv .1) (c .loop-test .left) (c .before .loop .inv .0)
 
 pub append-numbers-spec : {M : Type 1} → statement M
 append-numbers-spec =

@@ -32,7 +32,13 @@ loop-less : tie.Need-loop-less Inv-loop μ-loop
 loop-less c = search needs
 
 loop-again : tie.Need-loop-again Inv-loop μ-loop
-loop-again c = (omega arith, simp length-set (c .before .before .loop .inv .1), store-step (c .before .before .before .args .src .now) (c .before .before .before .args .dst .now) (c .before .before .loop .dst) (c .before .before .loop .i) (c .before .before .loop .inv .2) (c .before .loop-test .taken) (omega arith))
+loop-again c =
+    let start = c .before .before .before in (
+      omega arith,
+      simp length-set (c .before .before .loop .inv .1),
+      store-step (start .args .src .now) (start .args .dst .now) (c .before .before .loop .dst) (c .before .before .loop .i) (c .before .before .loop .inv .2)
+          (c .before .loop-test .taken) (omega arith),
+    )
 
 same-length : tie.Need-same-length Inv-loop μ-loop
 same-length c = search needs

@@ -7,13 +7,19 @@ use Rattle.codec_forms.proofs.write.put_byte.Statement.{statement}
 use Rattle.codec_forms.proofs.write.put_byte.Tie as tie
 
 put-bytes-requires : tie.Need-put-bytes-requires
-put-bytes-requires c κs = let h : (c .before .before .before .args) .b < 256 = search needs in room-as (one-byte ((c .before .before .before .args) .b) h) (c .before .before .before .pre)
+put-bytes-requires c κs =
+    let start = c .before .before .before in
+    let h : (start .args) .b < 256 = search needs in room-as (one-byte ((start .args) .b) h) (start .pre)
 
 same-length : tie.Need-same-length
-same-length c = let h : (c .before .before .before .before .before .before .args) .b < 256 = search needs in puts-long (room-as (one-byte ((c .before .before .before .before .before .before .args) .b) h) (c .before .before .before .before .before .before .pre)) ((c .before .before .put-bytes) .ensures)
+same-length c =
+    let start = c .before .before .before .before .before .before in
+    let h : (start .args) .b < 256 = search needs in puts-long (room-as (one-byte ((start .args) .b) h) (start .pre)) ((c .before .before .put-bytes) .ensures)
 
 returns : tie.Need-returns
-returns c = let h : (c .before .before .before .before .before .before .args) .b < 256 = search needs in puts-as (one-byte ((c .before .before .before .before .before .before .args) .b) h) ((c .before .before .put-bytes) .ensures)
+returns c =
+    let start = c .before .before .before .before .before .before in
+    let h : (start .args) .b < 256 = search needs in puts-as (one-byte ((start .args) .b) h) ((c .before .before .put-bytes) .ensures)
 
 pub put-byte-spec : {M : Type 1} → statement M
 put-byte-spec =

@@ -33,8 +33,10 @@ loop-less : tie.Need-loop-less Inv-loop μ-loop
 loop-less c = omega (arith, (c .before .before .before .pre) .fits)
 
 loop-again : tie.Need-loop-again Inv-loop μ-loop
-loop-again c = let l = (c .before .before .loop) in let a = (c .before .before .before .args) in
-    (omega arith, simp length-set (l .inv .1), copy-turn (a .out .now) (l .out) (a .at) (a .src .now) (l .i) (l .inv .2) (omega (arith, (c .before .before .before .pre) .fits)) ((c .before .loop-test) .taken))
+loop-again c =
+    let start = c .before .before .before in
+    let l = (c .before .before .loop) in let a = (start .args) in
+    (omega arith, simp length-set (l .inv .1), copy-turn (a .out .now) (l .out) (a .at) (a .src .now) (l .i) (l .inv .2) (omega (arith, (start .pre) .fits)) ((c .before .loop-test) .taken))
 
 add-result : tie.Need-add-result Inv-loop μ-loop
 add-result c = omega (arith, (c .before .before .pre) .fits)
