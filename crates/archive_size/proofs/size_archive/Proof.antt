@@ -6,12 +6,9 @@ use Rattle.archive_size.proofs.size_archive.Statement.{statement}
 use Rattle.archive_size.proofs.size_archive.Tie as tie
 
 returns : tie.Need-returns
-returns c =
-    let size-submissions = c .before .before .before .before .size-submissions in
-    let size-deliveries = c .before .before .before .size-deliveries in
-    let at-most = c .before .before .at-most in
-    book-size ((c .before .before .before .before .before .before .before .before .before .before .args) .b) ((size-submissions) .result) ((size-deliveries) .result) ((at-most) .result) ((c .size-height) .result)
-    ((c .before .at-most2) .result) ((size-submissions) .ensures) ((size-deliveries) .ensures) ((at-most) .ensures) (search needs) ((c .size-height) .ensures) ((c .before .at-most2) .ensures) (search needs)
+returns c = book-size ((c .before .before .before .before .before .before .before .before .before .before .args) .b) ((c .before .before .before .before .size-submissions) .result)
+    ((c .before .before .before .size-deliveries) .result) ((c .before .before .at-most) .result) ((c .size-height) .result) ((c .before .at-most2) .result) ((c .before .before .before .before .size-submissions) .ensures)
+    ((c .before .before .before .size-deliveries) .ensures) ((c .before .before .at-most) .ensures) (search needs) ((c .size-height) .ensures) ((c .before .at-most2) .ensures) (search needs)
 
 pub size-archive-spec : {M : Type 1} → statement M
 size-archive-spec =

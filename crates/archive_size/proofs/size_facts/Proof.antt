@@ -7,14 +7,9 @@ use Rattle.archive_size.proofs.size_facts.Tie as tie
 
 returns : tie.Need-returns
 returns c =
-    let hash = c .before in
-    let fee = hash .before in
-    let variant = fee .before in
-    let bundle = variant .before in
-    let e = bundle .before .before .before .before .before .before .before .args .e in
-    facts-size (e .intent) (e .state)
-    (bundle .size-bundle .result) (variant .size-variant .result) (fee .size-fee-intent .result) (hash .size-hash .result) (c .size-height .result) (search needs)
-    (bundle .size-bundle .ensures) (variant .size-variant .ensures) (fee .size-fee-intent .ensures) (hash .size-hash .ensures) (c .size-height .ensures)
+    facts-size (c .before .before .before .before .before .before .before .before .before .before .before .args .e .intent) (c .before .before .before .before .before .before .before .before .before .before .before .args .e .state)
+    (c .before .before .before .before .size-bundle .result) (c .before .before .before .size-variant .result) (c .before .before .size-fee-intent .result) (c .before .size-hash .result) (c .size-height .result) (search needs)
+    (c .before .before .before .before .size-bundle .ensures) (c .before .before .before .size-variant .ensures) (c .before .before .size-fee-intent .ensures) (c .before .size-hash .ensures) (c .size-height .ensures)
 
 pub size-facts-spec : {M : Type 1} → statement M
 size-facts-spec =
