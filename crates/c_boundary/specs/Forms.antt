@@ -36,6 +36,7 @@ use Rattle.part_replies.specs.Values.{statusBy, idsBy, flagBy, heightBy, attemp
 use Rattle.part_replies.specs.Reply.{valueOf, doneReply, statusReply, idsReply, flagReply, heightReply, attemptReply, feeIntentReply, finalizeReply}
 use Rattle.part_replies.specs.declared.SubmissionAttemptStatus.the-variants.{Stale}
 use Rattle.part_replies.specs.declared.FinalizedSubmission.{FinalizedSubmission}
+use Rattle.part_replies.specs.declared.CallAnswer.{CallAnswer}
 use Rattle.part_replies.specs.declared.DoneReply.{DoneReply}
 use Rattle.part_replies.specs.declared.StatusReply.{StatusReply}
 use Rattle.part_replies.specs.declared.IdsReply.{IdsReply}
@@ -45,7 +46,9 @@ use Rattle.part_replies.specs.declared.AttemptReply.{AttemptReply}
 use Rattle.part_replies.specs.declared.FeeIntentReply.{FeeIntentReply}
 use Rattle.part_replies.specs.declared.FinalizeReply.{FinalizeReply}
 use Rattle.c_boundary.specs.Held.{heldIn, Holding}
+use Rattle.c_answer.specs.Answer.{GivesAnswer, answer-as}
 use Rattle.c_boundary.specs.Settle.{Left, Form, refusal, boundary, Gives, GivesBook, gives-as, gives-book-as, finish, Tells, boundary-reply, boundary-absent}
+use Rattle.c_boundary.specs.Looks.{Looks, toldBy, boundary-looked}
 
 -- ---- forms
 abbrev pub noForm : Form
@@ -95,6 +98,11 @@ pub gives-book-absent : (form : Form) (r : Rule Value) (d : List ℕ) → heldIn
 gives-book-absent form r d e = gives-book-as (sym (boundary-absent form r d [] e)) (record { number = refl; book = refl })
 
 -- ---- a call's reply, told in its form
+tells-status : (o : Outcome Book Value) → Tells statusForm o (be 1 (statusNumber (valueOf Stale statusBy o)))
+tells-status (ended m xs v) = refl
+tells-status (undone k) = tt
+tells-status (stopped m xs k) = tt
+
 module _ (d a : List ℕ) (b : BookData) (h : Holding d b) (rule : Rule Value) {n : ℕ} {d′ a′ : List ℕ} where
   pub flag-given : (r : FlagReply) → r ≡ flagReply b (runBook rule (view b)) → Gives (finish (r .answer) (r .book) (be 1 (flagNumber (r .flag))) d a) n d′ a′ → Gives (boundary flagForm rule d a) n d′ a′
   flag-given r e g =
@@ -107,12 +115,7 @@ module _ (d a : List ℕ) (b : BookData) (h : Holding d b) (rule : Rule Value) {
 
   pub status-given : (r : StatusReply) → r ≡ statusReply b (runBook rule (view b)) → Gives (finish (r .answer) (r .book) (be 1 (statusNumber (r .status))) d a) n d′ a′ → Gives (boundary statusForm rule d a) n d′ a′
   status-given r e g =
-      gives-as (ap (λ (x : StatusReply). finish (x .answer) (x .book) (be 1 (statusNumber (x .status))) d a) e ∙ boundary-reply statusForm d a b h rule _ (go (runBook rule (view b)))) g
-    where
-      go : (o : Outcome Book Value) → Tells statusForm o (be 1 (statusNumber (valueOf Stale statusBy o)))
-      go (ended m xs v) = refl
-      go (undone k) = tt
-      go (stopped m xs k) = tt
+      gives-as (ap (λ (x : StatusReply). finish (x .answer) (x .book) (be 1 (statusNumber (x .status))) d a) e ∙ boundary-reply statusForm d a b h rule _ (tells-status (runBook rule (view b)))) g
 
 tells-ids : (o : Outcome Book Value) → Tells idsForm o (encodeIds (valueOf (ids64 []) idsBy o))
 unfolding idsForm
@@ -154,21 +157,37 @@ module _ (d a : List ℕ) (b : BookData) (h : Holding d b) (rule : Rule Value) {
   ids-given r e g =
       gives-as (ap (λ (x : IdsReply). finish (x .answer) (x .book) (encodeIds (x .ids)) d a) e ∙ boundary-reply idsForm d a b h rule _ (tells-ids (runBook rule (view b)))) g
 
-  pub height-given : (r : HeightReply) → r ≡ heightReply b (runBook rule (view b)) → Gives (finish (r .answer) (r .book) (encodeHeight (r .height)) d a) n d′ a′ → Gives (boundary heightForm rule d a) n d′ a′
-  height-given r e g =
-      gives-as (ap (λ (x : HeightReply). finish (x .answer) (x .book) (encodeHeight (x .height)) d a) e ∙ boundary-reply heightForm d a b h rule _ (tells-height (runBook rule (view b)))) g
-
-  pub attempt-given : (r : AttemptReply) → r ≡ attemptReply b (runBook rule (view b)) → Gives (finish (r .answer) (r .book) (encodeSlot (r .attempt)) d a) n d′ a′ → Gives (boundary attemptForm rule d a) n d′ a′
-  attempt-given r e g =
-      gives-as (ap (λ (x : AttemptReply). finish (x .answer) (x .book) (encodeSlot (x .attempt)) d a) e ∙ boundary-reply attemptForm d a b h rule _ (tells-attempt (runBook rule (view b)))) g
-
-  pub fee-intent-given : (r : FeeIntentReply) → r ≡ feeIntentReply b (runBook rule (view b)) → Gives (finish (r .answer) (r .book) (encOpt (r .present) (encodeFeeIntent (r .«fee_intent»))) d a) n d′ a′ → Gives (boundary feeIntentForm rule d a) n d′ a′
-  fee-intent-given r e g =
-      gives-as (ap (λ (x : FeeIntentReply). finish (x .answer) (x .book) (encOpt (x .present) (encodeFeeIntent (x .«fee_intent»))) d a) e ∙ boundary-reply feeIntentForm d a b h rule _ (tells-fee-intent (runBook rule (view b)))) g
-
   pub final-given : (r : FinalizeReply) → r ≡ finalizeReply b (runBook rule (view b)) → Gives (finish (r .answer) (r .book) (encOpt (r .present) (encodeFinal (r .finalized))) d a) n d′ a′ → Gives (boundary finalForm rule d a) n d′ a′
   final-given r e g =
       gives-as (ap (λ (x : FinalizeReply). finish (x .answer) (x .book) (encOpt (x .present) (encodeFinal (x .finalized))) d a) e ∙ boundary-reply finalForm d a b h rule _ (tells-final (runBook rule (view b)))) g
+
+-- the same of a call that only looks, told without its book
+module _ (d a : List ℕ) (b : BookData) (h : Holding d b) (rule : Rule Value) (q : Looks rule) {n : ℕ} {a′ : List ℕ} where
+  pub status-looked : (r : StatusReply) → r ≡ statusReply b (runBook rule (view b)) → GivesAnswer (toldBy (r .answer) (be 1 (statusNumber (r .status))) a) n a′
+      → Gives (boundary statusForm rule d a) n d a′
+  status-looked r e g =
+      boundary-looked statusForm d a b h rule q _ (tells-status (runBook rule (view b)))
+      (answer-as (ap (λ (x : StatusReply). toldBy (x .answer) (be 1 (statusNumber (x .status))) a) e) g)
+
+  pub ids-looked : (r : IdsReply) → r ≡ idsReply b (runBook rule (view b)) → GivesAnswer (toldBy (r .answer) (encodeIds (r .ids)) a) n a′ → Gives (boundary idsForm rule d a) n d a′
+  ids-looked r e g =
+      boundary-looked idsForm d a b h rule q _ (tells-ids (runBook rule (view b))) (answer-as (ap (λ (x : IdsReply). toldBy (x .answer) (encodeIds (x .ids)) a) e) g)
+
+  pub height-looked : (r : HeightReply) → r ≡ heightReply b (runBook rule (view b)) → GivesAnswer (toldBy (r .answer) (encodeHeight (r .height)) a) n a′
+      → Gives (boundary heightForm rule d a) n d a′
+  height-looked r e g =
+      boundary-looked heightForm d a b h rule q _ (tells-height (runBook rule (view b))) (answer-as (ap (λ (x : HeightReply). toldBy (x .answer) (encodeHeight (x .height)) a) e) g)
+
+  pub attempt-looked : (r : AttemptReply) → r ≡ attemptReply b (runBook rule (view b)) → GivesAnswer (toldBy (r .answer) (encodeSlot (r .attempt)) a) n a′
+      → Gives (boundary attemptForm rule d a) n d a′
+  attempt-looked r e g =
+      boundary-looked attemptForm d a b h rule q _ (tells-attempt (runBook rule (view b))) (answer-as (ap (λ (x : AttemptReply). toldBy (x .answer) (encodeSlot (x .attempt)) a) e) g)
+
+  pub fee-intent-looked : (r : FeeIntentReply) → r ≡ feeIntentReply b (runBook rule (view b))
+      → GivesAnswer (toldBy (r .answer) (encOpt (r .present) (encodeFeeIntent (r .«fee_intent»))) a) n a′ → Gives (boundary feeIntentForm rule d a) n d a′
+  fee-intent-looked r e g =
+      boundary-looked feeIntentForm d a b h rule q _ (tells-fee-intent (runBook rule (view b)))
+      (answer-as (ap (λ (x : FeeIntentReply). toldBy (x .answer) (encOpt (x .present) (encodeFeeIntent (x .«fee_intent»))) a) e) g)
 
 pub done-given : (d : List ℕ) (b : BookData) (h : Holding d b) (rule : Rule Value) {n : ℕ} {d′ : List ℕ} (r : DoneReply) → r ≡ doneReply b (runBook rule (view b)) → GivesBook (finish (r .answer) (r .book) [] d []) n d′ → GivesBook (boundary noForm rule d []) n d′
 done-given d b h rule r e g =
@@ -231,6 +250,11 @@ unfolding overlay
 told x l l′ n f h =
     let o = puts-overlay (f .puts (record { fits = omega arith })) in
     ap (λ (k : ℕ). take k l′) (sub-zero n) ∙ ap (take n) (o .1) ∙ take-at x (drop (length x) l) n (sym (o .0))
+
+-- the same, told
+pub told-answer : (x l l′ : List ℕ) (n : ℕ) → Fits x 0 l l′ n → length x ≤ length l → (said : CallAnswer) (a : List ℕ) {k : ℕ} {a′ : List ℕ}
+    → GivesAnswer (toldBy said (take (n - 0) (drop 0 l′)) a) k a′ → GivesAnswer (toldBy said x a) k a′
+told-answer x l l′ n f h said a g = answer-as (ap (λ (y : List ℕ). toldBy said y a) (told x l l′ n f h)) g
 
 -- the same, for the part's end
 pub told-end : (x l l′ : List ℕ) (n : ℕ) → Fits x 0 l l′ n → length x ≤ length l → (n ≤ length l′) × (n ≡ length x)
