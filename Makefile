@@ -14,9 +14,9 @@ SHARED = target/lib/$(SONAME)
 VERSION = $(shell sed -n 's/^\#define SUBMISSION_BOOK_VERSION_STRING "\(.*\)"/\1/p' include/submission_book.h)
 PREFIX ?= /usr/local
 PUBLIC = submission_book.h submission_book_answers.h
-EXAMPLE = examples/c/kitchen.c examples/c/account.c examples/c/coins.c examples/c/sha256.c
-CALLS = tests/c_api/calls.c tests/c_api/answers.c tests/c_api/buffers.c tests/c_api/sizes.c
-SAMPLE = tests/c_api/sample.c examples/c/coins.c examples/c/sha256.c
+EXAMPLE = examples/c/kitchen.c examples/c/account.c examples/c/coins.c
+CALLS = $(addprefix tests/c_api/, calls.c answers.c buffers.c sizes.c looks.c digests.c sha256.c)
+SAMPLE = tests/c_api/sample.c examples/c/coins.c
 INCLUDE = -I include -I examples/c -I tests/c_api
 HEADERS = $(addprefix include/, $(PUBLIC)) $(wildcard examples/c/*.h tests/c_api/*.h)
 
@@ -102,7 +102,7 @@ target/kitchen: $(EXAMPLE) $(HEADERS) $(LIBRARY)
 	$(CC) $(CFLAGS) $(INCLUDE) $(EXAMPLE) $(LIBRARY) -o $@
 
 target/c_api_calls: $(CALLS) $(SAMPLE) $(HEADERS) $(LIBRARY)
-	$(CC) $(CFLAGS) $(INCLUDE) $(CALLS) $(SAMPLE) $(LIBRARY) -o $@
+	$(CC) $(CFLAGS) $(INCLUDE) $(CALLS) $(SAMPLE) $(LIBRARY) -pthread -o $@
 
 target/c_api_stack: tests/c_api/stack.c $(SAMPLE) $(HEADERS) $(LIBRARY)
 	$(CC) $(CFLAGS) $(INCLUDE) tests/c_api/stack.c $(SAMPLE) $(LIBRARY) -pthread -o $@

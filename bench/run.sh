@@ -13,13 +13,11 @@ fi
 log=$out/build.log
 : >"$log"
 # A library is proved again when it is built, which takes a minute or two, so one that is newer than every source is kept.
-for crate in c_api c_sha256; do
-    library=target/staticlib/lib$crate.a
-    if [ ! -f "$library" ] || [ -n "$(find crates crates.txt -regex '.*\.\(rt\|antt\|txt\)' -newer "$library" -print -quit)" ]; then
-        echo "proving and building $library" >&2
-        rt staticlib "$crate" >>"$log" 2>&1 || { cat "$log"; exit 1; }
-    fi
-done
+library=target/staticlib/libc_api.a
+if [ ! -f "$library" ] || [ -n "$(find crates crates.txt -regex '.*\.\(rt\|antt\|txt\)' -newer "$library" -print -quit)" ]; then
+    echo "proving and building $library" >&2
+    rt staticlib c_api >>"$log" 2>&1 || { cat "$log"; exit 1; }
+fi
 
 # Two builds of the library in one program: the other one's functions get other names.
 if [ $# -gt 0 ]; then
@@ -50,8 +48,8 @@ else
     rustc --edition 2021 -C opt-level=3 -o "$out/call_times" bench/calls/src/main.rs $libraries >>"$log" 2>&1 || { cat "$log"; exit 1; }
     calls=$out/call_times
 fi
-for part in archive:c_api sha256:c_sha256; do
-    rustc --edition 2021 -C opt-level=3 -o "$out/${part%:*}" "bench/${part%:*}/main.rs" -L target/staticlib -l "static=${part#*:}" >>"$log" 2>&1 || { cat "$log"; exit 1; }
+for part in archive sha256; do
+    rustc --edition 2021 -C opt-level=3 -o "$out/$part" "bench/$part/main.rs" -L target/staticlib -l static=c_api >>"$log" 2>&1 || { cat "$log"; exit 1; }
 done
 "$calls"
 "$out/archive"

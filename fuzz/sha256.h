@@ -1,5 +1,5 @@
-/* The example's SHA-256, in this program's own file. */
+/* The plain SHA-256 of the C tests, in this program's own file. */
 #ifndef FUZZ_SHA256_H
 #define FUZZ_SHA256_H
-#include "../examples/c/sha256.c"
+#include "../tests/c_api/sha256.c"
 #endif

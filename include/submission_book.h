@@ -30,13 +30,16 @@
  * say, then 12. Any call may answer
  *     1   `book` holds no book: fewer than 8 bytes, fewer than its length says, or no archive there
  *         (submission_book_open and submission_book_read do not look, and never answer 1)
- *     12  the answer, or the book as the call leaves it, is longer than the bytes lent for it (never with the sizes
- *         named below)
+ *     12  the answer, or the book as a call that may change it leaves it, is longer than the bytes lent for it (never
+ *         with the sizes named below)
  * and these two are not named again with each function.
  *
- * THREADS. There is no hidden state. Calls on different books may run at once. Calls on one book need a lock of the
- * caller's, also those that only look (they write the same bytes again); only functions with a `const` book may run
- * at once on it.
+ * LOOKS. A function whose `book` is `const` only looks: it writes nothing to the book, whatever it returns, so that the
+ * book may lie in memory that is mapped read-only or shared. 12 is then about `answer` alone.
+ *
+ * THREADS. There is no hidden state. Calls on different books may run at once, and so may any number of looks at one
+ * book. A call that may change a book (its `book` is not `const`) needs the book for itself: a lock of the caller's, as
+ * for any bytes, with the looks as its readers.
  *
  * STACK. A call takes at most SUBMISSION_BOOK_STACK_BYTES (1,000,000) of the calling thread's stack. The usual main
  * thread of 8 MB has room for it; a thread that is made with a smaller stack must have so much and what the caller
@@ -49,9 +52,9 @@
 
 /* ---- version: the higher one of two is the greater number */
 #define SUBMISSION_BOOK_VERSION_MAJOR 0
-#define SUBMISSION_BOOK_VERSION_MINOR 2
+#define SUBMISSION_BOOK_VERSION_MINOR 3
 #define SUBMISSION_BOOK_VERSION_PATCH 0
-#define SUBMISSION_BOOK_VERSION_STRING "0.2.0"
+#define SUBMISSION_BOOK_VERSION_STRING "0.3.0"
 #define SUBMISSION_BOOK_VERSION \
     (SUBMISSION_BOOK_VERSION_MAJOR << 16 | SUBMISSION_BOOK_VERSION_MINOR << 8 | SUBMISSION_BOOK_VERSION_PATCH)
 
@@ -73,6 +76,7 @@
 #define SUBMISSION_BOOK_FEE_INTENT_BYTES 41
 #define SUBMISSION_BOOK_COIN_BYTES 73
 #define SUBMISSION_BOOK_COIN_ID_BYTES 32
+#define SUBMISSION_BOOK_DIGEST_BYTES 32
 #define SUBMISSION_BOOK_COIN_LIST_BYTES 59202 /* 800 coins of 73 bytes */
 
 /* answers */
@@ -281,7 +285,7 @@ uint8_t submission_book_drain(uint8_t *book, size_t book_len, uint8_t *answer, s
  * Answer, at most SUBMISSION_BOOK_FEE_INTENT_ANSWER_BYTES (42): mark; if 1 the fee intent (2 attach where a fee is
  * open, else 0). Mark 0: the token is inactive. Refusals: 4. */
 SUBMISSION_BOOK_NODISCARD
-uint8_t submission_book_fee_intent_for_attempt(uint8_t *book, size_t book_len, uint64_t token,
+uint8_t submission_book_fee_intent_for_attempt(const uint8_t *book, size_t book_len, uint64_t token,
     uint8_t *answer, size_t answer_len);
 
 /* Settles what is broadcast for a live attempt. With an open fee and source 1 the bundle `joined` becomes the
@@ -326,14 +330,15 @@ uint8_t submission_book_abandon_attempt(uint8_t *book, size_t book_len, uint64_t
 /* Whether a token is set aside. Changes nothing.
  * Answer, 1 byte: 0 applied, it is set aside; 1 stale, it was issued and is live, displaced or gone. Refusals: 4. */
 SUBMISSION_BOOK_NODISCARD
-uint8_t submission_book_relinquish_completed_attempt(uint8_t *book, size_t book_len, uint64_t token,
+uint8_t submission_book_relinquish_completed_attempt(const uint8_t *book, size_t book_len, uint64_t token,
     uint8_t *answer, size_t answer_len);
 
 /* A live attempt. Changes nothing.
  * Answer, at most SUBMISSION_BOOK_ATTEMPT_BYTES (75): mark; if 1 the attempt. Mark 0: the token is not live, or was
  * never issued. No refusal but 1 and 12. */
 SUBMISSION_BOOK_NODISCARD
-uint8_t submission_book_attempt(uint8_t *book, size_t book_len, uint64_t token, uint8_t *answer, size_t answer_len);
+uint8_t submission_book_attempt(const uint8_t *book, size_t book_len, uint64_t token,
+    uint8_t *answer, size_t answer_len);
 
 /* ==== retained submissions and retirements ==== */
 
@@ -349,7 +354,7 @@ uint8_t submission_book_retain_submitted(uint8_t *book, size_t book_len,
  * Answer, at most SUBMISSION_BOOK_IDS_BYTES (513): their ids, in the order in which they were retained. No refusal
  * but 1 and 12. */
 SUBMISSION_BOOK_NODISCARD
-uint8_t submission_book_active_ids(uint8_t *book, size_t book_len, uint8_t *answer, size_t answer_len);
+uint8_t submission_book_active_ids(const uint8_t *book, size_t book_len, uint8_t *answer, size_t answer_len);
 
 /* Retires an id by hand: it is put behind the retirements, unless it is among them.
  * Refusals: 10 more than 64 retirements would result. */
@@ -391,7 +396,7 @@ uint8_t submission_book_reconcile_chain_terminality(uint8_t *book, size_t book_l
  * `rolled_back` and to submission_book_collect_rollback_replay_ids.
  * Answer, at most SUBMISSION_BOOK_IDS_BYTES (513): ids, rising. Refusals: 2 a list out of form. */
 SUBMISSION_BOOK_NODISCARD
-uint8_t submission_book_causally_rolled_back_ids(uint8_t *book, size_t book_len,
+uint8_t submission_book_causally_rolled_back_ids(const uint8_t *book, size_t book_len,
     const uint8_t *absent, size_t absent_len, const uint8_t *inputs, size_t inputs_len,
     uint8_t *answer, size_t answer_len);
 
@@ -438,7 +443,21 @@ uint8_t submission_book_finish_replay_if_advanced(uint8_t *book, size_t book_len
  * Answer, at most SUBMISSION_BOOK_HEIGHT_BYTES (9): mark; if 1 the height (8) at which it began. No refusal but 1 and
  * 12. */
 SUBMISSION_BOOK_NODISCARD
-uint8_t submission_book_replay_rollback_height(uint8_t *book, size_t book_len, uint8_t *answer, size_t answer_len);
+uint8_t submission_book_replay_rollback_height(const uint8_t *book, size_t book_len,
+    uint8_t *answer, size_t answer_len);
+
+/* ==== hashes: functions without a book ==== */
+
+/* The SHA-256 (FIPS 180-4) of any bytes, to the front of `digest`, SUBMISSION_BOOK_DIGEST_BYTES (32): fingerprints, and
+ * digests of the caller's own. Refusals: 12 fewer than 32 bytes lent. */
+SUBMISSION_BOOK_NODISCARD
+uint8_t submission_book_sha256(const uint8_t *message, size_t message_len, uint8_t *digest, size_t digest_len);
+
+/* The coin id of a coin string, to the front of `id`, SUBMISSION_BOOK_COIN_ID_BYTES (32). The bytes are taken as they are,
+ * as the book does; submission_book_coin_from_parts (submission_book_answers.h) makes a coin string of its parts.
+ * Refusals, in this order: 3 over 73 bytes, which are no coin string; 12 fewer than 32 bytes lent. */
+SUBMISSION_BOOK_NODISCARD
+uint8_t submission_book_coin_id(const uint8_t *coin, size_t coin_len, uint8_t *id, size_t id_len);
 
 #ifdef __cplusplus
 }

@@ -9,13 +9,14 @@ use std::hint::black_box;
 const ROUNDS: usize = 15;
 
 extern "C" {
-    fn sha256_c_digest(message: *const u8, length: usize, digest: *mut [u8; 32]);
+    fn submission_book_sha256(message: *const u8, message_len: usize, digest: *mut u8, digest_len: usize) -> u8;
 }
 
 fn proved(message: &[u8]) -> [u8; 32] {
     let mut digest = [0u8; 32];
-    // The function reads `length` bytes and writes 32.
-    unsafe { sha256_c_digest(message.as_ptr(), message.len(), &mut digest) };
+    // SAFETY: the function reads so many bytes of the message and writes the digest's 32.
+    let said = unsafe { submission_book_sha256(message.as_ptr(), message.len(), digest.as_mut_ptr(), digest.len()) };
+    assert_eq!(said, 0);
     digest
 }
 

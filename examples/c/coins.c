@@ -1,15 +1,26 @@
 #include "coins.h"
-#include "sha256.h"
+#include <stdio.h>
+#include <stdlib.h>
 #include <string.h>
+
+/* No refusal: the buffer has room, and a coin at most 73 bytes. */
+static void taken(uint8_t said) {
+    if (said != SUBMISSION_BOOK_DONE) {
+        fprintf(stderr, "no hash: %s\n", submission_book_refusal_text(said));
+        exit(1);
+    }
+}
 
 submission_book_hash hash_of(const uint8_t *bytes, size_t length) {
     submission_book_hash hash;
-    sha256(bytes, length, hash.bytes);
+    taken(submission_book_sha256(bytes, length, hash.bytes, sizeof hash.bytes));
     return hash;
 }
 
 submission_book_hash coin_id_of(const submission_book_coin *coin) {
-    return hash_of(coin->bytes, coin->length);
+    submission_book_hash id;
+    taken(submission_book_coin_id(coin->bytes, coin->length, id.bytes, sizeof id.bytes));
+    return id;
 }
 
 bool same_hash(const submission_book_hash *a, const submission_book_hash *b) {

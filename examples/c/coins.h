@@ -1,4 +1,4 @@
-/* What the sample programs compute themselves: coin ids, the coins that a spend makes, numbers in bytes. */
+/* Hashes by the library as values, the coins that a spend makes, numbers in bytes. */
 #ifndef COINS_H
 #define COINS_H
 #include "submission_book_answers.h"

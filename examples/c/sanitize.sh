@@ -10,8 +10,8 @@ warnings=(-std=c11 -Wall -Wextra -Wconversion -Wsign-conversion -Werror -pedanti
 # shellcheck disable=SC2054
 flags=(-g -O1 -fsanitize=address,undefined -fno-sanitize-recover=all -fno-omit-frame-pointer)
 # Its own object of the library is not linked where the same functions are compiled here.
-shared=(lib/submission_book_answers.c examples/c/coins.c examples/c/sha256.c)
-tests=(tests/c_api/{calls,answers,buffers,sizes,sample}.c)
+shared=(lib/submission_book_answers.c examples/c/coins.c)
+tests=(tests/c_api/{calls,answers,buffers,sizes,looks,digests,sha256,sample}.c -pthread)
 export ASAN_OPTIONS=detect_stack_use_after_return=1:strict_string_checks=1:abort_on_error=0
 mkdir -p "$out"
 "${CC:-cc}" "${warnings[@]}" "${flags[@]}" examples/c/kitchen.c examples/c/account.c "${shared[@]}" "$library" -o "$out/kitchen"

@@ -451,6 +451,8 @@ static void test_calls(void) {
     test_archives();
     test_sizes();
     test_buffers();
+    test_looks();
+    test_digests();
 }
 
 /* With an argument no function of the book is called: readers and builders alone. */

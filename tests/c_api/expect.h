@@ -16,6 +16,10 @@ void test_forms(void);
 void test_answers(void);
 /* buffers.c: every function in lent bytes of every length */
 void test_buffers(void);
+/* digests.c: the functions without a book */
+void test_digests(void);
+/* looks.c: the functions whose book is const, on read-only memory and from two threads */
+void test_looks(void);
 /* sizes.c: every size and limit of the header */
 void test_sizes(void);
 

@@ -16,9 +16,11 @@ typedef struct {
     const char *name;
     uint8_t (*call)(Lent *lent);
     bool makes_a_book;   /* does not look at what `book` held */
+    bool only_looks;     /* its book is const */
     size_t answer_bytes; /* of its answer on the sample book; ANY where that is not told here */
 } SampleCall;
 
+/* all functions but the two without a book */
 enum { CALL_COUNT = 29, ANY = 1 << 20 };
 extern const SampleCall sample_calls[CALL_COUNT];
 

@@ -87,9 +87,23 @@ fn copies(case: &Case) -> usize {
     (BOOKS * port::BOOK_BYTES / (case.book.len() + 1000)).clamp(BOOKS, 256)
 }
 
-/// Calls that make a book, or do not write it back.
+/// Calls that make a book, or only look at it.
+const WITHOUT_OWN: [&str; 11] = [
+    "open",
+    "read",
+    "write",
+    "fee_intent_for_attempt",
+    "relinquish_completed_attempt",
+    "attempt",
+    "reconciliation_input_coins",
+    "causally_rolled_back_ids",
+    "absent_outputs_for_ids",
+    "active_ids",
+    "replay_rollback_height",
+];
+
 fn has_own(call: &str) -> bool {
-    !matches!(call, "open" | "read" | "write" | "reconciliation_input_coins" | "absent_outputs_for_ids")
+    !WITHOUT_OWN.contains(&call)
 }
 
 pub fn times(case: &Case) -> Times {

@@ -7,6 +7,7 @@ use crate::ffi;
 use crate::reader::{Read, Reader};
 use crate::refusal::Refusal;
 use crate::submission::*;
+use crate::version::{expect_version, wrong_library};
 use crate::wire;
 
 /// A submission book: the queue of deliveries, the retained submissions with their attempts, the
@@ -16,10 +17,8 @@ use crate::wire;
 /// books are equal exactly if their archives are, a clone is a book of its own, and a book can be
 /// sent to and looked at from other threads.
 ///
-/// Methods with `&self` leave the book. The library changes what it is lent even where it puts
-/// back the same bytes, so most of them lend it a copy of the archive, at most 57,702 bytes; only
-/// [`to_archive`](Self::to_archive), [`reconciliation_input_coins`] and [`absent_outputs_for_ids`]
-/// need none.
+/// Methods with `&self` leave the book: the library writes nothing to it, so that any number of
+/// threads may look at one book at once.
 ///
 /// A method that answers no [`Result`] cannot be refused.
 ///
@@ -31,46 +30,10 @@ use crate::wire;
 /// assert_eq!(archive, b"\x02\0\0\0\0\0\0\0\x05\0\0\0\0\0\0\0\x01\0\0\0\0\0");
 /// assert_eq!(SubmissionBook::from_archive(&archive), Ok(book));
 /// ```
-///
-/// [`reconciliation_input_coins`]: Self::reconciliation_input_coins
-/// [`absent_outputs_for_ids`]: Self::absent_outputs_for_ids
 #[derive(Clone)]
 pub struct SubmissionBook {
     /// The archive's length (8), the archive, and bytes without meaning.
     bytes: Box<[u8]>,
-}
-
-/// A part of this crate's version as a number.
-const fn part(text: &str) -> u32 {
-    let digits = text.as_bytes();
-    let (mut number, mut at) = (0, 0);
-    while at < digits.len() {
-        number = 10 * number + (digits[at] - b'0') as u32;
-        at += 1;
-    }
-    number
-}
-
-/// SUBMISSION_BOOK_VERSION of the library that this crate is for.
-const VERSION: u32 = part(env!("CARGO_PKG_VERSION_MAJOR")) << 16
-    | part(env!("CARGO_PKG_VERSION_MINOR")) << 8
-    | part(env!("CARGO_PKG_VERSION_PATCH"));
-
-/// Another version may have other sizes, numbers and forms.
-fn expect_version(library: u32) {
-    let (major, minor, patch) = (library >> 16, library >> 8 & 0xff, library & 0xff);
-    assert!(
-        library == VERSION,
-        "the linked library has version {major}.{minor}.{patch}, and this crate is for version {}: \
-         build it anew with `make lib`",
-        env!("CARGO_PKG_VERSION")
-    );
-}
-
-/// The library does not do as its header says, so it is another one than this crate is for.
-#[cold]
-fn wrong_library() -> ! {
-    panic!("the linked library is not of this crate's revision: build it anew with `make lib`")
 }
 
 /// `Ok` for 0, else the refusal of that number.
@@ -114,7 +77,7 @@ fn answered_coins(
 impl SubmissionBook {
     /// Every book begins here, so no other function of another version's library is called.
     fn blank() -> SubmissionBook {
-        expect_version(ffi::version());
+        expect_version();
         SubmissionBook { bytes: vec![0; ffi::BOOK_BYTES].into_boxed_slice() }
     }
 
@@ -351,10 +314,9 @@ impl SubmissionBook {
         &self,
         token: Token,
     ) -> Result<Option<SubmissionFeeIntent>, Refusal> {
-        let mut copy = self.held().to_vec();
         answered(
             ffi::FEE_INTENT_BYTES,
-            |answer| ffi::submission_book_fee_intent_for_attempt(&mut copy, token.0, answer),
+            |answer| ffi::submission_book_fee_intent_for_attempt(&self.bytes, token.0, answer),
             |answer| answer.optional_fee_intent(),
         )
     }
@@ -413,18 +375,23 @@ impl SubmissionBook {
     ///
     /// [`UnknownToken`](Refusal::UnknownToken).
     pub fn relinquish_completed_attempt(
-        &mut self,
+        &self,
         token: Token,
     ) -> Result<SubmissionAttemptStatus, Refusal> {
-        self.status(token, ffi::submission_book_relinquish_completed_attempt)
+        answered(
+            ffi::STATUS_BYTES,
+            |answer| {
+                ffi::submission_book_relinquish_completed_attempt(&self.bytes, token.0, answer)
+            },
+            |answer| answer.status(),
+        )
     }
 
     /// The live attempt with this token.
     pub fn attempt(&self, token: Token) -> Option<DeliveryAttempt> {
-        let mut copy = self.held().to_vec();
         never_refused(answered(
             ffi::ATTEMPT_BYTES,
-            |answer| ffi::submission_book_attempt(&mut copy, token.0, answer),
+            |answer| ffi::submission_book_attempt(&self.bytes, token.0, answer),
             |answer| answer.optional_attempt(),
         ))
     }
@@ -453,10 +420,9 @@ impl SubmissionBook {
 
     /// The submissions that the chain has not settled, in retained order.
     pub fn active_ids(&self) -> Vec<SubmissionId> {
-        let mut copy = self.held().to_vec();
         never_refused(answered(
             ffi::IDS_BYTES,
-            |answer| ffi::submission_book_active_ids(&mut copy, answer),
+            |answer| ffi::submission_book_active_ids(&self.bytes, answer),
             |answer| answer.ids(),
         ))
     }
@@ -502,10 +468,9 @@ impl SubmissionBook {
 
     /// The height of the replay epoch, if there is one.
     pub fn replay_rollback_height(&self) -> Option<Height> {
-        let mut copy = self.held().to_vec();
         never_refused(answered(
             ffi::HEIGHT_BYTES,
-            |answer| ffi::submission_book_replay_rollback_height(&mut copy, answer),
+            |answer| ffi::submission_book_replay_rollback_height(&self.bytes, answer),
             |answer| answer.height(),
         ))
     }
@@ -565,11 +530,10 @@ impl SubmissionBook {
     ) -> Result<Vec<SubmissionId>, Refusal> {
         let absent = wire::coin_list(explicitly_absent);
         let inputs = wire::coin_ids(explicitly_live_input_ids);
-        let mut copy = self.held().to_vec();
         answered(
             ffi::IDS_BYTES,
             |answer| {
-                ffi::submission_book_causally_rolled_back_ids(&mut copy, &absent, &inputs, answer)
+                ffi::submission_book_causally_rolled_back_ids(&self.bytes, &absent, &inputs, answer)
             },
             |answer| answer.ids(),
         )
@@ -639,20 +603,4 @@ impl fmt::Debug for SubmissionBook {
 
 fn number_of(bytes: &[u8]) -> u64 {
     bytes.iter().fold(0, |number, byte| number << 8 | u64::from(*byte))
-}
-
-#[cfg(test)]
-mod tests {
-    use super::*;
-
-    #[test]
-    fn the_linked_library_is_of_this_version() {
-        assert_eq!(ffi::version(), VERSION);
-    }
-
-    #[test]
-    #[should_panic(expected = "has version 1.2.3, and this crate is for version ")]
-    fn a_library_of_another_version_is_refused() {
-        expect_version(0x010203);
-    }
 }

@@ -2,6 +2,27 @@
 
 use std::fmt;
 
+use crate::ffi;
+use crate::refusal::Refusal;
+use crate::version::{expect_version, wrong_library};
+
+/// The SHA-256 (FIPS 180-4) of any bytes, by the library's proved code.
+///
+/// ```
+/// use submission_book::sha256;
+///
+/// let digest = sha256(b"abc").to_string();
+/// assert_eq!(digest, "ba7816bf8f01cfea414140de5dae2223b00361a396177a9cb410ff61f20015ad");
+/// ```
+pub fn sha256(message: &[u8]) -> Hash32 {
+    expect_version();
+    let mut digest = [0; ffi::DIGEST_BYTES];
+    match ffi::submission_book_sha256(message, &mut digest) {
+        0 => Hash32(digest),
+        _ => wrong_library(),
+    }
+}
+
 /// Writes the bytes in hexadecimal.
 fn hex(bytes: &[u8], f: &mut fmt::Formatter<'_>) -> fmt::Result {
     bytes.iter().try_for_each(|byte| write!(f, "{byte:02x}"))
@@ -83,6 +104,28 @@ impl CoinString {
     /// The bytes.
     pub fn to_bytes(&self) -> &[u8] {
         &self.0
+    }
+
+    /// The coin's id.
+    ///
+    /// # Errors
+    ///
+    /// [`BadValue`](Refusal::BadValue) for over 73 bytes, which no coin has.
+    ///
+    /// ```
+    /// use submission_book::{sha256, CoinID, CoinString, PuzzleHash, Refusal};
+    ///
+    /// let coin = CoinString::from_parts(&CoinID([1; 32]), &PuzzleHash([2; 32]), 128);
+    /// assert_eq!(coin.id(), Ok(CoinID(sha256(coin.to_bytes()).0)));
+    /// assert_eq!(CoinString::from_bytes(&[0; 74]).id(), Err(Refusal::BadValue));
+    /// ```
+    pub fn id(&self) -> Result<CoinID, Refusal> {
+        expect_version();
+        let mut id = [0; ffi::COIN_ID_BYTES];
+        match ffi::submission_book_coin_id(&self.0, &mut id) {
+            0 => Ok(CoinID(id)),
+            number => Err(Refusal::of(number, 0).unwrap_or_else(|| wrong_library())),
+        }
     }
 
     /// Parent, puzzle hash and amount; `None` where the bytes are too short, or the amount is over

@@ -32,6 +32,11 @@ pub const INPUT_COINS_BYTES: usize = 4_738;
 /// The longest list of absent outputs.
 pub const ABSENT_OUTPUTS_BYTES: usize = 18_946;
 
+/// A SHA-256.
+pub const DIGEST_BYTES: usize = 32;
+/// A coin id.
+pub const COIN_ID_BYTES: usize = 32;
+
 /// SUBMISSION_BOOK_VERSION of the library that is linked.
 pub fn version() -> u32 {
     extern "C" {
@@ -108,15 +113,15 @@ functions! {
     fn submission_book_drain(book: &mut [u8], answer: &mut [u8]);
 
     fn submission_book_finalize_attempt(book: &mut [u8], token: u64, source: u8, joined: &[u8], answer: &mut [u8]);
-    fn submission_book_fee_intent_for_attempt(book: &mut [u8], token: u64, answer: &mut [u8]);
+    fn submission_book_fee_intent_for_attempt(book: &[u8], token: u64, answer: &mut [u8]);
     fn submission_book_acknowledge_attempt(book: &mut [u8], token: u64, answer: &mut [u8]);
     fn submission_book_stop_attempt(book: &mut [u8], token: u64, answer: &mut [u8]);
     fn submission_book_abandon_attempt(book: &mut [u8], token: u64, answer: &mut [u8]);
-    fn submission_book_relinquish_completed_attempt(book: &mut [u8], token: u64, answer: &mut [u8]);
-    fn submission_book_attempt(book: &mut [u8], token: u64, answer: &mut [u8]);
+    fn submission_book_relinquish_completed_attempt(book: &[u8], token: u64, answer: &mut [u8]);
+    fn submission_book_attempt(book: &[u8], token: u64, answer: &mut [u8]);
 
     fn submission_book_retain_submitted(book: &mut [u8], removed: &[u64], answer: &mut [u8]);
-    fn submission_book_active_ids(book: &mut [u8], answer: &mut [u8]);
+    fn submission_book_active_ids(book: &[u8], answer: &mut [u8]);
     fn submission_book_drain_retirements(book: &mut [u8], answer: &mut [u8]);
     fn submission_book_emit_retirement(book: &mut [u8], id: u64);
     fn submission_book_clear_local_artifacts(book: &mut [u8]);
@@ -124,11 +129,14 @@ functions! {
 
     fn submission_book_begin_replay(book: &mut [u8], height: u64, answer: &mut [u8]);
     fn submission_book_finish_replay_if_advanced(book: &mut [u8], height: u64);
-    fn submission_book_replay_rollback_height(book: &mut [u8], answer: &mut [u8]);
+    fn submission_book_replay_rollback_height(book: &[u8], answer: &mut [u8]);
     fn submission_book_collect_rollback_replay_ids(book: &mut [u8], ids: &[u64]);
 
     fn submission_book_reconcile_chain_terminality(book: &mut [u8], observed: &[u8], spent: &[u8], reorg: u8, rolled_back: &[u64]);
-    fn submission_book_causally_rolled_back_ids(book: &mut [u8], absent: &[u8], inputs: &[u8], answer: &mut [u8]);
+    fn submission_book_causally_rolled_back_ids(book: &[u8], absent: &[u8], inputs: &[u8], answer: &mut [u8]);
     fn submission_book_reconciliation_input_coins(book: &[u8], outputs: &[u8], answer: &mut [u8], count: &mut u64);
     fn submission_book_absent_outputs_for_ids(book: &[u8], ids: &[u64], absent: &[u8], answer: &mut [u8], count: &mut u64);
+
+    fn submission_book_sha256(message: &[u8], digest: &mut [u8]);
+    fn submission_book_coin_id(coin: &[u8], id: &mut [u8]);
 }

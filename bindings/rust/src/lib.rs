@@ -54,8 +54,8 @@
 //!
 //! # Coin ids
 //!
-//! Coin ids come from the chain. A coin's id is the SHA-256 of its [`CoinString`]; this crate does
-//! not compute it.
+//! A coin's id is the SHA-256 of its [`CoinString`] ([`CoinString::id`]), computed by the library as
+//! [`sha256`] is.
 //!
 //! # Stack
 //!
@@ -66,9 +66,9 @@
 //!
 //! # Panics
 //!
-//! No value makes a method panic. [`SubmissionBook::open`] and [`SubmissionBook::from_archive`] panic
-//! if the linked library is of another version than this crate, and any method if the library
-//! answers otherwise than its header says.
+//! No value makes a method panic. [`SubmissionBook::open`], [`SubmissionBook::from_archive`],
+//! [`CoinString::id`] and [`sha256`] panic if the linked library is of another version than this
+//! crate, and any method if the library answers otherwise than its header says.
 
 #![deny(unsafe_code, unsafe_op_in_unsafe_fn, missing_docs)]
 
@@ -80,12 +80,13 @@ mod ffi;
 mod reader;
 mod refusal;
 mod submission;
+mod version;
 mod wire;
 
 pub use archive::{
     Archive, FeeResolution, SubmissionBroadcastVariant, SubmissionChainTerminality, SubmittedTx,
 };
 pub use book::SubmissionBook;
-pub use coin::{CoinID, CoinString, Hash32, PuzzleHash};
+pub use coin::{sha256, CoinID, CoinString, Hash32, PuzzleHash};
 pub use refusal::Refusal;
 pub use submission::*;

@@ -15,10 +15,73 @@ fn hex(bytes: &[u8]) -> String {
 #[test]
 fn sha256_of_the_published_vectors() {
     let digest = "ba7816bf8f01cfea414140de5dae2223b00361a396177a9cb410ff61f20015ad";
-    assert_eq!(hex(&sha256(b"abc")), digest);
+    assert_eq!(sha256(b"abc").to_string(), digest);
+    assert_eq!(hex(&plain_sha256(b"abc")), digest);
     let digest = "248d6a61d20638b8e5c026930c3e6039a33ce45964ff2167f6ecedd419db06c1";
     let message = b"abcdbcdecdefdefgefghfghighijhijkijkljklmklmnlmnomnopnopq";
-    assert_eq!(hex(&sha256(message)), digest);
+    assert_eq!(sha256(message).to_string(), digest);
+    assert_eq!(hex(&plain_sha256(message)), digest);
+    for length in 0..300 {
+        let message = vec![7; length];
+        assert_eq!(sha256(&message).0, plain_sha256(&message), "{length} bytes");
+    }
+}
+
+fn from_hex(text: &str) -> Vec<u8> {
+    let digits = (0..text.len()).step_by(2);
+    digits.map(|at| u8::from_str_radix(&text[at..at + 2], 16).unwrap()).collect()
+}
+
+/// A line each: the amount's bytes, the coin string, its id.
+#[test]
+fn coin_ids_are_the_recorded_ones() {
+    let lines: Vec<&str> = include_str!("../../../crates/tool_coin_vectors/stdout").lines().collect();
+    assert_eq!(lines.len(), 35);
+    for line in lines {
+        let words: Vec<&str> = line.split(' ').collect();
+        let coin = CoinString::from_bytes(&from_hex(words[1]));
+        assert_eq!(coin.id().unwrap().to_string(), words[2]);
+        let (parent, puzzle_hash, amount) = coin.to_parts().unwrap();
+        assert_eq!(CoinString::from_parts(&parent, &puzzle_hash, amount), coin);
+    }
+}
+
+#[test]
+fn a_coin_of_over_73_bytes_has_no_id() {
+    for length in 0..100 {
+        let coin = CoinString::from_bytes(&vec![9; length]);
+        let wanted = if length <= 73 { Ok(coin_id(&coin)) } else { Err(Refusal::BadValue) };
+        assert_eq!(coin.id(), wanted, "{length} bytes");
+    }
+}
+
+/// The answers of every method with `&self`.
+fn looks(book: &SubmissionBook) -> String {
+    let coins = book.reconciliation_input_coins(&[made(10)]);
+    let tokens = (0..9).map(Token);
+    let attempts: Vec<_> = tokens
+        .map(|t| (book.attempt(t), book.fee_intent_for_attempt(t), book.relinquish_completed_attempt(t)))
+        .collect();
+    let rolled_back = book.causally_rolled_back_ids(&[made(10)], &[coin_id(&coin(10))]);
+    let absent = book.absent_outputs_for_ids(&book.active_ids(), &[made(10)]);
+    let height = book.replay_rollback_height();
+    format!("{coins:?} {attempts:?} {rolled_back:?} {absent:?} {height:?} {:?}", book.to_archive())
+}
+
+#[test]
+fn threads_look_at_one_book_at_once() {
+    let mut book = drained_book(attach(7));
+    book.begin_replay(Height(8));
+    let wanted = looks(&book);
+    std::thread::scope(|scope| {
+        for _ in 0..2 {
+            scope.spawn(|| {
+                for _ in 0..50 {
+                    assert_eq!(looks(&book), wanted);
+                }
+            });
+        }
+    });
 }
 
 #[test]
@@ -77,7 +140,7 @@ fn the_worked_example_of_the_archive() {
     let archive = worked_example();
     assert_eq!(archive.len(), 385);
     let digest = "0121cf1cca836e61062f887a4ddc2c41ffa43287af94c7c6a0600eb94a755211";
-    assert_eq!(hex(&sha256(&archive)), digest);
+    assert_eq!(sha256(&archive).to_string(), digest);
     let mut book = SubmissionBook::from_archive(&archive).unwrap();
     assert_eq!(book.to_archive(), archive);
     assert_eq!(book.active_ids(), ids([1]));

@@ -9,7 +9,7 @@ mod common;
 use std::fs;
 use std::path::PathBuf;
 
-use common::{archive_of, sha256};
+use common::{archive_of, plain_sha256};
 use submission_book::*;
 
 /// An answer in bytes, or a refusal in bytes: its number, and the place of a 13.
@@ -497,7 +497,7 @@ impl Player {
                 self.out.extend(bytes);
             }
         }
-        self.out.extend(sha256(&archive_of(&self.book).to_bytes()));
+        self.out.extend(plain_sha256(&archive_of(&self.book).to_bytes()));
         Some(())
     }
 }

@@ -109,7 +109,7 @@ fn a_reorg_with_replay() {
 
 /// The fingerprint of a deposit without expiry and fee, from the archive form of its parts.
 fn intent_fingerprint(bundle_form: &[u8]) -> Hash32 {
-    Hash32(sha256(&[bundle_form, &[0, 1]].concat()))
+    sha256(&[bundle_form, &[0, 1]].concat())
 }
 
 #[test]

@@ -1,5 +1,5 @@
 -- The functions of the library, with their arguments as C hands them over, and their contracts: 27 calls on a lent book (`Did`), opening
--- (`OpenDid`) and reading an archive (`ReadDid`).
+-- (`OpenDid`), reading an archive (`ReadDid`), and two without a book (`Sha256Did`, `CoinIdDid`).
 use Prim.Native.Nat.{ℕ}
 use mathlib.Core.Bool.{_&&_}
 use mathlib.Core.List.{List, []}
@@ -33,6 +33,7 @@ use Rattle.rules.specs.Calls.RetainSubmitted.{retainSubmitted}
 use Rattle.rules.specs.Calls.StopAttempt.{stopAttempt}
 use Rattle.rules.specs.Doors.{idsOk}
 use Rattle.rules.specs.Opened.{opened}
+use Rattle.c_answer.specs.Answer.{GivesAnswer, digestIn, coinIdIn}
 use Rattle.c_boundary.specs.Held.{heldIn}
 use Rattle.c_boundary.specs.Settle.{written, boundary, Gives, GivesBook}
 use Rattle.c_boundary.specs.Forms.{noForm, statusForm, flagForm, heightForm, idsForm, attemptForm, feeIntentForm, finalForm, drainForm, bytesForm}
@@ -87,7 +88,15 @@ OpenDid d token id n d′ = GivesBook (written 0 (opened token id) [] d []) n d�
 abbrev pub ReadDid : (d archive : List ℕ) (p : ℕ) → ℕ → List ℕ → ℕ → Type 0
 ReadDid d archive p n d′ p′ = GivesPlace (readInto (readArchive archive) d p) n d′ p′
 
--- a call on the lent book d, and what it returned and left: the contract of each function. Refused 1 where d holds no book, then 2, then 3
+-- hashing: the digest of a message, and the id of a coin string, at the front of the lent bytes
+abbrev pub Sha256Did : (message digest : List ℕ) → ℕ → List ℕ → Type 0
+Sha256Did message digest n digest′ = GivesAnswer (digestIn message digest) n digest′
+
+abbrev pub CoinIdDid : (coin id : List ℕ) → ℕ → List ℕ → Type 0
+CoinIdDid coin id n id′ = GivesAnswer (coinIdIn coin id) n id′
+
+-- a call on the lent book d, and what it returned and left: the contract of each function. Refused 1 where d holds no book, then 2, then 3. Calls that only
+-- look are lent the book as constant bytes, and the bytes that they leave are d
 pub data Did (d : List ℕ) : CCall → Returned → Type 0 where
   queue-did : (delivery : List ℕ) {n : ℕ} {d′ : List ℕ} → GivesBook (boundary noForm (given (bytesAs parseDelivery delivery) queue) d []) n d′
       → Did d (Queue delivery) (back n d′)
@@ -99,27 +108,27 @@ pub data Did (d : List ℕ) : CCall → Returned → Type 0 where
       → Did d (QueueRebroadcastEpoch ids trigger) (back n d′)
   fee-readiness-did : {n : ℕ} {d′ : List ℕ} → GivesBook (boundary noForm queueFeeReadiness d []) n d′ → Did d QueueFeeReadiness (back n d′)
   drain-did : {a : List ℕ} {n : ℕ} {d′ a′ : List ℕ} → Gives (boundary drainForm drain d a) n d′ a′ → Did d (Drain a) (answered n d′ a′)
-  fee-intent-did : {a : List ℕ} (token : ℕ) {n : ℕ} {d′ a′ : List ℕ} → Gives (boundary feeIntentForm (feeIntentForAttempt token) d a) n d′ a′
-      → Did d (FeeIntentForAttempt token a) (answered n d′ a′)
+  fee-intent-did : {a : List ℕ} (token : ℕ) {n : ℕ} {a′ : List ℕ} → Gives (boundary feeIntentForm (feeIntentForAttempt token) d a) n d a′
+      → Did d (FeeIntentForAttempt token a) (answered n d a′)
   acknowledge-did : {a : List ℕ} (token : ℕ) {n : ℕ} {d′ a′ : List ℕ} → Gives (boundary statusForm (acknowledgeAttempt token) d a) n d′ a′
       → Did d (AcknowledgeAttempt token a) (answered n d′ a′)
   stop-did : {a : List ℕ} (token : ℕ) {n : ℕ} {d′ a′ : List ℕ} → Gives (boundary statusForm (stopAttempt token) d a) n d′ a′
       → Did d (StopAttempt token a) (answered n d′ a′)
   abandon-did : {a : List ℕ} (token : ℕ) {n : ℕ} {d′ a′ : List ℕ} → Gives (boundary statusForm (abandonAttempt token) d a) n d′ a′
       → Did d (AbandonAttempt token a) (answered n d′ a′)
-  relinquish-did : {a : List ℕ} (token : ℕ) {n : ℕ} {d′ a′ : List ℕ} → Gives (boundary statusForm (relinquishCompletedAttempt token) d a) n d′ a′
-      → Did d (RelinquishCompletedAttempt token a) (answered n d′ a′)
-  attempt-did : {a : List ℕ} (token : ℕ) {n : ℕ} {d′ a′ : List ℕ} → Gives (boundary attemptForm (attempt token) d a) n d′ a′
-      → Did d (Attempt token a) (answered n d′ a′)
+  relinquish-did : {a : List ℕ} (token : ℕ) {n : ℕ} {a′ : List ℕ} → Gives (boundary statusForm (relinquishCompletedAttempt token) d a) n d a′
+      → Did d (RelinquishCompletedAttempt token a) (answered n d a′)
+  attempt-did : {a : List ℕ} (token : ℕ) {n : ℕ} {a′ : List ℕ} → Gives (boundary attemptForm (attempt token) d a) n d a′
+      → Did d (Attempt token a) (answered n d a′)
   finalize-did : {a : List ℕ} (token source : ℕ) (joined : List ℕ) {n : ℕ} {d′ a′ : List ℕ}
       → Gives (boundary finalForm (given (sourceIn source) (λ s. given (joinedIn source joined) (λ j. finalizeAttempt token s j))) d a) n d′ a′
       → Did d (FinalizeAttempt token source joined a) (answered n d′ a′)
   retain-did : {a : List ℕ} (removed : List ℕ) {n : ℕ} {d′ a′ : List ℕ} → Gives (boundary idsForm (retainSubmitted removed) d a) n d′ a′
       → Did d (RetainSubmitted removed a) (answered n d′ a′)
-  active-ids-did : {a : List ℕ} {n : ℕ} {d′ a′ : List ℕ} → Gives (boundary idsForm activeIds d a) n d′ a′ → Did d (ActiveIds a) (answered n d′ a′)
+  active-ids-did : {a : List ℕ} {n : ℕ} {a′ : List ℕ} → Gives (boundary idsForm activeIds d a) n d a′ → Did d (ActiveIds a) (answered n d a′)
   retirements-did : {a : List ℕ} {n : ℕ} {d′ a′ : List ℕ} → Gives (boundary idsForm drainRetirements d a) n d′ a′ → Did d (DrainRetirements a) (answered n d′ a′)
-  height-did : {a : List ℕ} {n : ℕ} {d′ a′ : List ℕ} → Gives (boundary heightForm replayRollbackHeight d a) n d′ a′
-      → Did d (ReplayRollbackHeight a) (answered n d′ a′)
+  height-did : {a : List ℕ} {n : ℕ} {a′ : List ℕ} → Gives (boundary heightForm replayRollbackHeight d a) n d a′
+      → Did d (ReplayRollbackHeight a) (answered n d a′)
   emit-did : (id : ℕ) {n : ℕ} {d′ : List ℕ} → GivesBook (boundary noForm (emitRetirement id) d []) n d′ → Did d (EmitRetirement id) (back n d′)
   finish-did : (height : ℕ) {n : ℕ} {d′ : List ℕ} → GivesBook (boundary noForm (finishReplayIfAdvanced (record { 0 = height })) d []) n d′
       → Did d (FinishReplayIfAdvanced height) (back n d′)
@@ -129,8 +138,8 @@ pub data Did (d : List ℕ) : CCall → Returned → Type 0 where
       → GivesBook (boundary noForm
       (listed (coinListb observed && idListb spent && idsOk rolled-back) (given (flagIn reorg) (λ f. reconcileChainTerminality observed spent f rolled-back))) d []) n d′
       → Did d (ReconcileChainTerminality observed spent reorg rolled-back) (back n d′)
-  rolled-back-did : {a : List ℕ} (absent inputs : List ℕ) {n : ℕ} {d′ a′ : List ℕ} → Gives (boundary idsForm (causallyRolledBackIds absent inputs) d a) n d′ a′
-      → Did d (CausallyRolledBackIds absent inputs a) (answered n d′ a′)
+  rolled-back-did : {a : List ℕ} (absent inputs : List ℕ) {n : ℕ} {a′ : List ℕ} → Gives (boundary idsForm (causallyRolledBackIds absent inputs) d a) n d a′
+      → Did d (CausallyRolledBackIds absent inputs a) (answered n d a′)
   input-coins-did : (outputs a : List ℕ) (count : ℕ) {n : ℕ} {a′ : List ℕ} {k : ℕ}
       → GivesBytes (boundary bytesForm (reconciliationInputCoins outputs (length a)) d a) (lengthOf count (reconciliationInputCoins outputs (length a)) (heldIn d)) n d a′ k
       → Did d (ReconciliationInputCoins outputs a count) (counted n d a′ k)

@@ -4,11 +4,12 @@ use archive_bundle_read::bundle::read_bundle;
 use book::SpendBundle;
 use book::Token;
 use book_answers::SubmissionFeeSource;
-use c_attempts::settle_attempt;
-use c_attempts::settle_fee_intent;
 use c_attempts::settle_final;
+use c_attempts::tell_attempt;
+use c_attempts::tell_fee_intent;
 use c_read::held;
 use c_replies::settle_status;
+use c_replies::tell_status;
 use call_abandon_attempt::abandon_attempt_sound;
 use call_acknowledge_attempt::acknowledge_attempt_sound;
 use call_attempt::attempt_sound;
@@ -70,49 +71,53 @@ pub extern "C" fn submission_book_abandon_attempt(
 
 #[no_mangle]
 pub extern "C" fn submission_book_relinquish_completed_attempt(
-    book: &mut [u8],
+    book: &[u8],
     token: u64,
     answer: &mut [u8],
 ) -> u8
-    ensures { λ r. ⌜ Did (now (book .entry)) (CCall.RelinquishCompletedAttempt token (now (answer .entry))) (answered r (now (book .exit)) (now (answer .exit))) ⌝ }
+    ensures { λ r. ⌜ Did (now (book .entry)) (CCall.RelinquishCompletedAttempt token (now (answer .entry))) (answered r (now (book .entry)) (now (answer .exit))) ⌝ }
 {
-    let h = held(&*book);
+    let h = held(book);
     let ok = h.ok;
     if !ok {
         return 1;
     }
     let r = relinquish_completed_attempt_sound(h.book, Token(token));
-    settle_status(r, book, answer)
+    let said = r.answer;
+    let status = r.status;
+    tell_status(said, status, answer)
 }
 
 #[no_mangle]
 pub extern "C" fn submission_book_fee_intent_for_attempt(
-    book: &mut [u8],
+    book: &[u8],
     token: u64,
     answer: &mut [u8],
 ) -> u8
-    ensures { λ r. ⌜ Did (now (book .entry)) (CCall.FeeIntentForAttempt token (now (answer .entry))) (answered r (now (book .exit)) (now (answer .exit))) ⌝ }
+    ensures { λ r. ⌜ Did (now (book .entry)) (CCall.FeeIntentForAttempt token (now (answer .entry))) (answered r (now (book .entry)) (now (answer .exit))) ⌝ }
 {
-    let h = held(&*book);
+    let h = held(book);
     let ok = h.ok;
     if !ok {
         return 1;
     }
     let r = fee_intent_for_attempt_sound(h.book, Token(token));
-    settle_fee_intent(r, book, answer)
+    let said = r.answer;
+    tell_fee_intent(said, r.present, r.fee_intent, answer)
 }
 
 #[no_mangle]
-pub extern "C" fn submission_book_attempt(book: &mut [u8], token: u64, answer: &mut [u8]) -> u8
-    ensures { λ r. ⌜ Did (now (book .entry)) (CCall.Attempt token (now (answer .entry))) (answered r (now (book .exit)) (now (answer .exit))) ⌝ }
+pub extern "C" fn submission_book_attempt(book: &[u8], token: u64, answer: &mut [u8]) -> u8
+    ensures { λ r. ⌜ Did (now (book .entry)) (CCall.Attempt token (now (answer .entry))) (answered r (now (book .entry)) (now (answer .exit))) ⌝ }
 {
-    let h = held(&*book);
+    let h = held(book);
     let ok = h.ok;
     if !ok {
         return 1;
     }
     let r = attempt_sound(h.book, Token(token));
-    settle_attempt(r, book, answer)
+    let said = r.answer;
+    tell_attempt(said, r.attempt, answer)
 }
 
 // 0 not requested, 1 joined, 2 a join that failed, 3 failed.

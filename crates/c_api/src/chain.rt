@@ -2,7 +2,7 @@
 use base_coin_string::is_coin_list;
 use base_coin_string::is_id_list;
 use c_read::held;
-use c_replies::settle_ids;
+use c_replies::tell_ids;
 use c_write::settle_done;
 use call_causally_rolled_back_ids::causally_rolled_back_ids_sound;
 use call_reconcile_chain_terminality::reconcile_chain_terminality_sound;
@@ -10,20 +10,21 @@ ghost use Rattle.c_api.specs.Functions.{CCall, Did, answered, back};
 
 #[no_mangle]
 pub extern "C" fn submission_book_causally_rolled_back_ids(
-    book: &mut [u8],
+    book: &[u8],
     absent: &[u8],
     inputs: &[u8],
     answer: &mut [u8],
 ) -> u8
-    ensures { λ r. ⌜ Did (now (book .entry)) (CCall.CausallyRolledBackIds (now (absent .entry)) (now (inputs .entry)) (now (answer .entry))) (answered r (now (book .exit)) (now (answer .exit))) ⌝ }
+    ensures { λ r. ⌜ Did (now (book .entry)) (CCall.CausallyRolledBackIds (now (absent .entry)) (now (inputs .entry)) (now (answer .entry))) (answered r (now (book .entry)) (now (answer .exit))) ⌝ }
 {
-    let h = held(&*book);
+    let h = held(book);
     let ok = h.ok;
     if !ok {
         return 1;
     }
     let r = causally_rolled_back_ids_sound(h.book, absent, inputs);
-    settle_ids(r, book, answer)
+    let said = r.answer;
+    tell_ids(said, r.ids, answer)
 }
 
 #[no_mangle]

@@ -3,8 +3,8 @@ use book::Height;
 use book::SubmissionId;
 use c_read::held;
 use c_replies::settle_flag;
-use c_replies::settle_height;
 use c_replies::settle_ids;
+use c_replies::tell_height;
 use c_write::settle_done;
 use call_begin_replay::begin_replay_sound;
 use call_drain_retirements::drain_retirements_sound;
@@ -44,16 +44,18 @@ pub extern "C" fn submission_book_finish_replay_if_advanced(book: &mut [u8], hei
 }
 
 #[no_mangle]
-pub extern "C" fn submission_book_replay_rollback_height(book: &mut [u8], answer: &mut [u8]) -> u8
-    ensures { λ r. ⌜ Did (now (book .entry)) (CCall.ReplayRollbackHeight (now (answer .entry))) (answered r (now (book .exit)) (now (answer .exit))) ⌝ }
+pub extern "C" fn submission_book_replay_rollback_height(book: &[u8], answer: &mut [u8]) -> u8
+    ensures { λ r. ⌜ Did (now (book .entry)) (CCall.ReplayRollbackHeight (now (answer .entry))) (answered r (now (book .entry)) (now (answer .exit))) ⌝ }
 {
-    let h = held(&*book);
+    let h = held(book);
     let ok = h.ok;
     if !ok {
         return 1;
     }
     let r = replay_rollback_height_sound(h.book);
-    settle_height(r, book, answer)
+    let said = r.answer;
+    let height = r.height;
+    tell_height(said, height, answer)
 }
 
 #[no_mangle]

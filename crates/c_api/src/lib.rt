@@ -3,6 +3,7 @@
 mod attempts;
 mod chain;
 mod coins;
+mod digest;
 mod drain_call;
 mod epoch;
 mod queue;

@@ -1,6 +1,7 @@
 // Calls on all retained submissions.
 use c_read::held;
 use c_replies::settle_ids;
+use c_replies::tell_ids;
 use c_write::settle_done;
 use call_active_ids::active_ids_sound;
 use call_clear_local_artifacts::clear_local_artifacts_sound;
@@ -9,16 +10,17 @@ use call_retain_submitted::retain_submitted_sound;
 ghost use Rattle.c_api.specs.Functions.{CCall, Did, answered, back};
 
 #[no_mangle]
-pub extern "C" fn submission_book_active_ids(book: &mut [u8], answer: &mut [u8]) -> u8
-    ensures { λ r. ⌜ Did (now (book .entry)) (CCall.ActiveIds (now (answer .entry))) (answered r (now (book .exit)) (now (answer .exit))) ⌝ }
+pub extern "C" fn submission_book_active_ids(book: &[u8], answer: &mut [u8]) -> u8
+    ensures { λ r. ⌜ Did (now (book .entry)) (CCall.ActiveIds (now (answer .entry))) (answered r (now (book .entry)) (now (answer .exit))) ⌝ }
 {
-    let h = held(&*book);
+    let h = held(book);
     let ok = h.ok;
     if !ok {
         return 1;
     }
     let r = active_ids_sound(h.book);
-    settle_ids(r, book, answer)
+    let said = r.answer;
+    tell_ids(said, r.ids, answer)
 }
 
 #[no_mangle]

@@ -33,6 +33,7 @@ use Rattle.rules.specs.Steps.{runBook}
 use Rattle.part_replies.specs.Reply.{valueOf, doneReply, statusReply, idsReply, flagReply, heightReply, attemptReply, feeIntentReply, finalizeReply, isSome, orElse, attemptIn}
 use Rattle.book_answers.specs.declared.SubmissionAttemptStatus.the-variants.{Stale}
 use Rattle.book_answers.specs.declared.FinalizedSubmission.{FinalizedSubmission}
+use Rattle.part_replies.specs.declared.CallAnswer.{CallAnswer}
 use Rattle.part_replies.specs.declared.DoneReply.{DoneReply}
 use Rattle.part_replies.specs.declared.StatusReply.{StatusReply}
 use Rattle.part_replies.specs.declared.IdsReply.{IdsReply}
@@ -42,6 +43,7 @@ use Rattle.part_replies.specs.declared.AttemptReply.{AttemptReply}
 use Rattle.part_replies.specs.declared.FeeIntentReply.{FeeIntentReply}
 use Rattle.part_replies.specs.declared.FinalizeReply.{FinalizeReply}
 use Rattle.c_boundary.specs.Held.{heldIn, Holding}
+use Rattle.c_answer.specs.Answer.{GivesAnswer, answer-as}
 use Rattle.c_boundary.specs.Settle.{Left, Form, refusal, boundary, Gives, GivesBook, gives-as, gives-book-as, finish, Tells, boundary-reply, boundary-absent}
 use Rattle.rules.specs.Call.{Value, noValue, failures, finalized, feeIntentIs, statusIs, idsAre, flag, heightIs, attemptIs, written}
 use Rattle.rules.specs.Calls.{nothing}
@@ -51,6 +53,7 @@ use Rattle.book.specs.declared.SubmissionFeeIntent.{SubmissionFeeIntent}
 use Rattle.book_answers.specs.declared.SubmissionAttemptStatus.{SubmissionAttemptStatus}
 use Rattle.book_answers.specs.declared.SubmissionDrainFailure.{SubmissionDrainFailure}
 use Rattle.base_lists.specs.Laws.{take-cells}
+use Rattle.c_boundary.specs.Looks.{Looks, toldBy, boundary-looked}
 
 -- ---- forms
 abbrev pub noForm : {A : Type 0} → Form A
@@ -153,6 +156,11 @@ pub gives-book-absent : {A : Type 0} (form : Form A) (r : Rule A) (d : List ℕ)
 gives-book-absent form r d e = gives-book-as (sym (boundary-absent form r d [] e)) (record { number = refl; book = refl })
 
 -- ---- a call's reply, told in its form
+tells-status : (o : Outcome Book SubmissionAttemptStatus) → Tells statusForm o (be 1 (statusNumber (valueOf Stale o)))
+tells-status (ended m xs v) = refl
+tells-status (undone k) = tt
+tells-status (stopped m xs k) = tt
+
 module _ (d a : List ℕ) (b : BookData) (h : Holding d b) where
   pub flag-given : (rule : Rule Bool) {n : ℕ} {d′ a′ : List ℕ} (r : FlagReply) → r ≡ flagReply b (runBook rule (view b))
       → Gives (finish (r .answer) (r .book) (be 1 (flagNumber (r .flag))) d a) n d′ a′ → Gives (boundary flagForm rule d a) n d′ a′
@@ -167,12 +175,7 @@ module _ (d a : List ℕ) (b : BookData) (h : Holding d b) where
   pub status-given : (rule : Rule SubmissionAttemptStatus) {n : ℕ} {d′ a′ : List ℕ} (r : StatusReply) → r ≡ statusReply b (runBook rule (view b))
       → Gives (finish (r .answer) (r .book) (be 1 (statusNumber (r .status))) d a) n d′ a′ → Gives (boundary statusForm rule d a) n d′ a′
   status-given rule r e g =
-      gives-as (ap (λ (x : StatusReply). finish (x .answer) (x .book) (be 1 (statusNumber (x .status))) d a) e ∙ boundary-reply statusForm d a b h rule _ (go (runBook rule (view b)))) g
-    where
-      go : (o : Outcome Book SubmissionAttemptStatus) → Tells statusForm o (be 1 (statusNumber (valueOf Stale o)))
-      go (ended m xs v) = refl
-      go (undone k) = tt
-      go (stopped m xs k) = tt
+      gives-as (ap (λ (x : StatusReply). finish (x .answer) (x .book) (be 1 (statusNumber (x .status))) d a) e ∙ boundary-reply statusForm d a b h rule _ (tells-status (runBook rule (view b)))) g
 
 tells-ids : (o : Outcome Book (List ℕ)) → Tells idsForm o (encodeIds (ids64 (valueOf [] o)))
 unfolding idsForm
@@ -215,25 +218,37 @@ module _ (d a : List ℕ) (b : BookData) (h : Holding d b) where
   ids-given rule r e g =
       gives-as (ap (λ (x : IdsReply). finish (x .answer) (x .book) (encodeIds (x .ids)) d a) e ∙ boundary-reply idsForm d a b h rule _ (tells-ids (runBook rule (view b)))) g
 
-  pub height-given : (rule : Rule OptionalHeight) {n : ℕ} {d′ a′ : List ℕ} (r : HeightReply) → r ≡ heightReply b (runBook rule (view b))
-      → Gives (finish (r .answer) (r .book) (encodeHeight (r .height)) d a) n d′ a′ → Gives (boundary heightForm rule d a) n d′ a′
-  height-given rule r e g =
-      gives-as (ap (λ (x : HeightReply). finish (x .answer) (x .book) (encodeHeight (x .height)) d a) e ∙ boundary-reply heightForm d a b h rule _ (tells-height (runBook rule (view b)))) g
-
-  pub attempt-given : (rule : Rule (Option DeliveryAttempt)) {n : ℕ} {d′ a′ : List ℕ} (r : AttemptReply) → r ≡ attemptReply b (runBook rule (view b))
-      → Gives (finish (r .answer) (r .book) (encodeSlot (r .attempt)) d a) n d′ a′ → Gives (boundary attemptForm rule d a) n d′ a′
-  attempt-given rule r e g =
-      gives-as (ap (λ (x : AttemptReply). finish (x .answer) (x .book) (encodeSlot (x .attempt)) d a) e ∙ boundary-reply attemptForm d a b h rule _ (tells-attempt (runBook rule (view b)))) g
-
-  pub fee-intent-given : (rule : Rule (Option SubmissionFeeIntent)) {n : ℕ} {d′ a′ : List ℕ} (r : FeeIntentReply) → r ≡ feeIntentReply b (runBook rule (view b))
-      → Gives (finish (r .answer) (r .book) (encOpt (r .present) (encodeFeeIntent (r .«fee_intent»))) d a) n d′ a′ → Gives (boundary feeIntentForm rule d a) n d′ a′
-  fee-intent-given rule r e g =
-      gives-as (ap (λ (x : FeeIntentReply). finish (x .answer) (x .book) (encOpt (x .present) (encodeFeeIntent (x .«fee_intent»))) d a) e ∙ boundary-reply feeIntentForm d a b h rule _ (tells-fee-intent (runBook rule (view b)))) g
-
   pub final-given : (rule : Rule (Option FinalizedSubmission)) {n : ℕ} {d′ a′ : List ℕ} (r : FinalizeReply) → r ≡ finalizeReply b (runBook rule (view b))
       → Gives (finish (r .answer) (r .book) (encOpt (r .present) (encodeFinal (r .finalized))) d a) n d′ a′ → Gives (boundary finalForm rule d a) n d′ a′
   final-given rule r e g =
       gives-as (ap (λ (x : FinalizeReply). finish (x .answer) (x .book) (encOpt (x .present) (encodeFinal (x .finalized))) d a) e ∙ boundary-reply finalForm d a b h rule _ (tells-final (runBook rule (view b)))) g
+
+-- the same of a call that only looks, told without its book
+module _ (d a : List ℕ) (b : BookData) (h : Holding d b) where
+  pub status-looked : (rule : Rule SubmissionAttemptStatus) → Looks rule → {n : ℕ} {a′ : List ℕ} (r : StatusReply) → r ≡ statusReply b (runBook rule (view b))
+      → GivesAnswer (toldBy (r .answer) (be 1 (statusNumber (r .status))) a) n a′ → Gives (boundary statusForm rule d a) n d a′
+  status-looked rule q r e g =
+      boundary-looked statusForm d a b h rule q _ (tells-status (runBook rule (view b))) (answer-as (ap (λ (x : StatusReply). toldBy (x .answer) (be 1 (statusNumber (x .status))) a) e) g)
+
+  pub ids-looked : (rule : Rule (List ℕ)) → Looks rule → {n : ℕ} {a′ : List ℕ} (r : IdsReply) → r ≡ idsReply b (runBook rule (view b))
+      → GivesAnswer (toldBy (r .answer) (encodeIds (r .ids)) a) n a′ → Gives (boundary idsForm rule d a) n d a′
+  ids-looked rule q r e g =
+      boundary-looked idsForm d a b h rule q _ (tells-ids (runBook rule (view b))) (answer-as (ap (λ (x : IdsReply). toldBy (x .answer) (encodeIds (x .ids)) a) e) g)
+
+  pub height-looked : (rule : Rule OptionalHeight) → Looks rule → {n : ℕ} {a′ : List ℕ} (r : HeightReply) → r ≡ heightReply b (runBook rule (view b))
+      → GivesAnswer (toldBy (r .answer) (encodeHeight (r .height)) a) n a′ → Gives (boundary heightForm rule d a) n d a′
+  height-looked rule q r e g =
+      boundary-looked heightForm d a b h rule q _ (tells-height (runBook rule (view b))) (answer-as (ap (λ (x : HeightReply). toldBy (x .answer) (encodeHeight (x .height)) a) e) g)
+
+  pub attempt-looked : (rule : Rule (Option DeliveryAttempt)) → Looks rule → {n : ℕ} {a′ : List ℕ} (r : AttemptReply) → r ≡ attemptReply b (runBook rule (view b))
+      → GivesAnswer (toldBy (r .answer) (encodeSlot (r .attempt)) a) n a′ → Gives (boundary attemptForm rule d a) n d a′
+  attempt-looked rule q r e g =
+      boundary-looked attemptForm d a b h rule q _ (tells-attempt (runBook rule (view b))) (answer-as (ap (λ (x : AttemptReply). toldBy (x .answer) (encodeSlot (x .attempt)) a) e) g)
+
+  pub fee-intent-looked : (rule : Rule (Option SubmissionFeeIntent)) → Looks rule → {n : ℕ} {a′ : List ℕ} (r : FeeIntentReply) → r ≡ feeIntentReply b (runBook rule (view b))
+      → GivesAnswer (toldBy (r .answer) (encOpt (r .present) (encodeFeeIntent (r .«fee_intent»))) a) n a′ → Gives (boundary feeIntentForm rule d a) n d a′
+  fee-intent-looked rule q r e g =
+      boundary-looked feeIntentForm d a b h rule q _ (tells-fee-intent (runBook rule (view b))) (answer-as (ap (λ (x : FeeIntentReply). toldBy (x .answer) (encOpt (x .present) (encodeFeeIntent (x .«fee_intent»))) a) e) g)
 
 pub done-given : (d : List ℕ) (b : BookData) (h : Holding d b) (rule : Rule (Unit {0})) {n : ℕ} {d′ : List ℕ} (r : DoneReply) → r ≡ doneReply b (runBook rule (view b)) → GivesBook (finish (r .answer) (r .book) [] d []) n d′ → GivesBook (boundary noForm rule d []) n d′
 done-given d b h rule r e g =
@@ -277,6 +292,11 @@ unfolding overlay
 told x l l′ n f h =
     let o = puts-overlay (f .puts (record { fits = omega arith })) in
     ap (λ (k : ℕ). take k l′) (sub-zero n) ∙ ap (take n) (o .1) ∙ take-at x (drop (length x) l) n (sym (o .0))
+
+-- the same, told
+pub told-answer : (x l l′ : List ℕ) (n : ℕ) → Fits x 0 l l′ n → length x ≤ length l → (said : CallAnswer) (a : List ℕ) {k : ℕ} {a′ : List ℕ}
+    → GivesAnswer (toldBy said (take (n - 0) (drop 0 l′)) a) k a′ → GivesAnswer (toldBy said x a) k a′
+told-answer x l l′ n f h said a g = answer-as (ap (λ (y : List ℕ). toldBy said y a) (told x l l′ n f h)) g
 
 -- the same, for the part's end
 pub told-end : (x l l′ : List ℕ) (n : ℕ) → Fits x 0 l l′ n → length x ≤ length l → (n ≤ length l′) × (n ≡ length x)

@@ -1,4 +1,5 @@
 pub mod Held
 pub mod Settle
+pub mod Looks
 pub mod Forms
 pub mod Arguments

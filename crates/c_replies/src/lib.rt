@@ -1,18 +1,24 @@
 // Replies with a flag, a status, a height or ids: the value's bytes, in the form of docs/DRIVER.md, into the lent answer. They are made
 // first, so that a call whose answer or book does not fit leaves every lent byte.
 use archive_bundle_write::write::append_height;
+use book::Ids64;
+use book::OptionalHeight;
 use c_write::settle;
+use c_write::tell;
 use codec_answers::part::append_flag;
 use codec_answers::value::append_ids;
 use codec_answers::value::append_status;
+use part_replies::CallAnswer;
 use part_replies::FlagReply;
-use part_replies::HeightReply;
 use part_replies::IdsReply;
 use part_replies::StatusReply;
+use part_replies::SubmissionAttemptStatus;
 ghost use Rattle.codec_forms.specs.Wire.{be};
 ghost use Rattle.archive_bundle_form.specs.Forms.{encodeHeight};
 ghost use Rattle.codec_answers.specs.Forms.{flagNumber, statusNumber, encodeIds};
+ghost use Rattle.c_answer.specs.Answer.{GivesAnswer};
 ghost use Rattle.c_boundary.specs.Settle.{Gives, finish};
+ghost use Rattle.c_boundary.specs.Looks.{toldBy};
 
 pub fn settle_flag(r: FlagReply, book: &mut [u8], answer: &mut [u8]) -> u8
     ensures { λ n. ⌜ Gives (finish (r .answer) (r .book) (be 1 (flagNumber (r .flag))) (now (book .entry)) (now (answer .entry))) n (now (book .exit)) (now (answer .exit)) ⌝ }
@@ -35,17 +41,6 @@ pub fn settle_status(r: StatusReply, book: &mut [u8], answer: &mut [u8]) -> u8
     settle(said, next, &l[0..n], book, answer)
 }
 
-pub fn settle_height(r: HeightReply, book: &mut [u8], answer: &mut [u8]) -> u8
-    ensures { λ n. ⌜ Gives (finish (r .answer) (r .book) (encodeHeight (r .height)) (now (book .entry)) (now (answer .entry))) n (now (book .exit)) (now (answer .exit)) ⌝ }
-{
-    let height = r.height;
-    let mut l = [0u8; 9];
-    let n = append_height(&mut l, 0, height);
-    let said = r.answer;
-    let next = r.book;
-    settle(said, next, &l[0..n], book, answer)
-}
-
 pub fn settle_ids(r: IdsReply, book: &mut [u8], answer: &mut [u8]) -> u8
     ensures { λ n. ⌜ Gives (finish (r .answer) (r .book) (encodeIds (r .ids)) (now (book .entry)) (now (answer .entry))) n (now (book .exit)) (now (answer .exit)) ⌝ }
 {
@@ -55,4 +50,29 @@ pub fn settle_ids(r: IdsReply, book: &mut [u8], answer: &mut [u8]) -> u8
     let said = r.answer;
     let next = r.book;
     settle(said, next, &l[0..n], book, answer)
+}
+
+// ---- calls that only look
+pub fn tell_status(said: CallAnswer, status: SubmissionAttemptStatus, answer: &mut [u8]) -> u8
+    ensures { λ n. ⌜ GivesAnswer (toldBy said (be 1 (statusNumber status)) (now (answer .entry))) n (now (answer .exit)) ⌝ }
+{
+    let mut l = [0u8; 1];
+    let n = append_status(&mut l, 0, status);
+    tell(said, &l[0..n], answer)
+}
+
+pub fn tell_height(said: CallAnswer, height: OptionalHeight, answer: &mut [u8]) -> u8
+    ensures { λ n. ⌜ GivesAnswer (toldBy said (encodeHeight height) (now (answer .entry))) n (now (answer .exit)) ⌝ }
+{
+    let mut l = [0u8; 9];
+    let n = append_height(&mut l, 0, height);
+    tell(said, &l[0..n], answer)
+}
+
+pub fn tell_ids(said: CallAnswer, ids: Ids64, answer: &mut [u8]) -> u8
+    ensures { λ n. ⌜ GivesAnswer (toldBy said (encodeIds ids) (now (answer .entry))) n (now (answer .exit)) ⌝ }
+{
+    let mut l = [0u8; 513];
+    let n = append_ids(&mut l, 0, ids);
+    tell(said, &l[0..n], answer)
 }

@@ -2,6 +2,7 @@
 use archive_size::size_archive;
 use archive_write::write_book;
 use book::BookData;
+use c_answer::put_answer;
 use codec_answers::value::refusal_number;
 use codec_forms::write::put_bytes;
 use codec_forms::write::put_number;
@@ -10,7 +11,9 @@ use part_replies::DoneReply;
 ghost use mathlib.Core.Path.{_≡_};
 ghost use mathlib.Core.List.{[]};
 ghost use Rattle.book.specs.Model.{view};
+ghost use Rattle.c_answer.specs.Answer.{GivesAnswer};
 ghost use Rattle.c_boundary.specs.Settle.{Gives, GivesBook, written, finish};
+ghost use Rattle.c_boundary.specs.Looks.{toldBy};
 
 // The book alone. What is written stands in this function and the next, and not in one that both call: that would cost every call a copy of the book.
 pub fn put_back(number: u8, next: BookData, book: &mut [u8]) -> u8
@@ -49,6 +52,16 @@ pub fn settle(said: CallAnswer, next: BookData, l: &[u8], book: &mut [u8], answe
     match said {
         CallAnswer::Done => put_both(0, next, l, book, answer),
         CallAnswer::Refused(n) => put_both(n, next, &l[0..0], book, answer),
+    }
+}
+
+// The reply of a call that only looks: the bytes of its value, and no book.
+pub fn tell(said: CallAnswer, l: &[u8], answer: &mut [u8]) -> u8
+    ensures { λ r. ⌜ GivesAnswer (toldBy said (now (l .entry)) (now (answer .entry))) r (now (answer .exit)) ⌝ }
+{
+    match said {
+        CallAnswer::Done => put_answer(l, answer),
+        CallAnswer::Refused(n) => n,
     }
 }
 

@@ -5,7 +5,8 @@
 #[path = "../../../../tests/oracle/rust_book/src/sha256.rs"]
 mod sha256;
 
-pub use sha256::sha256;
+/// Another SHA-256 than the library's.
+pub use sha256::sha256 as plain_sha256;
 use submission_book::*;
 
 pub fn book() -> SubmissionBook {
@@ -135,5 +136,5 @@ pub fn worked_example() -> Vec<u8> {
 }
 
 pub fn coin_id(coin: &CoinString) -> CoinID {
-    CoinID(sha256(coin.to_bytes()))
+    CoinID(plain_sha256(coin.to_bytes()))
 }

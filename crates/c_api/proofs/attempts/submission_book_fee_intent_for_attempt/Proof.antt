@@ -1,7 +1,8 @@
--- No book: 1. Else the reply of the call on the held book, put back by the law of its kind of answer.
+-- No book: 1. Else the reply of the call on the held book, told by the law of its kind of answer; its rules have no step, so the book stays.
 use Rattle.c_api.specs.Functions.{fee-intent-did}
 use borrow.Author.Tests.{not-true, not-false}
-use Rattle.c_boundary.specs.Forms.{gives-absent, fee-intent-given}
+use Rattle.c_boundary.specs.Forms.{gives-absent, fee-intent-looked}
+use Rattle.c_boundary.specs.Looks.{looks-fee-intent}
 use borrow.Author.Needs.{needs}
 use Rattle.c_api.proofs.attempts.submission_book_fee_intent_for_attempt.Statement.{
   statement,
@@ -15,19 +16,12 @@ fee-intent-for-attempt-sound-requires : tie.Need-fee-intent-for-attempt-sound-re
 fee-intent-for-attempt-sound-requires c κs = c .before .held .ensures .present (not-false _ (c .if1 .left)) .sound
 
 returns-2 : tie.Need-returns-2
-returns-2 c = fee-intent-did _ (fee-intent-given _ _ _
-    (c .before .before .before .before .before .before .before .before .before .held .ensures .present (not-false _ (c .before .before .before .before .before .before .before .before .if1 .left))) _ _
-    (c .before .before .before .before .before .before .before .fee-intent-for-attempt-sound .ensures) (c .before .before .before .before .settle-fee-intent .ensures))
+returns-2 c =
+    let n = c .before .before .before .before in
+    let h = n .before .before .held .ensures .present (not-false _ (n .before .if1 .left)) in
+    fee-intent-did _ (fee-intent-looked _ _ _ h _ (looks-fee-intent _) _ (n .fee-intent-for-attempt-sound .ensures) (c .before .before .tell-fee-intent .ensures))
 
 pub submission-book-fee-intent-for-attempt-spec : {M : Type 1} → statement M
 submission-book-fee-intent-for-attempt-spec =
     tie.close
-    (tie.spec
-    (λ c κs. search needs)
-    (λ c. search needs)
-    returns
-    fee-intent-for-attempt-sound-requires
-    (λ c κs. search needs)
-    (λ c. search needs)
-    (λ c. search needs)
-    returns-2)
+    (tie.spec (λ c κs. search needs) returns fee-intent-for-attempt-sound-requires (λ c κs. search needs) (λ c. search needs) returns-2)
