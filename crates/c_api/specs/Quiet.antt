@@ -28,6 +28,7 @@ use Rattle.part_replies.specs.declared.WrittenReply.{WrittenReply}
 use Rattle.c_boundary.specs.Held.{heldIn, Holding}
 use Rattle.c_boundary.specs.Settle.{Left, Form, refusal, written, written-fits, holding-room, holding-bytes, settled, boundary, boundary-held, boundary-absent, overlay-none, Gives, gives-as}
 use Rattle.c_boundary.specs.Forms.{bytesForm}
+use Rattle.book.specs.Refusals as refusals
 
 -- the length told: that of the answer, and what was there with a refusal
 abbrev pub lengthBy : {A : Type 0} → Form A → ℕ → Outcome Book A → ℕ
@@ -52,17 +53,17 @@ writing-quiet : (m : Book) (room : ℕ) (s : List ℕ) → Quiet m room (runBook
 unfolding writing run
 writing-quiet m room s = go (leb (length s) room) refl
   where
-    go : (t : Bool) → leb (length s) room ≡ t → Quiet m room (runBook (cond t (done s) (undo 12)) m)
+    go : (t : Bool) → leb (length s) room ≡ t → Quiet m room (runBook (cond t (done s) (undo refusals.shortBuffer)) m)
     go true e = told s (leb-true (length s) room e)
-    go false e = turned 12
+    go false e = turned refusals.shortBuffer
 
 pub reconciliation-quiet : (outputs : List ℕ) (room : ℕ) (m : Book) → Quiet m room (runBook (reconciliationInputCoins outputs room) m)
 unfolding reconciliationInputCoins run
 reconciliation-quiet outputs room m = go (coinListb outputs)
   where
-    go : (t : Bool) → Quiet m room (runBook (cond t (book >>= (λ b. writing room (encodeCoins (inputCoinsToReconcile (coinsIn outputs) b)))) (undo 2)) m)
+    go : (t : Bool) → Quiet m room (runBook (cond t (book >>= (λ b. writing room (encodeCoins (inputCoinsToReconcile (coinsIn outputs) b)))) (undo refusals.badList)) m)
     go true = writing-quiet m room (encodeCoins (inputCoinsToReconcile (coinsIn outputs) m))
-    go false = turned 2
+    go false = turned refusals.badList
 
 pub absent-quiet : (is absent : List ℕ) (room : ℕ) (m : Book) → Quiet m room (runBook (absentOutputsForIds is absent room) m)
 unfolding absentOutputsForIds run
@@ -71,9 +72,9 @@ absent-quiet is absent room m = go (idsOk is && coinListb absent)
     found : Book → List ℕ
     found b = encodeCoins (flatMap (λ t. absentOutputs (coinsIn absent) (t .entry .intent)) (filterb (λ t. elemb (idOf t) is) (b .submitted)))
 
-    go : (t : Bool) → Quiet m room (runBook (cond t (book >>= (λ b. writing room (found b))) (undo 2)) m)
+    go : (t : Bool) → Quiet m room (runBook (cond t (book >>= (λ b. writing room (found b))) (undo refusals.badList)) m)
     go true = writing-quiet m room (found m)
-    go false = turned 2
+    go false = turned refusals.badList
 
 done-refused : {X : Type 0} {n : ℕ} → _≡_ {A = CallAnswer} Done (Refused n) → X
 done-refused e = absurd (let z : _≡_ {A = ℕ} 0 1 = cc in omega arith)

@@ -3,6 +3,8 @@ use crate::JoinedBundle;
 use archive_bundle_read::bundle::read_bundle;
 use book::SpendBundle;
 use book::Token;
+use book::refusals::BAD_VALUE;
+use book::refusals::NO_BOOK;
 use book_answers::SubmissionFeeSource;
 use c_attempts::settle_final;
 use c_attempts::tell_attempt;
@@ -33,7 +35,7 @@ pub extern "C" fn submission_book_acknowledge_attempt(
     let h = held(&*book);
     let ok = h.ok;
     if !ok {
-        return 1;
+        return NO_BOOK;
     }
     let r = acknowledge_attempt_sound(h.book, Token(token));
     settle_status(r, book, answer)
@@ -46,7 +48,7 @@ pub extern "C" fn submission_book_stop_attempt(book: &mut [u8], token: u64, answ
     let h = held(&*book);
     let ok = h.ok;
     if !ok {
-        return 1;
+        return NO_BOOK;
     }
     let r = stop_attempt_sound(h.book, Token(token));
     settle_status(r, book, answer)
@@ -63,7 +65,7 @@ pub extern "C" fn submission_book_abandon_attempt(
     let h = held(&*book);
     let ok = h.ok;
     if !ok {
-        return 1;
+        return NO_BOOK;
     }
     let r = abandon_attempt_sound(h.book, Token(token));
     settle_status(r, book, answer)
@@ -80,7 +82,7 @@ pub extern "C" fn submission_book_relinquish_completed_attempt(
     let h = held(book);
     let ok = h.ok;
     if !ok {
-        return 1;
+        return NO_BOOK;
     }
     let r = relinquish_completed_attempt_sound(h.book, Token(token));
     let said = r.answer;
@@ -99,7 +101,7 @@ pub extern "C" fn submission_book_fee_intent_for_attempt(
     let h = held(book);
     let ok = h.ok;
     if !ok {
-        return 1;
+        return NO_BOOK;
     }
     let r = fee_intent_for_attempt_sound(h.book, Token(token));
     let said = r.answer;
@@ -113,7 +115,7 @@ pub extern "C" fn submission_book_attempt(book: &[u8], token: u64, answer: &mut 
     let h = held(book);
     let ok = h.ok;
     if !ok {
-        return 1;
+        return NO_BOOK;
     }
     let r = attempt_sound(h.book, Token(token));
     let said = r.answer;
@@ -168,16 +170,16 @@ pub extern "C" fn submission_book_finalize_attempt(
     let h = held(&*book);
     let ok = h.ok;
     if !ok {
-        return 1;
+        return NO_BOOK;
     }
     if 3 < source {
-        return 3;
+        return BAD_VALUE;
     }
     let s = source_from(source);
     let j = joined_in(source, joined);
     let whole = j.ok;
     if !whole {
-        return 3;
+        return BAD_VALUE;
     }
     let r = finalize_attempt_sound(h.book, Token(token), s, j.bundle);
     settle_final(r, book, answer)

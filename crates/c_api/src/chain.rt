@@ -1,6 +1,9 @@
 // What the chain shows.
 use base_coin_string::is_coin_list;
 use base_coin_string::is_id_list;
+use book::refusals::BAD_LIST;
+use book::refusals::BAD_VALUE;
+use book::refusals::NO_BOOK;
 use c_read::held;
 use c_replies::tell_ids;
 use c_write::settle_done;
@@ -20,7 +23,7 @@ pub extern "C" fn submission_book_causally_rolled_back_ids(
     let h = held(book);
     let ok = h.ok;
     if !ok {
-        return 1;
+        return NO_BOOK;
     }
     let r = causally_rolled_back_ids_sound(h.book, absent, inputs);
     let said = r.answer;
@@ -40,16 +43,16 @@ pub extern "C" fn submission_book_reconcile_chain_terminality(
     let h = held(&*book);
     let ok = h.ok;
     if !ok {
-        return 1;
+        return NO_BOOK;
     }
     let coins = is_coin_list(observed);
     let ids = is_id_list(spent);
     let lists = coins & ids & (rolled_back.len() <= 64);
     if !lists {
-        return 2;
+        return BAD_LIST;
     }
     if 1 < reorg {
-        return 3;
+        return BAD_VALUE;
     }
     let f = reorg == 1;
     let r = reconcile_chain_terminality_sound(h.book, observed, spent, f, rolled_back);

@@ -1,4 +1,5 @@
 // Coins of the retained submissions, as a coin list in `answer`; its length in `length`. These calls only look at the book.
+use book::refusals::NO_BOOK;
 use c_read::held;
 use call_absent_outputs_for_ids::absent_outputs_for_ids_sound;
 use call_reconciliation_input_coins::reconciliation_input_coins_sound;
@@ -17,7 +18,7 @@ pub extern "C" fn submission_book_reconciliation_input_coins(
     let h = held(book);
     let ok = h.ok;
     if !ok {
-        return 1;
+        return NO_BOOK;
     }
     let r = reconciliation_input_coins_sound(h.book, outputs, answer);
     let said = r.answer;
@@ -43,7 +44,7 @@ pub extern "C" fn submission_book_absent_outputs_for_ids(
     let h = held(book);
     let ok = h.ok;
     if !ok {
-        return 1;
+        return NO_BOOK;
     }
     let r = absent_outputs_for_ids_sound(h.book, ids, absent, answer);
     let said = r.answer;

@@ -1,4 +1,5 @@
 // The drain.
+use book::refusals::NO_BOOK;
 use c_drain::settle_drain;
 use c_read::held;
 use call_drain::drain_sound;
@@ -11,7 +12,7 @@ pub extern "C" fn submission_book_drain(book: &mut [u8], answer: &mut [u8]) -> u
     let h = held(&*book);
     let ok = h.ok;
     if !ok {
-        return 1;
+        return NO_BOOK;
     }
     let r = drain_sound(h.book);
     settle_drain(r, book, answer)

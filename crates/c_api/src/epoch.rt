@@ -1,6 +1,7 @@
 // Replay epoch and retirements.
 use book::Height;
 use book::SubmissionId;
+use book::refusals::NO_BOOK;
 use c_read::held;
 use c_replies::settle_flag;
 use c_replies::settle_ids;
@@ -24,7 +25,7 @@ pub extern "C" fn submission_book_begin_replay(
     let h = held(&*book);
     let ok = h.ok;
     if !ok {
-        return 1;
+        return NO_BOOK;
     }
     let r = begin_replay_sound(h.book, Height(height));
     settle_flag(r, book, answer)
@@ -37,7 +38,7 @@ pub extern "C" fn submission_book_finish_replay_if_advanced(book: &mut [u8], hei
     let h = held(&*book);
     let ok = h.ok;
     if !ok {
-        return 1;
+        return NO_BOOK;
     }
     let r = finish_replay_if_advanced_sound(h.book, Height(height));
     settle_done(r, book)
@@ -50,7 +51,7 @@ pub extern "C" fn submission_book_replay_rollback_height(book: &[u8], answer: &m
     let h = held(book);
     let ok = h.ok;
     if !ok {
-        return 1;
+        return NO_BOOK;
     }
     let r = replay_rollback_height_sound(h.book);
     let said = r.answer;
@@ -65,7 +66,7 @@ pub extern "C" fn submission_book_emit_retirement(book: &mut [u8], id: u64) -> u
     let h = held(&*book);
     let ok = h.ok;
     if !ok {
-        return 1;
+        return NO_BOOK;
     }
     let r = emit_retirement_sound(h.book, SubmissionId(id));
     settle_done(r, book)
@@ -78,7 +79,7 @@ pub extern "C" fn submission_book_drain_retirements(book: &mut [u8], answer: &mu
     let h = held(&*book);
     let ok = h.ok;
     if !ok {
-        return 1;
+        return NO_BOOK;
     }
     let r = drain_retirements_sound(h.book);
     settle_ids(r, book, answer)

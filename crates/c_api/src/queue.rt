@@ -3,6 +3,9 @@ use archive_bundle_read::kind::read_goal;
 use archive_bundle_read::kind::read_trigger;
 use archive_entry_read::delivery::read_delivery;
 use book::SubmissionId;
+use book::refusals::BAD_LIST;
+use book::refusals::BAD_VALUE;
+use book::refusals::NO_BOOK;
 use c_read::held;
 use c_write::settle_done;
 use call_collect_rollback_replay_ids::collect_rollback_replay_ids_sound;
@@ -20,7 +23,7 @@ pub extern "C" fn submission_book_queue_fee_readiness(book: &mut [u8]) -> u8
     let h = held(&*book);
     let ok = h.ok;
     if !ok {
-        return 1;
+        return NO_BOOK;
     }
     let r = queue_fee_readiness_sound(h.book);
     settle_done(r, book)
@@ -33,7 +36,7 @@ pub extern "C" fn submission_book_collect_rollback_replay_ids(book: &mut [u8], i
     let h = held(&*book);
     let ok = h.ok;
     if !ok {
-        return 1;
+        return NO_BOOK;
     }
     let r = collect_rollback_replay_ids_sound(h.book, ids);
     settle_done(r, book)
@@ -47,15 +50,15 @@ pub extern "C" fn submission_book_queue(book: &mut [u8], delivery: &[u8]) -> u8
     let h = held(&*book);
     let ok = h.ok;
     if !ok {
-        return 1;
+        return NO_BOOK;
     }
     let mut end: usize = 0;
     let d = read_delivery(delivery, &mut end);
     if FAR <= end {
-        return 3;
+        return BAD_VALUE;
     }
     if end < delivery.len() {
-        return 3;
+        return BAD_VALUE;
     }
     let r = queue_sound(h.book, d);
     settle_done(r, book)
@@ -72,16 +75,16 @@ pub extern "C" fn submission_book_queue_rebroadcast_epoch(
     let h = held(&*book);
     let ok = h.ok;
     if !ok {
-        return 1;
+        return NO_BOOK;
     }
     if 64 < ids.len() {
-        return 2;
+        return BAD_LIST;
     }
     let byte = [trigger];
     let mut end: usize = 0;
     let t = read_trigger(&byte, &mut end);
     if FAR <= end {
-        return 3;
+        return BAD_VALUE;
     }
     let r = queue_rebroadcast_epoch_sound(h.book, ids, t);
     settle_done(r, book)
@@ -99,19 +102,19 @@ pub extern "C" fn submission_book_queue_retained_delivery(
     let h = held(&*book);
     let ok = h.ok;
     if !ok {
-        return 1;
+        return NO_BOOK;
     }
     let byte = [trigger];
     let mut end: usize = 0;
     let t = read_trigger(&byte, &mut end);
     if FAR <= end {
-        return 3;
+        return BAD_VALUE;
     }
     let next = [goal];
     let mut goal_end: usize = 0;
     let g = read_goal(&next, &mut goal_end);
     if FAR <= goal_end {
-        return 3;
+        return BAD_VALUE;
     }
     let r = queue_retained_delivery_sound(h.book, SubmissionId(id), t, g);
     settle_done(r, book)

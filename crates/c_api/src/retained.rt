@@ -1,4 +1,5 @@
 // Calls on all retained submissions.
+use book::refusals::NO_BOOK;
 use c_read::held;
 use c_replies::settle_ids;
 use c_replies::tell_ids;
@@ -16,7 +17,7 @@ pub extern "C" fn submission_book_active_ids(book: &[u8], answer: &mut [u8]) -> 
     let h = held(book);
     let ok = h.ok;
     if !ok {
-        return 1;
+        return NO_BOOK;
     }
     let r = active_ids_sound(h.book);
     let said = r.answer;
@@ -34,7 +35,7 @@ pub extern "C" fn submission_book_retain_submitted(
     let h = held(&*book);
     let ok = h.ok;
     if !ok {
-        return 1;
+        return NO_BOOK;
     }
     let r = retain_submitted_sound(h.book, removed);
     settle_ids(r, book, answer)
@@ -47,7 +48,7 @@ pub extern "C" fn submission_book_clear_local_artifacts(book: &mut [u8]) -> u8
     let h = held(&*book);
     let ok = h.ok;
     if !ok {
-        return 1;
+        return NO_BOOK;
     }
     let r = clear_local_artifacts_sound(h.book);
     settle_done(r, book)
@@ -60,7 +61,7 @@ pub extern "C" fn submission_book_restore_runtime(book: &mut [u8]) -> u8
     let h = held(&*book);
     let ok = h.ok;
     if !ok {
-        return 1;
+        return NO_BOOK;
     }
     let r = restore_runtime_sound(h.book);
     settle_done(r, book)

@@ -14,15 +14,16 @@ use Rattle.book.specs.declared.BookData.{BookData}
 use Rattle.rules.specs.Rule.{Rule, undo, run}
 use Rattle.c_boundary.specs.Held.{Holding}
 use Rattle.c_boundary.specs.Settle.{Form, boundary, settled, Gives, GivesBook, gives-as, gives-book-as, boundary-held}
+use Rattle.book.specs.Refusals as refusals
 
 -- a call whose argument must stand for a value
 abbrev pub given : {A B : Type 0} → Option A → (A → Rule B) → Rule B
-given none f = undo 3
+given none f = undo refusals.badValue
 given (some x) f = f x
 
 -- a call with lists, which are refused 2 before any byte argument is looked at
 abbrev pub listed : {B : Type 0} → Bool → Rule B → Rule B
-listed ok r = cond ok r (undo 2)
+listed ok r = cond ok r (undo refusals.badList)
 
 abbrev pub taken : {A : Type 0} → Ans A → Option A
 taken (got a e) = some a
@@ -72,13 +73,13 @@ gives-undo {B} n form d a b h r e =
 pub gives-book-undo : {B : Type 0} (n : ℕ) (form : Form B) (d : List ℕ) (b : BookData) (h : Holding d b) (r : Rule B) → r ≡ undo n → GivesBook (boundary form r d []) n d
 gives-book-undo n form d b h r e = let g = gives-undo n form d [] b h r e in record { number = g .number; book = g .book }
 
-pub given-none : {A B : Type 0} (f : A → Rule B) {x : Option A} → x ≡ none → given x f ≡ undo 3
+pub given-none : {A B : Type 0} (f : A → Rule B) {x : Option A} → x ≡ none → given x f ≡ undo refusals.badValue
 given-none {A} f e = ap (λ (y : Option A). given y f) e
 
 pub given-some : {A B : Type 0} (f : A → Rule B) {x : Option A} {v : A} → x ≡ some v → given x f ≡ f v
 given-some {A} f e = ap (λ (y : Option A). given y f) e
 
-pub listed-not : {B : Type 0} (r : Rule B) {ok : Bool} → ok ≡ false → listed ok r ≡ undo 2
+pub listed-not : {B : Type 0} (r : Rule B) {ok : Bool} → ok ≡ false → listed ok r ≡ undo refusals.badList
 listed-not r e = ap (λ (t : Bool). listed t r) e
 
 pub listed-well : {B : Type 0} (r : Rule B) {ok : Bool} → ok ≡ true → listed ok r ≡ r

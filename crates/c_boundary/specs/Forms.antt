@@ -54,6 +54,7 @@ use Rattle.book_answers.specs.declared.SubmissionAttemptStatus.{SubmissionAttem
 use Rattle.book_answers.specs.declared.SubmissionDrainFailure.{SubmissionDrainFailure}
 use Rattle.base_lists.specs.Laws.{take-cells}
 use Rattle.c_boundary.specs.Looks.{Looks, toldBy, boundary-looked}
+use Rattle.book.specs.Refusals as refusals
 
 -- ---- forms
 abbrev pub noForm : {A : Type 0} → Form A
@@ -149,10 +150,10 @@ unfolding encodeSubmissions encodeFailures
 encodeDrain r = encodeSubmissions (r .«submission_count») (r .submissions) ++ encodeFailures (r .«failure_count») (r .failures)
 
 -- ---- a call on bytes that hold no book
-pub gives-absent : {A : Type 0} (form : Form A) (r : Rule A) (d a : List ℕ) → heldIn d ≡ none → Gives (boundary form r d a) 1 d a
+pub gives-absent : {A : Type 0} (form : Form A) (r : Rule A) (d a : List ℕ) → heldIn d ≡ none → Gives (boundary form r d a) refusals.noBook d a
 gives-absent form r d a e = gives-as (sym (boundary-absent form r d a e)) (record { number = refl; book = refl; answer = refl })
 
-pub gives-book-absent : {A : Type 0} (form : Form A) (r : Rule A) (d : List ℕ) → heldIn d ≡ none → GivesBook (boundary form r d []) 1 d
+pub gives-book-absent : {A : Type 0} (form : Form A) (r : Rule A) (d : List ℕ) → heldIn d ≡ none → GivesBook (boundary form r d []) refusals.noBook d
 gives-book-absent form r d e = gives-book-as (sym (boundary-absent form r d [] e)) (record { number = refl; book = refl })
 
 -- ---- a call's reply, told in its form

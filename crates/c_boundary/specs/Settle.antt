@@ -24,6 +24,7 @@ use Rattle.part_replies.specs.declared.CallAnswer.{CallAnswer}
 use Rattle.part_replies.specs.declared.CallAnswer.the-variants.{Done, Refused}
 use Rattle.codec_answers.specs.Forms.{refusalNumber}
 use Rattle.c_boundary.specs.Held.{layout, bookBytes, heldIn, Holding}
+use Rattle.book.specs.Refusals as refusals
 
 -- what a call returns, and what it leaves in the buffers
 pub record Left : Type 0 where
@@ -41,7 +42,7 @@ unfolding overlay
 written n m l d a =
     cond (leb (length (bookBytes m)) (length d) && leb (length l) (length a))
     (record { number = n; book = overlay (bookBytes m) d; answer = overlay l a })
-    (refusal 12 d a)
+    (refusal refusals.shortBuffer d a)
 
 -- how the rules' answer is told in bytes
 abbrev pub Form : Type 0 → Type 0
@@ -54,7 +55,7 @@ settled form d a (undone n) = refusal n d a
 settled form d a (stopped m xs n) = written n m [] d a
 
 abbrev pub ruled : {A : Type 0} → Form A → Rule A → List ℕ → List ℕ → Option Book → Left
-ruled form r d a none = refusal 1 d a
+ruled form r d a none = refusal refusals.noBook d a
 ruled form r d a (some m) = settled form d a (runBook r m)
 
 -- a call by these rules on the book that d holds, with the lent answer a
@@ -110,11 +111,11 @@ module _ (n : ℕ) (m : Book) (l d a : List ℕ) where
   unfolding written
   written-fits h k = rw (le-leb (length (bookBytes m)) (length d) h, le-leb (length l) (length a) k) refl
 
-  pub book-short : length d < length (bookBytes m) → written n m l d a ≡ refusal 12 d a
+  pub book-short : length d < length (bookBytes m) → written n m l d a ≡ refusal refusals.shortBuffer d a
   unfolding written
   book-short h = rw (lt-leb (length (bookBytes m)) (length d) h) refl
 
-  pub answer-short : length (bookBytes m) ≤ length d → length a < length l → written n m l d a ≡ refusal 12 d a
+  pub answer-short : length (bookBytes m) ≤ length d → length a < length l → written n m l d a ≡ refusal refusals.shortBuffer d a
   unfolding written
   answer-short h k = rw (le-leb (length (bookBytes m)) (length d) h, lt-leb (length l) (length a) k) refl
 
@@ -161,7 +162,7 @@ module _ {A : Type 0} (form : Form A) (d a : List ℕ) (b : BookData) (h : Holdi
   pub boundary-reply : (r : Rule A) (l : List ℕ) → Tells form (runBook r (view b)) l → finish (answerOf (runBook r (view b))) (bookLeft b (runBook r (view b))) l d a ≡ boundary form r d a
   boundary-reply r l t = finish-settled (runBook r (view b)) l t ∙ sym (boundary-held r)
 
-pub boundary-absent : {A : Type 0} (form : Form A) (r : Rule A) (d a : List ℕ) → heldIn d ≡ none → boundary form r d a ≡ refusal 1 d a
+pub boundary-absent : {A : Type 0} (form : Form A) (r : Rule A) (d a : List ℕ) → heldIn d ≡ none → boundary form r d a ≡ refusal refusals.noBook d a
 unfolding boundary
 boundary-absent form r d a e = ap (ruled form r d a) e
 
@@ -179,17 +180,17 @@ pub laid-room : (k : ℕ) (b : BookData) (d : List ℕ) → k ≡ length (encode
 laid-room k b d e h = record { fits = omega (arith, bytes-length k b e) }
 
 module _ (n k : ℕ) (b : BookData) (d : List ℕ) (e : k ≡ length (encodeBook b)) where
-  pub back-short : length d < 8 + k → GivesBook (written n (view b) [] d []) 12 d
+  pub back-short : length d < 8 + k → GivesBook (written n (view b) [] d []) refusals.shortBuffer d
   back-short h = gives-book-as (sym (book-short n (view b) [] d [] (omega (arith, bytes-length k b e)))) (record { number = refl; book = refl })
 
   pub back-done : {d′ : List ℕ} → 8 + k ≤ length d → d′ ≡ overlay (bookBytes (view b)) d → GivesBook (written n (view b) [] d []) n d′
   back-done h p = gives-book-as (sym (written-fits n (view b) [] d [] (omega (arith, bytes-length k b e)) zero-le)) (record { number = refl; book = p })
 
   module _ (l a : List ℕ) where
-    pub both-book-short : length d < 8 + k → Gives (written n (view b) l d a) 12 d a
+    pub both-book-short : length d < 8 + k → Gives (written n (view b) l d a) refusals.shortBuffer d a
     both-book-short h = gives-as (sym (book-short n (view b) l d a (omega (arith, bytes-length k b e)))) (record { number = refl; book = refl; answer = refl })
 
-    pub both-answer-short : 8 + k ≤ length d → length a < length l → Gives (written n (view b) l d a) 12 d a
+    pub both-answer-short : 8 + k ≤ length d → length a < length l → Gives (written n (view b) l d a) refusals.shortBuffer d a
     both-answer-short h g = gives-as (sym (answer-short n (view b) l d a (omega (arith, bytes-length k b e)) g)) (record { number = refl; book = refl; answer = refl })
 
     pub both-done : {d′ a′ : List ℕ} {i : ℕ} → 8 + k ≤ length d → length l ≤ length a → d′ ≡ overlay (bookBytes (view b)) d → Puts l 0 a a′ i

@@ -91,6 +91,7 @@ use Rattle.rules.specs.Calls.ClearLocalArtifacts.{clearLocalArtifacts}
 use Rattle.rules.specs.Calls.RestoreRuntime.{restoreRuntime}
 use Rattle.rules.specs.Calls.Attempt.{attempt}
 use Rattle.rules.specs.Calls.WriteArchive.{writeArchive}
+use Rattle.book.specs.Refusals as refusals
 
 -- ---- answers that always fit, and answers that fit by what they say
 abbrev Always : {A : Type 0} → Form A → ℕ → Type 0
@@ -132,25 +133,25 @@ drain-fits (stopped m xs n) s t = tt
 -- ---- calls that write by themselves: whole where there is room
 writes : (m : Book) (room k : ℕ) (s : List ℕ) → k ≤ room → length s ≤ k → runBook (writing room s) m ≡ ended m [] s
 unfolding writing run
-writes m room k s h g = ap (λ (t : Bool). runBook (cond t (done s) (undo 12)) m) (le-leb (length s) room (omega arith))
+writes m room k s h g = ap (λ (t : Bool). runBook (cond t (done s) (undo refusals.shortBuffer)) m) (le-leb (length s) room (omega arith))
 
 -- what is owed of an outcome: the answer fits, and the rules do not refuse 12
 pub record Fitting {A : Type 0} (form : Form A) (k : ℕ) (o : Outcome Book A) : Type 0 where
   pub answer : AnswerFits form k o
-  pub number : numberBy o ≡ 12 → ⊥
+  pub number : numberBy o ≡ refusals.shortBuffer → ⊥
 
 written-fits : (m : Book) (room k : ℕ) (s : List ℕ) → k ≤ room → length s ≤ k → Fitting bytesForm k (runBook (writing room s) m)
 written-fits m room k s h g = subst (Fitting bytesForm k) (sym (writes m room k s h g)) (record { answer = g; number = λ e. absurd (omega arith) })
 
-asked-fits : (k : ℕ) (f : Book → Rule (List ℕ)) (m : Book) → Fitting bytesForm k (runBook (f m) m) → (t : Bool) → Fitting bytesForm k (runBook (cond t (look f) (undo 2)) m)
+asked-fits : (k : ℕ) (f : Book → Rule (List ℕ)) (m : Book) → Fitting bytesForm k (runBook (f m) m) → (t : Bool) → Fitting bytesForm k (runBook (cond t (look f) (undo refusals.badList)) m)
 unfolding run
 asked-fits k f m h true = h
 asked-fits k f m h false = record { answer = tt; number = λ e. absurd (omega arith) }
 
 -- ---- every call
-not-twelve : {A : Type 0} (d : Bool) (o : Outcome Book A) → TurnedAway d false o → numberBy o ≡ 12 → ⊥
+not-twelve : {A : Type 0} (d : Bool) (o : Outcome Book A) → TurnedAway d false o → numberBy o ≡ refusals.shortBuffer → ⊥
 not-twelve d (ended m xs v) h e = omega arith
-not-twelve d (undone n) h e = false≢true (sym (or-false (eqb n 0) (eqb n 12) h .1) ∙ ap (λ (x : ℕ). eqb x 12) e)
+not-twelve d (undone n) h e = false≢true (sym (or-false (eqb n 0) (eqb n refusals.shortBuffer) h .1) ∙ ap (λ (x : ℕ). eqb x refusals.shortBuffer) e)
 not-twelve d (stopped m xs n) h e = let q = h .1 in omega arith
 
 -- of rules with their answer made into a value
@@ -233,7 +234,7 @@ module _ (m : Book) (s : SoundBook m) (w : Within m) where
 
 -- on lent bytes: with 57,702 bytes for the book and the header's size for the answer, the number is the rules' own, and not 12
 pub header-enough : (d a : List ℕ) (m : Book) → heldIn d ≡ some m → SoundBook m → Within m → (c : Call) → TypedCall c → 57702 ≤ length d → answerBytes (kindOf c) ≤ length a → Roomy (kindOf c)
-    → (boundary valueForm (rules encodeModel c) d a .number ≡ numberBy (runBook (rules encodeModel c) m)) × (boundary valueForm (rules encodeModel c) d a .number ≡ 12 → ⊥)
+    → (boundary valueForm (rules encodeModel c) d a .number ≡ numberBy (runBook (rules encodeModel c) m)) × (boundary valueForm (rules encodeModel c) d a .number ≡ refusals.shortBuffer → ⊥)
 header-enough d a m e s w c t h k r =
     let f = fits m s w c t r in
     let n = typed-call-enough valueForm d a h c m e s w t (within-room valueForm (runBook (rules encodeModel c) m) (f .answer)) in

@@ -31,6 +31,7 @@ use Rattle.book.specs.SoundLaws.{view-back}
 use Rattle.archive_laws.specs.Back.{back-typed, back-sound}
 use Rattle.archive_laws.specs.Sizes.{archive-size}
 use Rattle.archive_laws.specs.Theorems.{restored}
+use Rattle.book.specs.Refusals as refusals
 
 -- there is room for the book in n bytes
 abbrev pub hasRoom : Book → ℕ → Bool
@@ -128,13 +129,13 @@ module _ (d : List ℕ) (u : Every U8 d) where
 -- ---- writing a book and an answer: done whole, or not at all
 pub data Wrote (n : ℕ) (m : Book) (s d a : List ℕ) : Bool → Left → Type 0 where
   wrote : length (bookBytes m) ≤ length d → Wrote n m s d a true (record { number = n; book = overlay (bookBytes m) d; answer = overlay s a })
-  short : Wrote n m s d a false (refusal 12 d a)
+  short : Wrote n m s d a false (refusal refusals.shortBuffer d a)
 
 pub written-as : (n : ℕ) (m : Book) (s d a : List ℕ) → Wrote n m s d a (hasRoom m (length d) && leb (length s) (length a)) (written n m s d a)
 unfolding written
 written-as n m s d a = go (hasRoom m (length d)) refl (leb (length s) (length a))
   where
-    go : (x : Bool) → hasRoom m (length d) ≡ x → (y : Bool) → Wrote n m s d a (x && y) (cond (x && y) (record { number = n; book = overlay (bookBytes m) d; answer = overlay s a }) (refusal 12 d a))
+    go : (x : Bool) → hasRoom m (length d) ≡ x → (y : Bool) → Wrote n m s d a (x && y) (cond (x && y) (record { number = n; book = overlay (bookBytes m) d; answer = overlay s a }) (refusal refusals.shortBuffer d a))
     go true e true = wrote (leb-true (length (bookBytes m)) (length d) e)
     go true e false = short
     go false e y = short

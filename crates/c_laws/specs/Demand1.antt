@@ -57,6 +57,7 @@ use Rattle.c_laws.specs.Functions.{Lent, lent, Asked, asks, badList, bad
 use Rattle.c_laws.specs.Told.{told, toldOn, toldIn, Held, no-book, one-book, did-told}
 use Rattle.c_boundary.specs.Forms.{valueForm}
 use Rattle.book_answers.specs.declared.DrainedSubmission.{DrainedSubmission}
+use Rattle.book.specs.Refusals as refusals
 
 -- the functions: 27 calls on a lent book, opening, reading an archive, and two without a book
 pub data Function : Type 0 where
@@ -99,7 +100,7 @@ pub data Hashes : Function → List ℕ → Type 0 where
 -- the drain that runs out of tokens, and the book that it leaves
 pub data Stops (d : List ℕ) : Function → Book → Type 0 where
   drain-stops : (c : CCall) (k : Call) (m : Book) {m′ : Book} {xs : List DrainedSubmission}
-      → heldIn d ≡ some m → callOf c ≡ asks k → isDrain (kindOf k) ≡ true → runBook (rules encodeModel k) m ≡ stopped m′ xs 11 → Stops d (OnBook c) m′
+      → heldIn d ≡ some m → callOf c ≡ asks k → isDrain (kindOf k) ≡ true → runBook (rules encodeModel k) m ≡ stopped m′ xs refusals.noToken → Stops d (OnBook c) m′
 
 -- what a function leaves in the lent memory
 pub data Demand1 (f : Function) (d : List ℕ) (r : Returned) : Type 0 where
@@ -111,9 +112,9 @@ pub data Demand1 (f : Function) (d : List ℕ) (r : Returned) : Type 0 where
   -- every other number: every lent byte stays
   old-bytes : (r .number ≡ 0 → ⊥) → r .book ≡ d → r .answer ≡ lentTo f .answer → r .count ≡ lentTo f .count → Demand1 f d r
   -- 11: the book alone
-  no-token : (m : Book) → Stops d f m → r .number ≡ 11 → r .book ≡ overlay (bookBytes m) d → r .answer ≡ lentTo f .answer → r .count ≡ lentTo f .count → Demand1 f d r
+  no-token : (m : Book) → Stops d f m → r .number ≡ refusals.noToken → r .book ≡ overlay (bookBytes m) d → r .answer ≡ lentTo f .answer → r .count ≡ lentTo f .count → Demand1 f d r
   -- 13: the place alone
-  no-archive : (archive : List ℕ) (place : ℕ) → f ≡ Read archive place → readArchive archive ≡ broken (r .count) → r .number ≡ 13 → r .book ≡ d → r .answer ≡ lentTo f .answer → Demand1 f d r
+  no-archive : (archive : List ℕ) (place : ℕ) → f ≡ Read archive place → readArchive archive ≡ broken (r .count) → r .number ≡ refusals.noArchive → r .book ≡ d → r .answer ≡ lentTo f .answer → Demand1 f d r
 
 -- ---- calls
 tells : (t : Bool) (s : List ℕ) (n : ℕ) → cond (t && eqb 0 0) (length s) n ≡ cond t (length s) n
@@ -135,7 +136,7 @@ module _ (d : List ℕ) (c : CCall) (k : Call) (m : Book) (e : heldIn d ≡ some
   stays true = refl
   stays false = refl
 
-  stopped-as : (x : Book) (xs : List DrainedSubmission) (n : ℕ) → isDrain (kindOf k) ≡ true → n ≡ 11 → runBook (rules encodeModel k) m ≡ stopped x xs n
+  stopped-as : (x : Book) (xs : List DrainedSubmission) (n : ℕ) → isDrain (kindOf k) ≡ true → n ≡ refusals.noToken → runBook (rules encodeModel k) m ≡ stopped x xs n
       → (t : Bool) (l : Left) → Wrote n x [] d (lent c .answer) t l
       → Demand1 (OnBook c) d (counted (l .number) (l .book) (l .answer) (cond (asksRoom (kindOf k) && eqb (l .number) 0) (lent c .count) (lent c .count)))
   unfolding overlay

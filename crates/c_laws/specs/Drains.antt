@@ -26,6 +26,7 @@ use Rattle.c_laws.specs.Listed.{roomFor, heardOf, calls, Ran, no-call, t
 use Rattle.c_laws.specs.Steps.{Good, good-held, Stepped, stepped, Behind, behind, book-append}
 use Rattle.c_boundary.specs.Forms.{valueForm}
 use Rattle.book_answers.specs.declared.DrainedSubmission.{DrainedSubmission}
+use Rattle.book.specs.Refusals as refusals
 
 -- what an outcome says
 abbrev pub valueBy : Outcome Book Value → Value
@@ -43,14 +44,14 @@ module _ (d a : List ℕ) where
   wrote-whole m s true l (wrote q) e = (refl, refl)
   wrote-whole m s false l short e = absurd (omega arith)
 
-  not-stopped : {X : Type 0} (n : ℕ) (m : Book) (t : Bool) (l : Left) → Wrote n m [] d a t l → n ≡ 11 → l .number ≡ 0 → X
+  not-stopped : {X : Type 0} (n : ℕ) (m : Book) (t : Bool) (l : Left) → Wrote n m [] d a t l → n ≡ refusals.noToken → l .number ≡ 0 → X
   not-stopped n m true l (wrote q) h e = absurd (omega arith)
   not-stopped n m false l short h e = absurd (omega arith)
 
   wholly : (o : Outcome Book Value) → TurnedAway true false o → settled valueForm d a o .number ≡ 0 → Wholly d a o
   unfolding settled
   wholly (ended m xs v) t e = let w = wrote-whole m (valueForm xs v) _ _ (written-as 0 m (valueForm xs v) d a) e in record { room = w .0; bytes = w .1 }
-  wholly (undone n) t e = absurd (false≢true (sym (or-false (eqb n 0) (eqb n 12) t .0) ∙ ap (λ (x : ℕ). eqb x 0) e))
+  wholly (undone n) t e = absurd (false≢true (sym (or-false (eqb n 0) (eqb n refusals.shortBuffer) t .0) ∙ ap (λ (x : ℕ). eqb x 0) e))
   wholly (stopped m xs n) t e = not-stopped n m _ _ (written-as n m [] d a) (t .1) e
 
 -- the drain that is made on d, which holds m

@@ -40,6 +40,7 @@ use Rattle.c_laws.specs.Typed.{typed-call}
 use Rattle.c_laws.specs.Listed.{roomFor, heard, heardOf, calls, Ran, no-call, then-call}
 use Rattle.c_laws.specs.Steps.{Good, Stepped, stepped}
 use Rattle.c_boundary.specs.Forms.{valueForm}
+use Rattle.book.specs.Refusals as refusals
 
 -- the answer is lent the header's size
 abbrev pub HeaderSize : CCall → Type 0
@@ -137,7 +138,7 @@ module _ (m : Book) (d : List ℕ) (h : 57702 ≤ length d) where
     heard-all badValue t r q = refl
     heard-all (asks c) t r q = ap (λ (x : Bool). cond x (c ∷ []) []) (room-is (l .answer) (runBook (rules encodeModel c) m) (typed-left c t) (fitting c t r q))
 
-    not-twelve : (o : Asked) → OnCall TypedCall o → Lends o → OnCall (λ k. answerBytes (kindOf k) ≤ length (l .answer)) o → toldOn m d l o .number ≡ 12 → ⊥
+    not-twelve : (o : Asked) → OnCall TypedCall o → Lends o → OnCall (λ k. answerBytes (kindOf k) ≤ length (l .answer)) o → toldOn m d l o .number ≡ refusals.shortBuffer → ⊥
     unfolding Lends
     not-twelve badList t r q e = omega arith
     not-twelve badValue t r q e = omega arith
@@ -146,7 +147,7 @@ module _ (m : Book) (d : List ℕ) (h : 57702 ≤ length d) where
 
 -- ---- a list of calls
 pub record Sized (n : ℕ) (m : Book) (cs : List CCall) (rs : List Returned) : Type 0 where
-  pub never-12 : Every (λ r. r .number ≡ 12 → ⊥) rs
+  pub never-12 : Every (λ r. r .number ≡ refusals.shortBuffer → ⊥) rs
   pub all-heard : calls n m cs ≡ callsIn cs
 
 sized-list : {m : Book} {d e : List ℕ} {cs : List CCall} {rs : List Returned} → Good m d → 57702 ≤ length d → Every TypedC cs → Every HeaderSize cs

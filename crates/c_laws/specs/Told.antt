@@ -71,6 +71,7 @@ use Rattle.c_api.specs.Functions.{
 use Rattle.c_laws.specs.Functions.{Lent, lent, Asked, asks, badList, badValue, value, valueBehind, callOf, OnCall}
 use Rattle.rules.specs.Calls.ReconciliationInputCoins.{reconciliationInputCoins}
 use Rattle.rules.specs.Calls.AbsentOutputsForIds.{absentOutputsForIds}
+use Rattle.book.specs.Refusals as refusals
 
 -- refused: every lent byte stays
 abbrev pub turnedAway : ℕ → List ℕ → Lent → Returned
@@ -111,8 +112,8 @@ unasked-behind ok (some v) g h = h v
 
 abbrev ruleOf : Asked → Rule Value
 ruleOf (asks c) = rules encodeModel c
-ruleOf badList = undo 2
-ruleOf badValue = undo 3
+ruleOf badList = undo refusals.badList
+ruleOf badValue = undo refusals.badValue
 
 module _ {B : Type 0} (u : B → Value) where
   given-on : {A : Type 0} (x : Option A) (f : A → Rule B) (g : A → Asked) → ((v : A) → u <$> f v ≡ ruleOf (g v)) → u <$> given x f ≡ ruleOf (value x g)
@@ -149,8 +150,8 @@ returned l k = record { number = l .number; book = l .book; answer = l .answer; 
 boundary-told : (d : List ℕ) (l : Lent) (m : Book) (o : Asked) → Unasked o → heldIn d ≡ some m
     → returned (boundary valueForm (ruleOf o) d (l .answer)) (l .count) ≡ toldOn m d l o
 unfolding boundary settled run
-boundary-told d l m badList h e = ap (λ (x : Option Book). returned (ruled valueForm (undo 2) d (l .answer) x) (l .count)) e
-boundary-told d l m badValue h e = ap (λ (x : Option Book). returned (ruled valueForm (undo 3) d (l .answer) x) (l .count)) e
+boundary-told d l m badList h e = ap (λ (x : Option Book). returned (ruled valueForm (undo refusals.badList) d (l .answer) x) (l .count)) e
+boundary-told d l m badValue h e = ap (λ (x : Option Book). returned (ruled valueForm (undo refusals.badValue) d (l .answer) x) (l .count)) e
 boundary-told d l m (asks c) h e =
     let o = runBook (rules encodeModel c) m in
     ap (λ (x : Option Book). returned (ruled valueForm (rules encodeModel c) d (l .answer) x) (l .count)) e
@@ -263,11 +264,11 @@ write-told d a k m h = go (leb (length (encodeModel m)) (length a)) refl
     l = record { answer = a; count = k }
 
     counted : Bool → Counted
-    counted t = cond t (record { number = 0; archive = overlay s a; count = length s }) (record { number = 12; archive = a; count = k })
+    counted t = cond t (record { number = 0; archive = overlay s a; count = length s }) (record { number = refusals.shortBuffer; archive = a; count = k })
 
     go : (t : Bool) → leb (length s) (length a) ≡ t
         → record { number = counted t .number; book = d; answer = counted t .archive; count = counted t .count }
-        ≡ told (kindOf (Call.WriteArchive (length a))) d l (runBook (written <$> cond t (done s) (undo 12)) m)
+        ≡ told (kindOf (Call.WriteArchive (length a))) d l (runBook (written <$> cond t (done s) (undo refusals.shortBuffer)) m)
     go true e =
         let x = written-fits 0 m s d a (h .room) (leb-true (length s) (length a) e) in
         λ i. record {

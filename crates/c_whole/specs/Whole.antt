@@ -24,6 +24,7 @@ use Rattle.archive_walk.specs.declared.Walk.{Walk}
 use Rattle.rules.specs.Opened.{opened}
 use Rattle.c_boundary.specs.Held.{heldIn, Holding}
 use Rattle.c_boundary.specs.Settle.{Left, written, GivesBook, laid, back-short, back-done}
+use Rattle.book.specs.Refusals as refusals
 
 -- ---- opening
 pub opened-given : {b : BookData} (o i : ℕ) (d : List ℕ) {n : ℕ} {d′ : List ℕ} → b ≡ back (opened o i) → GivesBook (written 0 (view b) [] d []) n d′
@@ -39,7 +40,7 @@ pub record Placed : Type 0 where
 unfoldable pub readInto : ArchiveRead → List ℕ → ℕ → Placed
 unfolding written
 readInto (book b) d p = let l = written 0 (view b) [] d [] in record { number = l .number; book = l .book; place = p }
-readInto (broken e) d p = record { number = 13; book = d; place = e }
+readInto (broken e) d p = record { number = refusals.noArchive; book = d; place = e }
 
 pub record GivesPlace (l : Placed) (n : ℕ) (d : List ℕ) (p : ℕ) : Type 0 where
   pub number : n ≡ l .number
@@ -51,7 +52,7 @@ unfolding readInto
 into-book d p {b} {x} {n} {d′} q g = subst (λ (y : ArchiveRead). GivesPlace (readInto y d p) n d′ p) (sym q) (record { number = g .number; book = g .book; place = refl })
 
 -- where the walk agrees with the reader
-walk-broken : (d : List ℕ) (p : ℕ) (w : Walk) → not (w .ok) ≡ true → (x : ArchiveRead) → Agrees w (archiveAnswer x) → GivesPlace (readInto x d p) 13 d (w .place)
+walk-broken : (d : List ℕ) (p : ℕ) (w : Walk) → not (w .ok) ≡ true → (x : ArchiveRead) → Agrees w (archiveAnswer x) → GivesPlace (readInto x d p) refusals.noArchive d (w .place)
 unfolding readInto
 walk-broken d p w h (book b) a = absurd (let q = a .ok in let f = not-true (w .ok) h in let z : _≡_ {A = ℕ} 0 1 = cc in omega arith)
 walk-broken d p w h (broken k) a = record { number = refl; book = refl; place = a .place }
@@ -64,7 +65,7 @@ module _ (s d : List ℕ) (p : ℕ) {w : Walk} (e : w ≡ walked (parseWhole s 0
   agrees : Agrees w (archiveAnswer (readArchive s))
   agrees = subst (λ (v : Walk). Agrees v (archiveAnswer (readArchive s))) (sym e) (walk-agrees s)
 
-  pub read-broken : not (w .ok) ≡ true → GivesPlace (readInto (readArchive s) d p) 13 d (w .place)
+  pub read-broken : not (w .ok) ≡ true → GivesPlace (readInto (readArchive s) d p) refusals.noArchive d (w .place)
   read-broken h = walk-broken d p w h (readArchive s) agrees
 
   -- an archive is what its book is written as
@@ -78,7 +79,7 @@ module _ (s d : List ℕ) (p : ℕ) {w : Walk} (e : w ≡ walked (parseWhole s 0
     same-length : length s ≡ length (encodeBook (is-book .0))
     same-length = sym (ap length same-bytes)
 
-    pub read-short : length d < 8 + length s → GivesPlace (readInto (readArchive s) d p) 12 d p
+    pub read-short : length d < 8 + length s → GivesPlace (readInto (readArchive s) d p) refusals.shortBuffer d p
     read-short k = into-book d p (is-book .1) (back-short 0 (length s) (is-book .0) d same-length k)
 
     module _ (k : 8 + length s ≤ length d) where
@@ -105,9 +106,9 @@ pub record Counted : Type 0 where
 
 unfoldable pub writeFrom : Option Book → List ℕ → ℕ → Counted
 unfolding encodeModel overlay
-writeFrom none a k = record { number = 1; archive = a; count = k }
+writeFrom none a k = record { number = refusals.noBook; archive = a; count = k }
 writeFrom (some m) a k =
-    cond (leb (length (encodeModel m)) (length a)) (record { number = 0; archive = overlay (encodeModel m) a; count = length (encodeModel m) }) (record { number = 12; archive = a; count = k })
+    cond (leb (length (encodeModel m)) (length a)) (record { number = 0; archive = overlay (encodeModel m) a; count = length (encodeModel m) }) (record { number = refusals.shortBuffer; archive = a; count = k })
 
 pub record GivesLength (l : Counted) (n : ℕ) (a : List ℕ) (k : ℕ) : Type 0 where
   pub number : n ≡ l .number
@@ -118,21 +119,21 @@ length-as : {x y : Counted} {n : ℕ} {a : List ℕ} {k : ℕ} → x ≡ y → G
 length-as {x} {y} {n} {a} {k} q g = subst (λ (l : Counted). GivesLength l n a k) q g
 
 module _ (d a : List ℕ) (k : ℕ) where
-  pub write-absent : heldIn d ≡ none → GivesLength (writeFrom (heldIn d) a k) 1 a k
+  pub write-absent : heldIn d ≡ none → GivesLength (writeFrom (heldIn d) a k) refusals.noBook a k
   unfolding writeFrom
   write-absent e = length-as (sym (ap (λ (m : Option Book). writeFrom m a k) e)) (record { number = refl; archive = refl; count = refl })
 
   module _ (b : BookData) (h : Holding d b) (n : ℕ) (s : Size (encodeBook b) 57694 n) where
-    pub write-short : length a < n → GivesLength (writeFrom (heldIn d) a k) 12 a k
+    pub write-short : length a < n → GivesLength (writeFrom (heldIn d) a k) refusals.shortBuffer a k
     unfolding writeFrom encodeBook
     write-short q =
         length-as (sym (ap (λ (m : Option Book). writeFrom m a k) (h .held)
-        ∙ ap (λ (t : Bool). cond t (record { number = 0; archive = overlay (encodeBook b) a; count = length (encodeBook b) }) (record { number = 12; archive = a; count = k })) (lt-leb (length (encodeBook b)) (length a) (omega (arith, s .is)))))
+        ∙ ap (λ (t : Bool). cond t (record { number = 0; archive = overlay (encodeBook b) a; count = length (encodeBook b) }) (record { number = refusals.shortBuffer; archive = a; count = k })) (lt-leb (length (encodeBook b)) (length a) (omega (arith, s .is)))))
         (record { number = refl; archive = refl; count = refl })
 
     pub write-whole : {a′ : List ℕ} {e : ℕ} → n ≤ length a → Puts (encodeBook b) 0 a a′ e → GivesLength (writeFrom (heldIn d) a k) 0 a′ n
     unfolding writeFrom encodeBook
     write-whole q p =
         length-as (sym (ap (λ (m : Option Book). writeFrom m a k) (h .held)
-        ∙ ap (λ (t : Bool). cond t (record { number = 0; archive = overlay (encodeBook b) a; count = length (encodeBook b) }) (record { number = 12; archive = a; count = k })) (le-leb (length (encodeBook b)) (length a) (omega (arith, s .is)))))
+        ∙ ap (λ (t : Bool). cond t (record { number = 0; archive = overlay (encodeBook b) a; count = length (encodeBook b) }) (record { number = refusals.shortBuffer; archive = a; count = k })) (le-leb (length (encodeBook b)) (length a) (omega (arith, s .is)))))
         (record { number = refl; archive = puts-overlay p .1; count = s .is })

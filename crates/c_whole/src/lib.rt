@@ -4,6 +4,9 @@ use archive_walk::walk_archive;
 use archive_write::write_book;
 use book::SubmissionId;
 use book::Token;
+use book::refusals::NO_ARCHIVE;
+use book::refusals::NO_BOOK;
+use book::refusals::SHORT_BUFFER;
 use c_read::each_within;
 use c_read::held;
 use c_write::put_back;
@@ -35,11 +38,11 @@ pub fn read_into(book: &mut [u8], archive: &[u8], place: &mut u64) -> u8
     let ok = w.ok;
     if !ok {
         *place = w.place as u64;
-        return 13;
+        return NO_ARCHIVE;
     }
     let n = archive.len();
     if book.len() < 8 + n {
-        return 12;
+        return SHORT_BUFFER;
     }
     let at = put_number(&mut *book, 0, n as u64);
     put_bytes(book, at, archive);
@@ -53,11 +56,11 @@ pub fn write_from(book: &[u8], archive: &mut [u8], length: &mut u64) -> u8
     let h = held(book);
     let ok = h.ok;
     if !ok {
-        return 1;
+        return NO_BOOK;
     }
     let n = size_archive(h.book);
     if archive.len() < n {
-        return 12;
+        return SHORT_BUFFER;
     }
     write_book(archive, h.book);
     *length = n as u64;

@@ -2,6 +2,7 @@
 use archive_size::size_archive;
 use archive_write::write_book;
 use book::BookData;
+use book::refusals::SHORT_BUFFER;
 use c_answer::put_answer;
 use codec_answers::value::refusal_number;
 use codec_forms::write::put_bytes;
@@ -21,7 +22,7 @@ pub fn put_back(number: u8, next: BookData, book: &mut [u8]) -> u8
 {
     let n = size_archive(next);
     if book.len() < 8 + n {
-        return 12;
+        return SHORT_BUFFER;
     }
     let at = put_number(&mut *book, 0, n as u64);
     write_book(&mut book[at..], next);
@@ -34,10 +35,10 @@ pub fn put_both(number: u8, next: BookData, l: &[u8], book: &mut [u8], answer: &
 {
     let n = size_archive(next);
     if book.len() < 8 + n {
-        return 12;
+        return SHORT_BUFFER;
     }
     if answer.len() < l.len() {
-        return 12;
+        return SHORT_BUFFER;
     }
     let at = put_number(&mut *book, 0, n as u64);
     write_book(&mut book[at..], next);
