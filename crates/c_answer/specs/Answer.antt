@@ -8,6 +8,7 @@ use lib.ListN.{length}
 use borrow.Author.Tests.{le-leb, lt-leb}
 use Rattle.base_sha256.specs.Fips.{sha256Of}
 use Rattle.base_coin_string.specs.Coin.{coinIdOf}
+use Rattle.book.specs.Refusals as refusals
 use Rattle.codec_forms.specs.Wire.{overlay}
 use Rattle.codec_forms.specs.Puts.{Puts, puts-overlay}
 
@@ -23,7 +24,7 @@ declined n a = record { number = n; answer = a }
 -- the answer l at the front of a; 12, and nothing changes, where it does not fit
 unfoldable pub answerIn : List ℕ → List ℕ → Answered
 unfolding overlay
-answerIn l a = cond (leb (length l) (length a)) (record { number = 0; answer = overlay l a }) (declined 12 a)
+answerIn l a = cond (leb (length l) (length a)) (record { number = 0; answer = overlay l a }) (declined refusals.shortBuffer a)
 
 -- the digest (FIPS 180-4) of the bytes s, 32 bytes
 abbrev pub digestIn : List ℕ → List ℕ → Answered
@@ -32,7 +33,7 @@ digestIn s a = answerIn (sha256Of s) a
 -- the id of a coin string ("Coin id: SHA-256 of the coin string"); more than 73 bytes are none, and are refused 3
 unfoldable pub coinIdIn : List ℕ → List ℕ → Answered
 unfolding answerIn
-coinIdIn s a = cond (leb (length s) 73) (answerIn (coinIdOf s) a) (declined 3 a)
+coinIdIn s a = cond (leb (length s) 73) (answerIn (coinIdOf s) a) (declined refusals.badValue a)
 
 -- what such a function leaves
 pub record GivesAnswer (l : Answered) (n : ℕ) (a : List ℕ) : Type 0 where
@@ -48,23 +49,23 @@ unfolding sha256Of
 digest-length s = refl
 
 module _ (l a : List ℕ) where
-  pub answer-short : length a < length l → GivesAnswer (answerIn l a) 12 a
+  pub answer-short : length a < length l → GivesAnswer (answerIn l a) refusals.shortBuffer a
   unfolding answerIn
   answer-short h =
-      answer-as (sym (ap (λ (t : Bool). cond t (record { number = 0; answer = overlay l a }) (declined 12 a)) (lt-leb (length l) (length a) h)))
+      answer-as (sym (ap (λ (t : Bool). cond t (record { number = 0; answer = overlay l a }) (declined refusals.shortBuffer a)) (lt-leb (length l) (length a) h)))
       (record { number = refl; answer = refl })
 
   pub answer-put : {a′ : List ℕ} {e : ℕ} → length l ≤ length a → Puts l 0 a a′ e → GivesAnswer (answerIn l a) 0 a′
   unfolding answerIn
   answer-put h p =
-      answer-as (sym (ap (λ (t : Bool). cond t (record { number = 0; answer = overlay l a }) (declined 12 a)) (le-leb (length l) (length a) h)))
+      answer-as (sym (ap (λ (t : Bool). cond t (record { number = 0; answer = overlay l a }) (declined refusals.shortBuffer a)) (le-leb (length l) (length a) h)))
       (record { number = refl; answer = puts-overlay p .1 })
 
 module _ (s a : List ℕ) where
-  pub no-coin : 73 < length s → GivesAnswer (coinIdIn s a) 3 a
+  pub no-coin : 73 < length s → GivesAnswer (coinIdIn s a) refusals.badValue a
   unfolding coinIdIn
-  no-coin h = answer-as (sym (ap (λ (t : Bool). cond t (answerIn (coinIdOf s) a) (declined 3 a)) (lt-leb (length s) 73 h))) (record { number = refl; answer = refl })
+  no-coin h = answer-as (sym (ap (λ (t : Bool). cond t (answerIn (coinIdOf s) a) (declined refusals.badValue a)) (lt-leb (length s) 73 h))) (record { number = refl; answer = refl })
 
   pub coin-told : {n : ℕ} {a′ : List ℕ} → length s ≤ 73 → GivesAnswer (digestIn s a) n a′ → GivesAnswer (coinIdIn s a) n a′
   unfolding coinIdIn
-  coin-told h g = answer-as (sym (ap (λ (t : Bool). cond t (answerIn (coinIdOf s) a) (declined 3 a)) (le-leb (length s) 73 h))) g
+  coin-told h g = answer-as (sym (ap (λ (t : Bool). cond t (answerIn (coinIdOf s) a) (declined refusals.badValue a)) (le-leb (length s) 73 h))) g

@@ -1,5 +1,7 @@
 // An answer alone into lent bytes: that of a call that only looks at the book, and of the two functions that have no book.
 use base_sha256::sha256;
+use book::refusals::BAD_VALUE;
+use book::refusals::SHORT_BUFFER;
 use codec_forms::write::put_bytes;
 ghost use Rattle.c_answer.specs.Answer.{GivesAnswer, answerIn, digestIn, coinIdIn};
 
@@ -8,7 +10,7 @@ pub fn put_answer(l: &[u8], answer: &mut [u8]) -> u8
     ensures { λ r. ⌜ GivesAnswer (answerIn (now (l .entry)) (now (answer .entry))) r (now (answer .exit)) ⌝ }
 {
     if answer.len() < l.len() {
-        return 12;
+        return SHORT_BUFFER;
     }
     put_bytes(answer, 0, l);
     0
@@ -27,7 +29,7 @@ pub fn put_coin_id(coin: &[u8], id: &mut [u8]) -> u8
     ensures { λ r. ⌜ GivesAnswer (coinIdIn (now (coin .entry)) (now (id .entry))) r (now (id .exit)) ⌝ }
 {
     if 73 < coin.len() {
-        return 3;
+        return BAD_VALUE;
     }
     put_digest(coin, id)
 }

@@ -3,6 +3,7 @@
 use archive_bundle_write::write::append_height;
 use book::Ids64;
 use book::OptionalHeight;
+use book_answers::SubmissionAttemptStatus;
 use c_write::settle;
 use c_write::tell;
 use codec_answers::part::append_flag;
@@ -12,7 +13,6 @@ use part_replies::CallAnswer;
 use part_replies::FlagReply;
 use part_replies::IdsReply;
 use part_replies::StatusReply;
-use part_replies::SubmissionAttemptStatus;
 ghost use Rattle.codec_forms.specs.Wire.{be};
 ghost use Rattle.archive_bundle_form.specs.Forms.{encodeHeight};
 ghost use Rattle.codec_answers.specs.Forms.{flagNumber, statusNumber, encodeIds};

@@ -1,7 +1,7 @@
 -- The tests of `finalize_attempt` in their order: 3, then those of a live token: 5, 7, 8, 9.
 use Prim.Native.Nat.{ℕ}
 use mathlib.Core.Bool.{Bool, true, false, cond, not}
-use mathlib.Core.Option.{none}
+use mathlib.Core.Option.{Option, none}
 use mathlib.Core.Path.{_≡_, refl, sym, ap, _∙_}
 use Rattle.base_lists.specs.Bytes.{eqs}
 use Rattle.book.specs.Model.{Book}
