@@ -44,6 +44,81 @@ worked() {
     printf '\001'; num 007; printf '\001'; num 144; printf '\001'; num 001
 }
 
+# the SHA-256 of a file, as 32 bytes
+hash() {
+    printf "$(sha256sum <"$1" | awk '
+        function digit(d) { return index("0123456789abcdef", d) - 1 }
+        { for (i = 1; i < 64; i += 2) printf "\\%03o", 16 * digit(substr($1, i, 1)) + digit(substr($1, i + 1, 1)) }')"
+}
+
+# a spend of a coin of 1000 with outputs of 600 and 400, and one of a wallet's coin of 100 with an output of 75
+stage() { printf '\102'; rep 021 32; rep 022 32; printf '\003\350'; rep 023 32; printf '\001\002'; rep 024 32; rep 000 6; printf '\002\130'; rep 025 32; rep 000 6; printf '\001\220'; }
+wallet() { printf '\101'; rep 026 32; rep 027 32; printf '\144'; rep 030 32; printf '\001\001'; rep 031 32; num 113; }
+attach() { printf '\002'; rep 032 32; num 031; }
+expiry() { printf '\001'; num 120; }
+
+# fingerprints that agree: base is the stage payment, fee the one with the wallet's spend, intent that of base, expiry and fee intent
+{ printf '\001'; stage; } >base
+{ printf '\002'; stage; wallet; } >fee
+{ cat base; expiry; attach; } >intent
+{ cat base; expiry; printf '\001'; } >feeless
+
+# a payment that has landed, without a fee: its attempt is set aside and acknowledged
+landed() {
+    printf '\002'; num 006; num 002
+    printf '\001'; num 001; printf '\000'
+    printf '\001'; num 005; printf '\000'; hash base; printf '\001'; hash base
+    hash feeless; cat base; printf '\000\001\001\001'; hash base; printf '\002'; expiry
+    printf '\000\001'; num 001; printf '\000\000'
+}
+
+# a payment with its fee attached: drained for the base bundle and finalised with the fee bundle, only the base acknowledged
+attached() {
+    printf '\002'; num 007; num 002
+    printf '\001'; num 001
+    printf '\001'; num 006; printf '\001'; hash base; printf '\001'; hash fee
+    printf '\001'; num 005; printf '\000'; hash base; printf '\001'; hash base
+    hash intent; cat base; printf '\001'; cat fee; num 031; printf '\002'; attach; printf '\001'; hash base; printf '\000'; expiry
+    rep 000 4
+}
+
+# the same by hand: no fingerprint agrees
+by_hand() {
+    printf '\002'; num 007; num 002
+    printf '\001'; num 001
+    printf '\001'; num 006; printf '\001'; rep 061 32; printf '\001'; rep 062 32
+    printf '\001'; num 005; printf '\000'; hash intent; printf '\001'; hash opened
+    hash feeless; cat base; printf '\001'; cat fee; num 031; printf '\002'; attach; printf '\001'; rep 063 32; printf '\000'; expiry
+    rep 000 4
+}
+
+# a queue alone: one intent twice, another with a fee to attach, and an entry of a submission that is not retained
+queued() { cat base; expiry; printf '\001\000\000'; }
+queue_only() {
+    printf '\002'; num 005; num 001
+    printf '\000\004'
+    printf '\000'; queued
+    printf '\000'; cat fee; expiry; attach; printf '\000\000'
+    printf '\000'; queued
+    printf '\001'; num 011; printf '\001'; head -c 100 base | tail -c 99; printf '\000\000\001\000\000'
+    rep 000 3
+}
+
+# every state: landed, an input spent, acknowledged, under way, queued by its id, queued by its intent, retained only
+entry() { cat base; printf '\000\001\001'; printf "$1"; shift; for part; do cat "$part"; done; }
+states() {
+    printf '\002'; num 006; num 010
+    printf '\006'
+    num 001; printf '\000\000'; hash feeless; entry '\000\002\000'
+    num 002; printf '\000\000'; hash feeless; entry '\000\001\000'
+    num 003; printf '\000\000'; hash feeless; cat base; printf '\000\001\001\001'; hash base; printf '\000\000'
+    num 004; printf '\001'; num 005; printf '\000'; hash base; printf '\000\000'; hash feeless; entry '\000\000\000'
+    num 005; printf '\000\000'; rep 064 32; entry '\000\000\000'
+    num 006; printf '\000\000'; rep 065 32; entry '\000\000\000'
+    printf '\001\001'; num 005; queued
+    rep 000 3
+}
+
 # the largest archive: every count and every number as large as may be
 nums() { rep 377 7; printf "\\$1"; }
 big_bundle() {
@@ -121,6 +196,23 @@ same "$here/expected/worked-hex" out "the same from standard input, with its byt
 printf '\002' >opened; num 005 >>opened; num 001 >>opened; rep 000 5 >>opened
 "$show" opened >out
 same "$here/expected/opened" out "a book just opened"
+
+# books made here, and the sample kitchen's
+landed >landed
+attached >attached
+by_hand >by-hand
+queue_only >queue-only
+states >states
+for book in landed attached by-hand queue-only states; do
+    "$show" $book >out
+    same "$here/expected/$book" out "the text of $book"
+done
+if [ -f "$root/target/kitchen.archive" ]; then
+    "$show" "$root/target/kitchen.archive" >out
+    same "$here/expected/kitchen" out "the sample kitchen"
+else
+    echo "show_archive: there is no target/kitchen.archive, the sample kitchen is not shown"
+fi
 
 big >largest
 "$show" largest >out

@@ -1,0 +1,5 @@
+pub mod Amount
+pub mod Payments
+pub mod Tally
+pub mod Laws
+pub mod Text
