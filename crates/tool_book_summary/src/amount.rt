@@ -1,7 +1,7 @@
 // Sums of amounts, which one u64 need not hold, and what a bundle pays out.
 ghost use mathlib.Core.Path.{_≡_};
 ghost use lib.ListN.{take};
-ghost use Rattle.base_lists.specs.Lists.{foldl};
+ghost use Rattle.base_lists.specs.Lists.{foldl, flatMap};
 ghost use Rattle.tool_book_summary.specs.Amount.{sumOf, addSum, addAmount, addOutput, amountsOf, amountOut};
 use crate::Sum;
 use base_lists::at_most;
@@ -61,18 +61,26 @@ fn add_spend(s: Sum, c: CoinSpend) -> Sum
     s
 }
 
-// What the readable spends of a bundle pay out.
-pub fn amount_out(b: SpendBundle) -> Sum
-    ensures { λ r. ⌜ r ≡ amountOut b ⌝ }
+// The readable ones of the first n spends.
+fn add_spends(a: [CoinSpend; 4], n: usize) -> Sum
+    ensures { λ r. ⌜ r ≡ foldl addAmount (sumOf 0) (flatMap amountsOf (take n a)) ⌝ }
 {
-    let spends = b.spends;
-    let k = at_most(b.count as usize, 4);
+    let k = at_most(n, 4);
     let mut acc = sum_of(0);
     let mut i: usize = 0;
     while i < k {
-        let s = spends[i];
+        let s = a[i];
         acc = add_spend(acc, s);
         i += 1;
     }
     acc
+}
+
+// What a bundle pays out, as far as its runs can be read.
+pub fn amount_out(b: SpendBundle) -> Sum
+    ensures { λ r. ⌜ r ≡ amountOut b ⌝ }
+{
+    let spends = b.spends;
+    let n = b.count as usize;
+    add_spends(spends, n)
 }

@@ -1,64 +1,12 @@
--- What is added and the spends that are left make the whole fold.
-use Rattle.tool_book_summary.specs.Amount.{sumOf, addAmount, amountsOf, amountOut}
-use Rattle.tool_book_summary.specs.Laws.{flat-turn, flat-done}
-use Rattle.book.specs.declared.CoinSpend.{CoinSpend}
-use Rattle.tool_book_summary.specs.declared.Sum.{Sum}
-use mathlib.Core.List.{List}
-use mathlib.Core.Path.{_≡_, refl, sym, ap, _∙_}
-use Prim.Native.Nat.{ℕ, _+_, _-_, _≤_, _<_}
-use native.Mathlib.Omega.{arith}
-use lib.ListN.{length, take, drop}
-use Rattle.base_lists.specs.Lists.{anyb, foldl, flatMap}
-use Rattle.base_lists.specs.Laws.{counted-step, counted-end, take-cut}
+-- The spends of the bundle are what `add_spends` adds.
+use Rattle.tool_book_summary.specs.Amount.{amountOut}
 use borrow.Author.Needs.{needs}
 use Rattle.tool_book_summary.proofs.amount.amount_out.Statement.{statement}
 use Rattle.tool_book_summary.proofs.amount.amount_out.Tie as tie
 
-abbrev Inv-loop : tie.InvT-loop
-Inv-loop a k acc₀ i₀ acc i = (foldl addAmount acc (flatMap amountsOf (drop i (take k a))) ≡ foldl addAmount acc₀ (flatMap amountsOf (take k a))) × (i ≤ k) × (k ≤ 4)
-
-abbrev μ-loop : tie.MeasureT-loop
-μ-loop a k acc₀ i₀ acc i = k - i
-
-loop-holds : tie.Need-loop-holds Inv-loop μ-loop
-loop-holds c = (refl, omega arith, omega (arith, c .before .at-most .ensures))
-
-loop-again : tie.Need-loop-again Inv-loop μ-loop
-loop-again c =
-    let at-loop-test = c .before .before in
-    let at-loop = at-loop-test .before in
-    let at-at-most = at-loop .before .before in
-    let at-args = at-at-most .before .before .before in
-    let start = at-args .args in let l : length (start .b .spends) ≡ 4 = search needs in let inv = at-loop .loop .inv in
-    (flat-turn addAmount amountsOf (at-loop .loop .acc) (counted-step (start .b .spends) (at-at-most .at-most .result) (at-loop .loop .i) _ (at-loop-test .loop-test .taken) (omega (arith, l, inv .2))) (c .add-spend .ensures)
-    (inv .0), omega arith, inv .2)
-
-returns : tie.Need-returns Inv-loop μ-loop
+returns : tie.Need-returns
 unfolding amountOut
-returns c =
-    let at-loop = c .before in
-    let at-sum-of = at-loop .before in
-    let at-at-most = at-sum-of .before in
-    let at-args = at-at-most .before .before .before in
-    let start = at-args .args in let l : length (start .b .spends) ≡ 4 = search needs in let inv = at-loop .loop .inv in
-    flat-done addAmount amountsOf (at-loop .loop .acc) (counted-end (start .b .spends) (at-at-most .at-most .result) (at-loop .loop .i) (c .loop-test .left) (omega (arith, l, inv .2))) (inv .0)
-    ∙ ap (λ (z : Sum). foldl addAmount z (flatMap amountsOf (take (at-at-most .at-most .result) (start .b .spends)))) (at-sum-of .sum-of .ensures)
-    ∙ ap (λ (x : List CoinSpend). foldl addAmount (sumOf 0) (flatMap amountsOf x)) (take-cut 4 (start .b .count) (at-at-most .at-most .result) (start .b .spends) l (at-at-most .at-most .ensures))
+returns c = c .add-spends .ensures
 
 pub amount-out-spec : {M : Type 1} → statement M
-amount-out-spec =
-    tie.close
-    (tie.spec
-    Inv-loop
-    μ-loop
-    (λ c. search needs)
-    (λ c κs. search needs)
-    (λ c κs. search needs)
-    loop-holds
-    (λ c. search needs)
-    (λ c. search needs)
-    (λ c κs. search needs)
-    (λ c. search needs)
-    (λ c. search needs)
-    loop-again
-    returns)
+amount-out-spec = tie.close (tie.spec (λ c. search needs) (λ c κs. search needs) returns)

@@ -2,7 +2,7 @@
 use Rattle.tool_book_summary.specs.Payments.{feeOf}
 use Rattle.tool_book_summary.specs.Laws.{fee-by}
 use Rattle.tool_book_summary.specs.declared.PaymentFee.the-variants.{Applied}
-use Rattle.rules.specs.Parts.{currentAppliedFee}
+use Rattle.rules.specs.Parts.{currentAppliedFee, feeUnresolved}
 use mathlib.Core.Path.{_≡_, refl, sym, ap, _∙_}
 use borrow.Author.Needs.{needs}
 use Rattle.tool_book_summary.proofs.payments.fee_of.Statement.{statement}
@@ -10,7 +10,7 @@ use Rattle.tool_book_summary.proofs.payments.fee_of.Tie as tie
 
 returns : tie.Need-returns
 unfolding feeOf
-returns c = ap Applied (c .current-applied-fee .ensures) ∙ fee-by (currentAppliedFee (c .before .before .args .e)) (c .before .if1 .taken) refl
+returns c = ap Applied (c .current-applied-fee .ensures) ∙ fee-by {u = feeUnresolved (c .before .before .args .e)} (currentAppliedFee (c .before .before .args .e)) (c .before .if1 .taken) refl
 
 returns-2 : tie.Need-returns-2
 unfolding feeOf
