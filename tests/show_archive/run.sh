@@ -219,6 +219,38 @@ big >largest
 same_sum largest 353d40b45e6f1715e119a830f58b3dc8c0890f8ef1b42ee193ef1bcc18c77d24 "the largest archive"
 same_sum out 5ede1286b50726e71bc44f2104ca504860f3acd51de26436de608a2a7cc3deea "all of its text"
 
+# the pages that the installed script makes of the text: its own for each book, well formed and with every line of the text
+sed "s|@LIBEXEC@|$(dirname "$show")|" "$root/tools/show_archive.in" >script
+head -c 100 worked >cut
+for book in worked opened landed attached by-hand queue-only states largest cut; do
+    sh script $book >text
+    status=$?
+    sh script $book --html >$book.html
+    [ $? = $status ] || { echo "FAILED: the exit status of the page of $book"; failed=1; }
+    if command -v python3 >/dev/null; then
+        if python3 "$here/page.py" text $book.html; then echo "ok: the page of $book"; else echo "FAILED: the page of $book"; failed=1; fi
+    fi
+done
+command -v python3 >/dev/null || echo "show_archive: there is no python3 here, the pages are not parsed"
+sh script --html --hex worked >page
+sh script --hex worked >text
+if command -v python3 >/dev/null; then python3 "$here/page.py" text page || failed=1; fi
+same "$here/expected/attached.html" attached.html "the page of attached, as it was"
+browser=
+for name in chromium chromium-browser google-chrome; do command -v $name >/dev/null && browser=$name; done
+if [ -n "$browser" ]; then
+    # what a browser makes of it: the same words, and a document to print
+    $browser --headless --no-sandbox --disable-gpu --dump-dom "file://$work/attached.html" >dom 2>/dev/null
+    if grep -q '<td><span>  id </span>1<span>' dom && $browser --headless --no-sandbox --disable-gpu --print-to-pdf="$work/attached.pdf" "file://$work/attached.html" 2>/dev/null && [ -s attached.pdf ]; then
+        echo "ok: the page in $browser"
+    else
+        echo "FAILED: the page in $browser"
+        failed=1
+    fi
+else
+    echo "show_archive: there is no chromium here, the page is not opened in a browser"
+fi
+
 # refusals: one for each rule
 refused() {
     echo "== $1"

@@ -8,18 +8,18 @@ use book::ReplayEpoch;
 use book::SubmittedTx;
 use codec_append::append_bytes;
 use libc::STDOUT_FILENO;
-use tool_book_summary::Payment;
-use tool_book_summary::payments::queued_payment;
-use tool_book_summary::payments::retained_payment;
 use tool_book_summary::queue::is_new;
-use tool_book_summary::text::append_payment;
-use tool_book_summary::text::append_totals;
+use tool_book_summary::tally::payment_of;
 use tool_book_summary::tally::totals;
 use tool_book_text::entry::append_delivery;
 use tool_book_text::entry::append_ids;
 use tool_book_text::entry::append_submission;
 use tool_book_text::entry::append_tokens;
 use tool_book_text::words::append_height;
+use tool_payments::Payment;
+use tool_payments::payments::queued_payment;
+use tool_payments::text::append_payment;
+use tool_payments::text::append_totals;
 use tool_text::append_hex_line;
 use tool_text::append_number_line;
 
@@ -188,7 +188,7 @@ fn show_retained_payments(
     let mut i: usize = 0;
     while i < k {
         let t = submitted[i];
-        show_payment(retained_payment(t, pending, m));
+        show_payment(payment_of(t, pending, m));
         i += 1;
     }
 }
@@ -234,12 +234,7 @@ fn show_no_payments(n: usize, m: usize) {
 }
 
 // The payments, one to a line, and their totals.
-fn show_payments(
-    submitted: [SubmittedTx; 16],
-    n: usize,
-    pending: [PendingDelivery; 16],
-    m: usize,
-) {
+fn show_payments(submitted: [SubmittedTx; 16], n: usize, pending: [PendingDelivery; 16], m: usize) {
     io::write_all(STDOUT_FILENO, b"\npayments\n");
     show_retained_payments(submitted, n, pending, m);
     show_queued_payments(submitted, n, pending, m);

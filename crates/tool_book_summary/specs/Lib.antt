@@ -1,5 +1,3 @@
-pub mod Amount
-pub mod Payments
+pub mod Queue
 pub mod Tally
 pub mod Laws
-pub mod Text

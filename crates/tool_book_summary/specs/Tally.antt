@@ -1,51 +1,21 @@
 -- All payments of a book in totals.
-use mathlib.Core.Bool.{Bool, true, false, cond}
+use mathlib.Core.Bool.{cond}
 use mathlib.Core.List.{List, [], _∷_}
-use Prim.Native.Nat.{ℕ, _+_, _%_, _^_}
-use lib.ListN.{getD, set, replicate}
-use Rattle.base_lists.specs.Lists.{foldl}
+use Rattle.base_lists.specs.Lists.{anyb, foldl}
 use Rattle.book.specs.declared.SubmittedTx.{SubmittedTx}
 use Rattle.book.specs.declared.PendingDelivery.{PendingDelivery}
-use Rattle.tool_book_summary.specs.Amount.{sumOf, addSum}
-use Rattle.tool_book_summary.specs.Payments.{isNew, retainedPayment, queuedPayment}
-use Rattle.tool_book_summary.specs.declared.Payment.{Payment}
-use Rattle.tool_book_summary.specs.declared.PaymentState.{PaymentState}
-use Rattle.tool_book_summary.specs.declared.PaymentState.the-variants.{HasLanded, HasInputSpent, Acknowledged, UnderWay, Queued, RetainedOnly}
-use Rattle.tool_book_summary.specs.declared.PaymentFee.{PaymentFee}
-use Rattle.tool_book_summary.specs.declared.PaymentFee.the-variants.{Open, NoFee, Applied}
-use Rattle.tool_book_summary.specs.declared.Totals.{Totals}
+use Rattle.tool_payments.specs.Payments.{retainedPayment, queuedPayment}
+use Rattle.tool_payments.specs.Counts.{noTotals, addPayment}
+use Rattle.tool_payments.specs.declared.Payment.{Payment}
+use Rattle.tool_payments.specs.declared.Totals.{Totals}
+use Rattle.tool_book_summary.specs.Queue.{isFor, isNew}
 
--- the place of a state's count
-abbrev pub stateNumber : PaymentState → ℕ
-stateNumber HasLanded = 0
-stateNumber HasInputSpent = 1
-stateNumber Acknowledged = 2
-stateNumber UnderWay = 3
-stateNumber Queued = 4
-stateNumber RetainedOnly = 5
+-- the payment that a submission is, beside the queue ds
+abbrev pub paymentOf : List PendingDelivery → SubmittedTx → Payment
+paymentOf ds x = retainedPayment (anyb (isFor x) ds) x
 
-abbrev pub appliedFee : PaymentFee → ℕ
-appliedFee Open = 0
-appliedFee NoFee = 0
-appliedFee (Applied n) = n
-
--- a count stays below 33, so the remainder changes nothing
-abbrev pub oneMore : ℕ → ℕ
-oneMore n = n % 2 ^ 32 + 1
-
-abbrev pub noTotals : Totals
-noTotals = record { counts = replicate 6 0; amount = sumOf 0; fees = sumOf 0 }
-
-unfoldable pub addPayment : Totals → Payment → Totals
-addPayment t p = record {
-  counts = set (t .counts) (stateNumber (p .state)) (oneMore (getD (t .counts) (stateNumber (p .state)) 0));
-  amount = addSum (t .amount) (p .amount);
-  fees = addSum (t .fees) (sumOf (appliedFee (p .fee)));
-}
-
--- a retained submission, beside the queue ds
 abbrev pub addRetained : List PendingDelivery → Totals → SubmittedTx → Totals
-addRetained ds t x = addPayment t (retainedPayment ds x)
+addRetained ds t x = addPayment t (paymentOf ds x)
 
 -- a queue entry, beside the retained submissions, before the rest of the queue
 abbrev pub addNew : List SubmittedTx → List PendingDelivery → Totals → PendingDelivery → Totals

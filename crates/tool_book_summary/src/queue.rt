@@ -4,7 +4,7 @@ ghost use lib.ListN.{take, drop};
 ghost use Rattle.base_lists.specs.Bytes.{eqs};
 ghost use Rattle.base_lists.specs.Lists.{anyb};
 ghost use Rattle.rules.specs.Parts.{intentOf};
-ghost use Rattle.tool_book_summary.specs.Payments.{isFor, sameNew, isTaken, isNew};
+ghost use Rattle.tool_book_summary.specs.Queue.{isFor, sameNew, isTaken, isNew};
 use base_lists::at_most;
 use base_lists::same32;
 use book::OptionalId;

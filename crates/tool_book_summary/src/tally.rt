@@ -1,79 +1,26 @@
 // All payments of a book in totals.
 ghost use mathlib.Core.Path.{_≡_};
-ghost use Prim.Native.Nat.{_<_};
 ghost use lib.ListN.{take, drop};
 ghost use Rattle.base_lists.specs.Lists.{foldl};
-ghost use Rattle.tool_book_summary.specs.Tally.{stateNumber, appliedFee, oneMore, noTotals, addPayment, addRetained, addNew, addQueued, totalsOf};
-use crate::Payment;
-use crate::PaymentFee;
-use crate::PaymentState;
-use crate::Totals;
-use crate::amount::add_sum;
-use crate::amount::sum_of;
-use crate::payments::queued_payment;
-use crate::payments::retained_payment;
+ghost use Rattle.tool_book_summary.specs.Tally.{paymentOf, addRetained, addNew, addQueued, totalsOf};
 use crate::queue::is_new;
+use crate::queue::waits;
 use base_lists::at_most;
 use book::PendingDelivery;
 use book::SubmittedTx;
+use tool_payments::Payment;
+use tool_payments::Totals;
+use tool_payments::counts::add_payment;
+use tool_payments::counts::no_totals;
+use tool_payments::payments::queued_payment;
+use tool_payments::payments::retained_payment;
 
-fn state_number(s: PaymentState) -> usize
-    ensures { λ r. ⌜ (r ≡ stateNumber s) × (r < 6) ⌝ }
+// The payment that a submission is, beside the first m queue entries.
+pub fn payment_of(t: SubmittedTx, pending: [PendingDelivery; 16], m: usize) -> Payment
+    ensures { λ r. ⌜ r ≡ paymentOf (take m pending) t ⌝ }
 {
-    match s {
-        PaymentState::HasLanded => 0,
-        PaymentState::HasInputSpent => 1,
-        PaymentState::Acknowledged => 2,
-        PaymentState::UnderWay => 3,
-        PaymentState::Queued => 4,
-        PaymentState::RetainedOnly => 5,
-    }
-}
-
-fn applied_fee(f: PaymentFee) -> u64
-    ensures { λ r. ⌜ r ≡ appliedFee f ⌝ }
-{
-    match f {
-        PaymentFee::Open => 0,
-        PaymentFee::NoFee => 0,
-        PaymentFee::Applied(n) => n,
-    }
-}
-
-fn one_more(n: u64) -> u64
-    ensures { λ r. ⌜ r ≡ oneMore n ⌝ }
-{
-    n % 0x1_0000_0000 + 1
-}
-
-fn no_totals() -> Totals
-    ensures { λ r. ⌜ r ≡ noTotals ⌝ }
-{
-    Totals {
-        counts: [0; 6],
-        amount: sum_of(0),
-        fees: sum_of(0),
-    }
-}
-
-// One payment more.
-fn add_payment(t: Totals, p: Payment) -> Totals
-    ensures { λ r. ⌜ r ≡ addPayment t p ⌝ }
-{
-    let state = p.state;
-    let fee = p.fee;
-    let k = state_number(state);
-    let paid = p.amount;
-    let fee_sum = sum_of(applied_fee(fee));
-    let amount = t.amount;
-    let fees = t.fees;
-    let mut counts = t.counts;
-    counts[k] = one_more(counts[k]);
-    Totals {
-        counts,
-        amount: add_sum(amount, paid),
-        fees: add_sum(fees, fee_sum),
-    }
+    let queued = waits(t, pending, m);
+    retained_payment(t, queued)
 }
 
 // The payments that the first n submissions are.
@@ -91,7 +38,7 @@ fn add_retained(
     let mut i: usize = 0;
     while i < k {
         let x = submitted[i];
-        acc = add_payment(acc, retained_payment(x, pending, m));
+        acc = add_payment(acc, payment_of(x, pending, m));
         i += 1;
     }
     acc

@@ -46,13 +46,7 @@ fn append_output(out: &mut [u8], at: usize, parent: [u8; 32], i: usize, o: Outpu
 }
 
 // The first n outputs.
-fn append_outputs(
-    out: &mut [u8],
-    at: usize,
-    parent: [u8; 32],
-    a: [Output; 4],
-    n: usize,
-) -> usize
+fn append_outputs(out: &mut [u8], at: usize, parent: [u8; 32], a: [Output; 4], n: usize) -> usize
     ensures { λ r. ⌜ Fits (eachFrom (outputText parent) 0 (take n a)) at (now (out .entry)) (now (out .exit)) r ⌝ }
 {
     let k = at_most(n, 4);

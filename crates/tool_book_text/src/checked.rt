@@ -41,11 +41,7 @@ fn append_agreement(out: &mut [u8], at: usize, base: bool, current: bool) -> usi
 {
     if base {
         if current {
-            return append_bytes(
-                out,
-                at,
-                b", agrees with base bundle and current variant\n",
-            );
+            return append_bytes(out, at, b", agrees with base bundle and current variant\n");
         }
         return append_bytes(out, at, b", agrees with the base bundle\n");
     }

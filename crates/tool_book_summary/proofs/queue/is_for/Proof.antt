@@ -1,5 +1,5 @@
 -- By the id of the queue entry, as `forBy` goes.
-use Rattle.tool_book_summary.specs.Payments.{forBy, isFor}
+use Rattle.tool_book_summary.specs.Queue.{forBy, isFor}
 use Rattle.rules.specs.Parts.{intentOf}
 use mathlib.Core.Path.{_≡_, refl, sym, ap, _∙_}
 use borrow.Author.Needs.{needs}

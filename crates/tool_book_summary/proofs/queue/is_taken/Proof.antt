@@ -1,5 +1,5 @@
 -- What was found and what is left say what all submissions say.
-use Rattle.tool_book_summary.specs.Payments.{isFor}
+use Rattle.tool_book_summary.specs.Queue.{isFor}
 use Rattle.tool_book_summary.specs.Laws.{found-turn, found-done}
 use mathlib.Core.Bool.{Bool, true, false, cond, _||_}
 use mathlib.Core.List.{List}
@@ -30,9 +30,11 @@ loop-again c =
     let at-loop = at-loop-test .before in
     let at-at-most = at-loop .before in
     let at-args = at-at-most .before in
-    let start = at-args .args in let l : length (start .t2) ≡ 16 = search needs in let inv = at-loop .loop .inv in
-    (found-turn (λ (t : SubmittedTx). isFor t (start .d)) (at-loop .loop .found) (c .is-for .ensures)
-    (counted-step (start .t2) (at-at-most .at-most .result) (at-loop .loop .i) _ (at-loop-test .loop-test .taken) (omega (arith, l, inv .1))) (inv .0), inv .1)
+    let start = at-args .args in let l : length (start .t2) ≡ 16 = search needs in let inv = at-loop .loop .inv in (
+      found-turn (λ (t : SubmittedTx). isFor t (start .d)) (at-loop .loop .found) (c .is-for .ensures)
+          (counted-step (start .t2) (at-at-most .at-most .result) (at-loop .loop .i) _ (at-loop-test .loop-test .taken) (omega (arith, l, inv .1))) (inv .0),
+      inv .1,
+    )
 
 returns : tie.Need-returns Inv-loop μ-loop
 returns c =

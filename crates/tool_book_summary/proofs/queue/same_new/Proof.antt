@@ -1,5 +1,5 @@
 -- Both ids are tested and both hashes are what `intent_of` promises.
-use Rattle.tool_book_summary.specs.Payments.{sameNew}
+use Rattle.tool_book_summary.specs.Queue.{sameNew}
 use borrow.Author.Needs.{needs}
 use Rattle.tool_book_summary.proofs.queue.same_new.Statement.{statement}
 use Rattle.tool_book_summary.proofs.queue.same_new.Tie as tie

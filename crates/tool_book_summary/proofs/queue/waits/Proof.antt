@@ -1,5 +1,5 @@
 -- What was found and what is left say what the whole queue says.
-use Rattle.tool_book_summary.specs.Payments.{isFor}
+use Rattle.tool_book_summary.specs.Queue.{isFor}
 use Rattle.tool_book_summary.specs.Laws.{found-turn, found-done}
 use mathlib.Core.Bool.{Bool, true, false, cond, _||_}
 use mathlib.Core.List.{List}

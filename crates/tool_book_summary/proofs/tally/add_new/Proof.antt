@@ -1,6 +1,6 @@
 -- By the test of `is_new`.
-use Rattle.tool_book_summary.specs.Tally.{addPayment}
-use Rattle.tool_book_summary.specs.Payments.{queuedPayment}
+use Rattle.tool_payments.specs.Counts.{addPayment}
+use Rattle.tool_payments.specs.Payments.{queuedPayment}
 use mathlib.Core.Bool.{Bool, cond}
 use mathlib.Core.Path.{_≡_, refl, sym, ap, _∙_}
 use borrow.Author.Needs.{needs}

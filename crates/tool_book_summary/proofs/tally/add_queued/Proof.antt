@@ -26,9 +26,12 @@ loop-again c =
     let at-loop = at-loop-test .before in
     let at-at-most = at-loop .before in
     let at-args = at-at-most .before in
-    let start = at-args .args in let inv = at-loop .loop .inv in
-    (queued-turn (take (start .n) (start .submitted)) (at-loop .loop .acc) (counted-step (start .t4) (at-at-most .at-most .result) (at-loop .loop .i) _ (at-loop-test .loop-test .taken) (omega (arith, inv .1, inv .2)))
-    (c .add-new .ensures) (inv .0), inv .1, inv .2)
+    let start = at-args .args in let inv = at-loop .loop .inv in (
+      queued-turn (take (start .n) (start .submitted)) (at-loop .loop .acc) (counted-step (start .t4) (at-at-most .at-most .result) (at-loop .loop .i) _ (at-loop-test .loop-test .taken) (omega (arith, inv .1, inv .2)))
+          (c .add-new .ensures) (inv .0),
+      inv .1,
+      inv .2,
+    )
 
 returns : tie.Need-returns Inv-loop μ-loop
 returns c =

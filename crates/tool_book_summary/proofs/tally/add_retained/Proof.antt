@@ -1,5 +1,6 @@
 -- What is counted and the submissions that are left make the whole fold.
-use Rattle.tool_book_summary.specs.Tally.{addPayment, addRetained}
+use Rattle.tool_payments.specs.Counts.{addPayment}
+use Rattle.tool_book_summary.specs.Tally.{addRetained}
 use Rattle.base_lists.specs.Laws.{fold-turn, fold-done}
 use mathlib.Core.Path.{_≡_, refl, sym, ap, _∙_}
 use Prim.Native.Nat.{ℕ, _+_, _-_, _≤_, _<_}
@@ -27,9 +28,12 @@ loop-again c =
     let at-loop = at-loop-test .before in
     let at-at-most = at-loop .before in
     let at-args = at-at-most .before in
-    let start = at-args .args in let inv = at-loop .loop .inv in
-    (fold-turn (addRetained (take (start .m) (start .pending))) (at-loop .loop .acc) (counted-step (start .t2) (at-at-most .at-most .result) (at-loop .loop .i) _ (at-loop-test .loop-test .taken) (omega (arith, inv .1, inv .2)))
-    (c .add-payment .ensures ∙ ap (addPayment (at-loop .loop .acc)) (at-retained-payment .retained-payment .ensures)) (inv .0), inv .1, inv .2)
+    let start = at-args .args in let inv = at-loop .loop .inv in (
+      fold-turn (addRetained (take (start .m) (start .pending))) (at-loop .loop .acc) (counted-step (start .t2) (at-at-most .at-most .result) (at-loop .loop .i) _ (at-loop-test .loop-test .taken) (omega (arith, inv .1, inv .2)))
+          (c .add-payment .ensures ∙ ap (addPayment (at-loop .loop .acc)) (at-retained-payment .payment-of .ensures)) (inv .0),
+      inv .1,
+      inv .2,
+    )
 
 returns : tie.Need-returns Inv-loop μ-loop
 returns c =
