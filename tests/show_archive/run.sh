@@ -62,6 +62,7 @@ expiry() { printf '\001'; num 120; }
 { printf '\002'; stage; wallet; } >fee
 { cat base; expiry; attach; } >intent
 { cat base; expiry; printf '\001'; } >feeless
+{ cat base; printf '\000\001'; } >endless
 
 # a payment that has landed, without a fee: its attempt is set aside and acknowledged
 landed() {
@@ -105,17 +106,19 @@ queue_only() {
 }
 
 # every state: landed, an input spent, acknowledged, under way, queued by its id, queued by its intent, retained only
-entry() { cat base; printf '\000\001\001'; printf "$1"; shift; for part; do cat "$part"; done; }
+entry() { cat base; printf '\000\001\001'; printf "$1"; }
 states() {
     printf '\002'; num 006; num 010
-    printf '\006'
+    printf '\007'
     num 001; printf '\000\000'; hash feeless; entry '\000\002\000'
     num 002; printf '\000\000'; hash feeless; entry '\000\001\000'
     num 003; printf '\000\000'; hash feeless; cat base; printf '\000\001\001\001'; hash base; printf '\000\000'
     num 004; printf '\001'; num 005; printf '\000'; hash base; printf '\000\000'; hash feeless; entry '\000\000\000'
     num 005; printf '\000\000'; rep 064 32; entry '\000\000\000'
     num 006; printf '\000\000'; rep 065 32; entry '\000\000\000'
-    printf '\001\001'; num 005; queued
+    num 007; printf '\000\000'; hash endless; entry '\000\000\000'
+    printf '\002\001'; num 005; queued
+    printf '\000'; cat endless; printf '\000\000'
     rep 000 3
 }
 
@@ -207,6 +210,16 @@ for book in landed attached by-hand queue-only states; do
     "$show" $book >out
     same "$here/expected/$book" out "the text of $book"
 done
+# the same again from a second source, which is written from docs/ARCHIVE.md
+if command -v python3 >/dev/null; then
+    for book in worked opened landed attached by-hand queue-only states "$full"; do
+        "$show" "$book" >out
+        python3 "$here/text.py" "$book" >text
+        same text out "the text of $(basename "$book"), against the one in Python"
+    done
+else
+    echo "show_archive: there is no python3 here, the texts are not compared with those in Python"
+fi
 if [ -f "$root/target/kitchen.archive" ]; then
     "$show" "$root/target/kitchen.archive" >out
     same "$here/expected/kitchen" out "the sample kitchen"
@@ -217,7 +230,7 @@ fi
 big >largest
 "$show" largest >out
 same_sum largest 353d40b45e6f1715e119a830f58b3dc8c0890f8ef1b42ee193ef1bcc18c77d24 "the largest archive"
-same_sum out 5ede1286b50726e71bc44f2104ca504860f3acd51de26436de608a2a7cc3deea "all of its text"
+same_sum out 19e1cf4051ede95568ed8977818ed691b15ba541abfd86199d65e0bd827cdad9 "all of its text"
 
 # the pages that the installed script makes of the text: its own for each book, well formed and with every line of the text
 sed "s|@LIBEXEC@|$(dirname "$show")|" "$root/tools/show_archive.in" >script

@@ -30,7 +30,8 @@ module _ {A : Type 0} (p : A → Bool) where
 
 -- the queue's totals: w is that of the whole
 module _ (ts : List SubmittedTx) where
-  pub queued-turn : {w : Totals} (acc : Totals) {acc′ : Totals} {x : PendingDelivery} {rest rest′ : List PendingDelivery} → rest ≡ x ∷ rest′ → acc′ ≡ addNew ts rest′ acc x → addQueued ts acc rest ≡ w → addQueued ts acc′ rest′ ≡ w
+  pub queued-turn : {w : Totals} (acc : Totals) {acc′ : Totals} {x : PendingDelivery} {rest rest′ : List PendingDelivery} → rest ≡ x ∷ rest′ → acc′ ≡ addNew ts rest′ acc x → addQueued ts acc rest ≡ w
+      → addQueued ts acc′ rest′ ≡ w
   queued-turn acc {acc′} {x} {rest} {rest′} e a h = ap (λ (t : Totals). addQueued ts t rest′) a ∙ sym (ap (addQueued ts acc) e) ∙ h
 
   pub queued-done : {w : Totals} (acc : Totals) {rest : List PendingDelivery} → rest ≡ [] → addQueued ts acc rest ≡ w → acc ≡ w

@@ -15,7 +15,9 @@ unfolding sumText
 returns c =
     let at-if1 = c .before .before .before .before in
     let at-args = at-if1 .before .before .before in
-    let start = at-args .args in fits-as (sym (ap (λ (b : Bool). cond b (decimal (start .s .low)) (decimal (start .s .high) ++ padded 18 (start .s .low))) (eq-eqb (start .s .high) 0 (at-if1 .if1 .taken)))) (c .before .before .append-decimal .ensures)
+    let start = at-args .args in
+    fits-as
+    (sym (ap (λ (b : Bool). cond b (decimal (start .s .low)) (decimal (start .s .high) ++ padded 18 (start .s .low))) (eq-eqb (start .s .high) 0 (at-if1 .if1 .taken)))) (c .before .before .append-decimal .ensures)
 
 returns-2 : tie.Need-returns-2
 unfolding sumText
@@ -23,7 +25,9 @@ returns-2 c =
     let at-append-decimal2 = c .before .before .before .before .before .before in
     let at-if1 = at-append-decimal2 .before .before in
     let at-args = at-if1 .before .before .before in
-    let start = at-args .args in fits-as (sym (ap (λ (b : Bool). cond b (decimal (start .s .low)) (decimal (start .s .high) ++ padded 18 (start .s .low))) (ne-eqb (start .s .high) 0 (at-if1 .if1 .left))))
+    let start = at-args .args in
+    fits-as
+    (sym (ap (λ (b : Bool). cond b (decimal (start .s .low)) (decimal (start .s .high) ++ padded 18 (start .s .low))) (ne-eqb (start .s .high) 0 (at-if1 .if1 .left))))
     (fits-join (at-append-decimal2 .append-decimal2 .ensures) (c .before .before .append-padded .ensures))
 
 pub append-sum-spec : {M : Type 1} → statement M
