@@ -37,6 +37,10 @@ run: lib target/bin/show_archive target/kitchen
 	@target/kitchen target/kitchen.archive
 	@echo
 	@target/bin/show_archive target/kitchen.archive
+	@sed 's|@LIBEXEC@|target/bin|' tools/show_archive.in >target/show_archive
+	@sh target/show_archive --html target/kitchen.archive >target/kitchen.html
+	@echo
+	@echo "The same as a page to print: target/kitchen.html"
 
 test:
 	@.ci/run

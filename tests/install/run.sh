@@ -43,6 +43,11 @@ shows 0 'archive of ' opened --hex
 grep -q '^00016 ' "$work/out"
 shows 0 'usage: ' --help
 shows 0 'usage: ' opened -h
+shows 0 '<!DOCTYPE html>' --html
+shows 0 '<!DOCTYPE html>' opened --hex --html
+shows 0 '<!DOCTYPE html>' --html -- --hex
+shows 1 '<!DOCTYPE html>' --html cut
+shows 2 '' --html nothing
 shows 1 'not an archive' cut
 shows 2 '' nothing
 grep -q '^not read: the file cannot be opened' "$work/err"

@@ -44,6 +44,84 @@ worked() {
     printf '\001'; num 007; printf '\001'; num 144; printf '\001'; num 001
 }
 
+# the SHA-256 of a file, as 32 bytes
+hash() {
+    printf "$(sha256sum <"$1" | awk '
+        function digit(d) { return index("0123456789abcdef", d) - 1 }
+        { for (i = 1; i < 64; i += 2) printf "\\%03o", 16 * digit(substr($1, i, 1)) + digit(substr($1, i + 1, 1)) }')"
+}
+
+# a spend of a coin of 1000 with outputs of 600 and 400, and one of a wallet's coin of 100 with an output of 75
+stage() { printf '\102'; rep 021 32; rep 022 32; printf '\003\350'; rep 023 32; printf '\001\002'; rep 024 32; rep 000 6; printf '\002\130'; rep 025 32; rep 000 6; printf '\001\220'; }
+wallet() { printf '\101'; rep 026 32; rep 027 32; printf '\144'; rep 030 32; printf '\001\001'; rep 031 32; num 113; }
+attach() { printf '\002'; rep 032 32; num 031; }
+expiry() { printf '\001'; num 120; }
+
+# fingerprints that agree: base is the stage payment, fee the one with the wallet's spend, intent that of base, expiry and fee intent
+{ printf '\001'; stage; } >base
+{ printf '\002'; stage; wallet; } >fee
+{ cat base; expiry; attach; } >intent
+{ cat base; expiry; printf '\001'; } >feeless
+{ cat base; printf '\000\001'; } >endless
+
+# a payment that has landed, without a fee: its attempt is set aside and acknowledged
+landed() {
+    printf '\002'; num 006; num 002
+    printf '\001'; num 001; printf '\000'
+    printf '\001'; num 005; printf '\000'; hash base; printf '\001'; hash base
+    hash feeless; cat base; printf '\000\001\001\001'; hash base; printf '\002'; expiry
+    printf '\000\001'; num 001; printf '\000\000'
+}
+
+# a payment with its fee attached: drained for the base bundle and finalised with the fee bundle, only the base acknowledged
+attached() {
+    printf '\002'; num 007; num 002
+    printf '\001'; num 001
+    printf '\001'; num 006; printf '\001'; hash base; printf '\001'; hash fee
+    printf '\001'; num 005; printf '\000'; hash base; printf '\001'; hash base
+    hash intent; cat base; printf '\001'; cat fee; num 031; printf '\002'; attach; printf '\001'; hash base; printf '\000'; expiry
+    rep 000 4
+}
+
+# the same by hand: no fingerprint agrees
+by_hand() {
+    printf '\002'; num 007; num 002
+    printf '\001'; num 001
+    printf '\001'; num 006; printf '\001'; rep 061 32; printf '\001'; rep 062 32
+    printf '\001'; num 005; printf '\000'; hash intent; printf '\001'; hash opened
+    hash feeless; cat base; printf '\001'; cat fee; num 031; printf '\002'; attach; printf '\001'; rep 063 32; printf '\000'; expiry
+    rep 000 4
+}
+
+# a queue alone: one intent twice, another with a fee to attach, and an entry of a submission that is not retained
+queued() { cat base; expiry; printf '\001\000\000'; }
+queue_only() {
+    printf '\002'; num 005; num 001
+    printf '\000\004'
+    printf '\000'; queued
+    printf '\000'; cat fee; expiry; attach; printf '\000\000'
+    printf '\000'; queued
+    printf '\001'; num 011; printf '\001'; head -c 100 base | tail -c 99; printf '\000\000\001\000\000'
+    rep 000 3
+}
+
+# every state: landed, an input spent, acknowledged, under way, queued by its id, queued by its intent, retained only
+entry() { cat base; printf '\000\001\001'; printf "$1"; }
+states() {
+    printf '\002'; num 006; num 010
+    printf '\007'
+    num 001; printf '\000\000'; hash feeless; entry '\000\002\000'
+    num 002; printf '\000\000'; hash feeless; entry '\000\001\000'
+    num 003; printf '\000\000'; hash feeless; cat base; printf '\000\001\001\001'; hash base; printf '\000\000'
+    num 004; printf '\001'; num 005; printf '\000'; hash base; printf '\000\000'; hash feeless; entry '\000\000\000'
+    num 005; printf '\000\000'; rep 064 32; entry '\000\000\000'
+    num 006; printf '\000\000'; rep 065 32; entry '\000\000\000'
+    num 007; printf '\000\000'; hash endless; entry '\000\000\000'
+    printf '\002\001'; num 005; queued
+    printf '\000'; cat endless; printf '\000\000'
+    rep 000 3
+}
+
 # the largest archive: every count and every number as large as may be
 nums() { rep 377 7; printf "\\$1"; }
 big_bundle() {
@@ -122,10 +200,71 @@ printf '\002' >opened; num 005 >>opened; num 001 >>opened; rep 000 5 >>opened
 "$show" opened >out
 same "$here/expected/opened" out "a book just opened"
 
+# books made here
+landed >landed
+attached >attached
+by_hand >by-hand
+queue_only >queue-only
+states >states
+for book in landed attached by-hand queue-only states; do
+    "$show" $book >out
+    same "$here/expected/$book" out "the text of $book"
+done
+# the same again from a second source, which is written from docs/ARCHIVE.md
+if command -v python3 >/dev/null; then
+    for book in worked opened landed attached by-hand queue-only states "$full"; do
+        "$show" "$book" >out
+        python3 "$here/text.py" "$book" >text
+        same text out "the text of $(basename "$book"), against the one in Python"
+    done
+else
+    echo "show_archive: there is no python3 here, the texts are not compared with those in Python"
+fi
+if [ ! -f "$root/target/kitchen.archive" ]; then
+    echo "show_archive: there is no target/kitchen.archive, the sample kitchen is not shown"
+elif command -v python3 >/dev/null; then
+    "$show" "$root/target/kitchen.archive" >out
+    python3 "$here/text.py" "$root/target/kitchen.archive" >text
+    same text out "the sample kitchen, against the text in Python"
+    if grep -q 'DOES NOT AGREE' out; then echo "FAILED: a fingerprint of the sample kitchen does not agree"; failed=1; fi
+fi
+
 big >largest
 "$show" largest >out
 same_sum largest 353d40b45e6f1715e119a830f58b3dc8c0890f8ef1b42ee193ef1bcc18c77d24 "the largest archive"
-same_sum out 5ede1286b50726e71bc44f2104ca504860f3acd51de26436de608a2a7cc3deea "all of its text"
+same_sum out 19e1cf4051ede95568ed8977818ed691b15ba541abfd86199d65e0bd827cdad9 "all of its text"
+
+# the pages that the installed script makes of the text: its own for each book, well formed and with every line of the text
+sed "s|@LIBEXEC@|$(dirname "$show")|" "$root/tools/show_archive.in" >script
+head -c 100 worked >cut
+for book in worked opened landed attached by-hand queue-only states largest cut; do
+    sh script $book >text
+    status=$?
+    sh script $book --html >$book.html
+    [ $? = $status ] || { echo "FAILED: the exit status of the page of $book"; failed=1; }
+    if command -v python3 >/dev/null; then
+        if python3 "$here/page.py" text $book.html; then echo "ok: the page of $book"; else echo "FAILED: the page of $book"; failed=1; fi
+    fi
+done
+command -v python3 >/dev/null || echo "show_archive: there is no python3 here, the pages are not parsed"
+sh script --html --hex worked >page
+sh script --hex worked >text
+if command -v python3 >/dev/null; then python3 "$here/page.py" text page || failed=1; fi
+same "$here/expected/attached.html" attached.html "the page of attached, as it was"
+browser=
+for name in chromium chromium-browser google-chrome; do command -v $name >/dev/null && browser=$name; done
+if [ -n "$browser" ]; then
+    # what a browser makes of it: the same words, and a document to print
+    $browser --headless --no-sandbox --disable-gpu --dump-dom "file://$work/attached.html" >dom 2>/dev/null
+    if grep -q '<td><span>  id </span>1<span>' dom && $browser --headless --no-sandbox --disable-gpu --print-to-pdf="$work/attached.pdf" "file://$work/attached.html" 2>/dev/null && [ -s attached.pdf ]; then
+        echo "ok: the page in $browser"
+    else
+        echo "FAILED: the page in $browser"
+        failed=1
+    fi
+else
+    echo "show_archive: there is no chromium here, the page is not opened in a browser"
+fi
 
 # refusals: one for each rule
 refused() {

@@ -1,4 +1,4 @@
-// Shows an archive of a submission book (docs/ARCHIVE.md) as text, from the file that the argument names or from standard input. With
+// Shows an archive of a submission book (docs/ARCHIVE.md) as text, the payments on top, from the file that the argument names or from standard input. With
 // --hex in front, the archive's bytes too.
 mod dump;
 mod input;
@@ -12,7 +12,7 @@ fn show(s: &[u8], more: bool, hex: bool) {
     let ok = r.ok;
     if ok {
         let book = r.book;
-        tool_book_report::show_book(s.len(), book);
+        tool_book_report::show_book(s.len(), base_sha256::sha256(s), book);
     } else {
         refusal::show_refusal(s, r.place, more);
     }

@@ -1,4 +1,4 @@
-// A book as text on standard output, section by section.
+// A book as text on standard output: the payments on top, then section by section.
 ghost use Prim.Native.Nat.{_≤_};
 use base_lists::at_most;
 use book::BookData;
@@ -8,11 +8,19 @@ use book::ReplayEpoch;
 use book::SubmittedTx;
 use codec_append::append_bytes;
 use libc::STDOUT_FILENO;
+use tool_book_summary::queue::is_new;
+use tool_book_summary::tally::payment_of;
+use tool_book_summary::tally::totals;
 use tool_book_text::entry::append_delivery;
 use tool_book_text::entry::append_ids;
 use tool_book_text::entry::append_submission;
 use tool_book_text::entry::append_tokens;
 use tool_book_text::words::append_height;
+use tool_payments::Payment;
+use tool_payments::payments::queued_payment;
+use tool_payments::text::append_payment;
+use tool_payments::text::append_totals;
+use tool_text::append_hex_line;
 use tool_text::append_number_line;
 
 // Writes the first n bytes.
@@ -164,7 +172,93 @@ fn show_fates(a: [SubmittedTx; 16], n: usize, next: u64) {
     );
 }
 
-pub fn show_book(len: usize, b: BookData) {
+fn show_payment(p: Payment) {
+    let mut out = [0u8; 256];
+    let e = append_payment(&mut out, 0, p);
+    say(&out, e);
+}
+
+fn show_retained_payments(
+    submitted: [SubmittedTx; 16],
+    n: usize,
+    pending: [PendingDelivery; 16],
+    m: usize,
+) {
+    let k = at_most(n, 16);
+    let mut i: usize = 0;
+    while i < k {
+        let t = submitted[i];
+        show_payment(payment_of(t, pending, m));
+        i += 1;
+    }
+}
+
+// The queue entry d, with the queue from a place on behind it, if it is a payment of its own.
+fn show_new_payment(
+    d: PendingDelivery,
+    submitted: [SubmittedTx; 16],
+    n: usize,
+    pending: [PendingDelivery; 16],
+    from: usize,
+    m: usize,
+) {
+    if is_new(d, submitted, n, pending, from, m) {
+        show_payment(queued_payment(d));
+    }
+}
+
+fn show_queued_payments(
+    submitted: [SubmittedTx; 16],
+    n: usize,
+    pending: [PendingDelivery; 16],
+    m: usize,
+) {
+    let k = at_most(m, 16);
+    let mut i: usize = 0;
+    while i < k {
+        let d = pending[i];
+        show_new_payment(d, submitted, n, pending, i + 1, m);
+        i += 1;
+    }
+}
+
+// A book without submissions and queue entries has no payment.
+fn show_no_payments(n: usize, m: usize) {
+    if n != 0 {
+        return;
+    }
+    if m != 0 {
+        return;
+    }
+    io::write_all(STDOUT_FILENO, b"  none\n");
+}
+
+// The payments, one to a line, and their totals.
+fn show_payments(submitted: [SubmittedTx; 16], n: usize, pending: [PendingDelivery; 16], m: usize) {
+    io::write_all(STDOUT_FILENO, b"\npayments\n");
+    show_retained_payments(submitted, n, pending, m);
+    show_queued_payments(submitted, n, pending, m);
+    show_no_payments(n, m);
+    io::write_all(STDOUT_FILENO, b"\npayments in all\n");
+    let all = totals(submitted, n, pending, m);
+    let mut out = [0u8; 512];
+    let e = append_totals(&mut out, 0, all);
+    say(&out, e);
+}
+
+fn show_digest(digest: [u8; 32]) {
+    let mut out = [0u8; 256];
+    let e = append_hex_line(
+        &mut out,
+        0,
+        b"SHA-256 of these bytes, to be kept beside the archive: ",
+        &digest,
+    );
+    say(&out, e);
+}
+
+// The book that an archive of so many bytes holds, and the digest of those bytes.
+pub fn show_book(len: usize, digest: [u8; 32], b: BookData) {
     let submitted = b.submitted;
     let n = b.submitted_count;
     let pending = b.pending_deliveries;
@@ -173,7 +267,9 @@ pub fn show_book(len: usize, b: BookData) {
     let epoch = b.replay_epoch;
     let next = b.next_delivery_attempt_token.0;
     show_number(b"archive of a submission book, bytes: ", len as u64);
-    show_number(b"next attempt token: ", next);
+    show_digest(digest);
+    show_payments(submitted, n, pending, queued);
+    show_number(b"\nnext attempt token: ", next);
     show_number(b"next submission id: ", b.next_submission_id.0);
     show_totals(submitted, n, queued);
     show_retained(submitted, n);

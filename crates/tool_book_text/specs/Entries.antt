@@ -8,7 +8,7 @@ use lib.ListN.{length}
 use borrow.Author.Tests.{not-true, not-false}
 use Rattle.codec_forms.specs.Wire.{encMany}
 use Rattle.tool_text.specs.Ascii.{ascii}
-use Rattle.tool_text.specs.Numbers.{decimal, numberLine, hexLine}
+use Rattle.tool_text.specs.Numbers.{decimal, numberLine}
 use Rattle.book.specs.declared.DeliveryAttempt.{DeliveryAttempt}
 use Rattle.book.specs.declared.OptionalAttempt.{OptionalAttempt}
 use Rattle.book.specs.declared.AttemptSlots.{AttemptSlots}
@@ -17,48 +17,50 @@ use Rattle.book.specs.declared.SubmittedEntry.{SubmittedEntry}
 use Rattle.book.specs.declared.SubmittedTx.{SubmittedTx}
 use Rattle.book.specs.declared.PendingSubmissionIntent.{PendingSubmissionIntent}
 use Rattle.book.specs.declared.PendingDelivery.{PendingDelivery}
-use Rattle.tool_book_text.specs.Words.{goalText, triggerText, chainText, resolutionText, feeIntentText, heightText, idText, hashText}
+use Rattle.tool_book_text.specs.Words.{goalText, triggerText, chainText, resolutionText, feeIntentText, heightText, idText}
+use Rattle.tool_book_text.specs.declared.Fingerprints.{Fingerprints}
+use Rattle.tool_book_text.specs.Checked.{fingerprintsOf, checkedText, checkedOptional, checkedIntent}
 use Rattle.tool_book_text.specs.Bundles.{bundleText, variantText}
 
-unfoldable pub attemptText : List ℕ → DeliveryAttempt → List ℕ
-unfolding numberLine goalText hexLine hashText
-attemptText label a =
+unfoldable pub attemptText : List ℕ → Fingerprints → DeliveryAttempt → List ℕ
+unfolding numberLine goalText checkedText checkedOptional
+attemptText label f a =
     label
     ++ numberLine (ascii "token ") (a .token .0)
     ++ ascii "    goal: "
     ++ goalText (a .goal)
-    ++ hexLine (ascii "    drained fingerprint: ") (a .«drained_variant_fingerprint»)
-    ++ hashText (ascii "    finalised: ") (a .«finalized_variant_fingerprint»)
+    ++ checkedText (ascii "    drained fingerprint: ") (a .«drained_variant_fingerprint») f
+    ++ checkedOptional (ascii "    finalised: ") (a .«finalized_variant_fingerprint») f
 
 abbrev pub slotOr : Bool → List ℕ → List ℕ → List ℕ
 slotOr true label l = l
 slotOr false label l = label ++ ascii "none\n"
 
-unfoldable pub slotText : List ℕ → OptionalAttempt → List ℕ
+unfoldable pub slotText : List ℕ → Fingerprints → OptionalAttempt → List ℕ
 unfolding attemptText
-slotText label s = slotOr (s .present) label (attemptText label (s .attempt))
+slotText label f s = slotOr (s .present) label (attemptText label f (s .attempt))
 
-unfoldable pub slotsText : AttemptSlots → List ℕ
+unfoldable pub slotsText : Fingerprints → AttemptSlots → List ℕ
 unfolding slotText
-slotsText s = slotText (ascii "  live attempt: ") (s .«active_attempt») ++ slotText (ascii "  set-aside attempt: ") (s .«completed_attempt»)
+slotsText f s = slotText (ascii "  live attempt: ") f (s .«active_attempt») ++ slotText (ascii "  set-aside attempt: ") f (s .«completed_attempt»)
 
 -- the fee state and the fee intent, the acknowledged fingerprint, the chain state, the expiry
-unfoldable pub factsText : SubmittedEntry → List ℕ
-unfolding resolutionText feeIntentText hashText chainText heightText
-factsText e =
+unfoldable pub factsText : Fingerprints → SubmittedEntry → List ℕ
+unfolding resolutionText feeIntentText checkedOptional chainText heightText
+factsText f e =
     resolutionText (e .state .status .«fee_resolution»)
     ++ feeIntentText (e .intent .«fee_intent»)
-    ++ hashText (ascii "  acknowledged: ") (e .state .«wallet_acknowledged_variant»)
+    ++ checkedOptional (ascii "  acknowledged: ") (e .state .«wallet_acknowledged_variant») f
     ++ chainText (e .state .status .«chain_terminality»)
     ++ heightText (ascii "  expiry height: ") (e .state .status .expiry)
 
-unfoldable pub entryText : SubmittedEntry → List ℕ
-unfolding hexLine bundleText variantText factsText
-entryText e =
-    hexLine (ascii "  intent fingerprint: ") (e .intent .«intent_fingerprint»)
+unfoldable pub entryText : Fingerprints → SubmittedEntry → List ℕ
+unfolding checkedIntent bundleText variantText factsText
+entryText f e =
+    checkedIntent e
     ++ bundleText (ascii "  base bundle, spends: ") (e .intent .«base_bundle»)
     ++ variantText (e .state .«current_variant»)
-    ++ factsText e
+    ++ factsText f e
 
 -- the i-th of n, from 1 on
 unfoldable pub headingText : List ℕ → ℕ → ℕ → List ℕ
@@ -66,12 +68,12 @@ unfolding decimal numberLine
 headingText label i n = label ++ decimal (i + 1) ++ numberLine (ascii " of ") n
 
 unfoldable pub submissionText : ℕ → ℕ → SubmittedTx → List ℕ
-unfolding headingText numberLine slotsText entryText
+unfolding headingText numberLine slotsText entryText fingerprintsOf
 submissionText i n t =
     headingText (ascii "retained submission ") i n
     ++ numberLine (ascii "  id: ") (t .entry .id .0)
-    ++ slotsText (t .slots)
-    ++ entryText (t .entry)
+    ++ slotsText (fingerprintsOf (t .entry)) (t .slots)
+    ++ entryText (fingerprintsOf (t .entry)) (t .entry)
 
 unfoldable pub intentText : PendingSubmissionIntent → List ℕ
 unfolding idText bundleText heightText feeIntentText

@@ -1,4 +1,5 @@
 pub mod Words
 pub mod Coins
 pub mod Bundles
+pub mod Checked
 pub mod Entries

@@ -1,16 +1,12 @@
 -- The kinds in words, each up to its line's end, and the optional parts.
-use mathlib.Core.Path.{_≡_, sym, ap}
-use mathlib.Core.Bool.{Bool, true, false, not}
 use mathlib.Core.List.{List, _++_}
 use Prim.Native.Nat.{ℕ}
-use borrow.Author.Tests.{not-true, not-false}
 use Rattle.tool_text.specs.Ascii.{ascii}
-use Rattle.tool_text.specs.Numbers.{decimal, hex, numberLine, hexLine}
+use Rattle.tool_text.specs.Numbers.{numberLine, hexLine}
 use Rattle.book.specs.declared.OptionalHeight.{OptionalHeight}
 use Rattle.book.specs.declared.OptionalHeight.the-variants.{NoHeight, At}
 use Rattle.book.specs.declared.OptionalId.{OptionalId}
 use Rattle.book.specs.declared.OptionalId.the-variants.{NoId, Of}
-use Rattle.book.specs.declared.OptionalHash.{OptionalHash}
 use Rattle.book.specs.declared.FeeIntentKind.{FeeIntentKind}
 use Rattle.book.specs.declared.FeeIntentKind.the-variants.{AlreadyPaid, NoFeeConfigured, Attach}
 use Rattle.book.specs.declared.SubmissionFeeIntent.{SubmissionFeeIntent}
@@ -41,7 +37,7 @@ chainText Landed = ascii "  chain state: Landed (an output was seen on the chain
 unfoldable pub resolutionText : FeeResolution → List ℕ
 resolutionText Unresolved = ascii "  durable fee state: Unresolved (the wallet is still to be asked for the fee)\n"
 resolutionText NotRequested = ascii "  durable fee state: NotRequested (no fee is asked of the wallet)\n"
-resolutionText Attached = ascii "  durable fee state: Attached (the fee bundle above is delivered)\n"
+resolutionText Attached = ascii "  durable fee state: Attached (the wallet has added the fee)\n"
 
 unfoldable pub feeKindText : FeeIntentKind → List ℕ → List ℕ
 feeKindText AlreadyPaid rest = ascii "  fee intent: AlreadyPaid (the bundle pays its fee itself)\n"
@@ -63,19 +59,3 @@ unfoldable pub idText : List ℕ → OptionalId → List ℕ
 unfolding numberLine
 idText label NoId = label ++ ascii "new\n"
 idText label (Of i) = numberLine label (i .0)
-
-abbrev pub hashOr : Bool → List ℕ → List ℕ
-hashOr true l = l
-hashOr false l = ascii "no\n"
-
--- an optional fingerprint
-unfoldable pub hashText : List ℕ → OptionalHash → List ℕ
-unfolding hexLine
-hashText label h = label ++ hashOr (h .present) (hexLine (ascii "yes, fingerprint ") (h .hash))
-
--- ---- by the mark
-pub hash-no : (b : Bool) (l : List ℕ) → not b ≡ true → ascii "no\n" ≡ hashOr b l
-hash-no b l h = sym (ap (λ (x : Bool). hashOr x l) (not-true b h))
-
-pub hash-yes : (b : Bool) (l : List ℕ) → not b ≡ false → l ≡ hashOr b l
-hash-yes b l h = sym (ap (λ (x : Bool). hashOr x l) (not-false b h))

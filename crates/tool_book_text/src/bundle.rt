@@ -2,12 +2,15 @@
 ghost use mathlib.Core.Path.{_≡_};
 ghost use Prim.Native.Nat.{_<_};
 ghost use lib.ListN.{take};
+ghost use Rattle.base_coin_string.specs.Coin.{coinOfParts, coinIdOf};
 ghost use Rattle.codec_append.specs.Fits.{Fits};
 ghost use Rattle.tool_text.specs.Each.{eachFrom};
 ghost use Rattle.tool_book_text.specs.Coins.{coinText};
 ghost use Rattle.tool_book_text.specs.Bundles.{outputText, runText, spendText, bundleText, variantText};
 use crate::coin::append_coin;
 use crate::words::append_hash_line;
+use base_coin_string::from_parts;
+use base_coin_string::to_coin_id;
 use base_lists::at_most;
 use book::CoinSpend;
 use book::Output;
@@ -18,41 +21,60 @@ use tool_text::append_decimal;
 use tool_text::append_hex_line;
 use tool_text::append_number_line;
 
-fn append_output(out: &mut [u8], at: usize, i: usize, o: Output) -> usize
+// The id of the coin that an output makes.
+fn output_coin_id(parent: [u8; 32], o: Output) -> [u8; 32]
+    ensures { λ r. ⌜ r ≡ coinIdOf (coinOfParts parent (o .«puzzle_hash») (o .amount)) ⌝ }
+{
+    let hash = o.puzzle_hash;
+    let made = from_parts(parent, hash, o.amount);
+    let bytes = made.bytes;
+    to_coin_id(bytes, made.len)
+}
+
+fn append_output(out: &mut [u8], at: usize, parent: [u8; 32], i: usize, o: Output) -> usize
     requires { ⌜ i < 4 ⌝ }
-    ensures { λ r. ⌜ Fits (outputText i o) at (now (out .entry)) (now (out .exit)) r ⌝ }
+    ensures { λ r. ⌜ Fits (outputText parent i o) at (now (out .entry)) (now (out .exit)) r ⌝ }
 {
     let hash = o.puzzle_hash;
     let amount = o.amount;
     let word_end = append_bytes(&mut *out, at, b"        output ");
     let number_end = append_decimal(&mut *out, word_end, (i + 1) as u64);
     let hash_end = append_hex_line(&mut *out, number_end, b" puzzle hash: ", &hash);
-    append_number_line(out, hash_end, b"          amount: ", amount)
+    let amount_end = append_number_line(&mut *out, hash_end, b"          amount: ", amount);
+    let id = output_coin_id(parent, o);
+    append_hash_line(out, amount_end, b"          coin id: ", &id)
 }
 
 // The first n outputs.
-fn append_outputs(out: &mut [u8], at: usize, a: [Output; 4], n: usize) -> usize
-    ensures { λ r. ⌜ Fits (eachFrom outputText 0 (take n a)) at (now (out .entry)) (now (out .exit)) r ⌝ }
+fn append_outputs(out: &mut [u8], at: usize, parent: [u8; 32], a: [Output; 4], n: usize) -> usize
+    ensures { λ r. ⌜ Fits (eachFrom (outputText parent) 0 (take n a)) at (now (out .entry)) (now (out .exit)) r ⌝ }
 {
     let k = at_most(n, 4);
     let mut e = at;
     let mut i: usize = 0;
     while i < k {
         let o = a[i];
-        e = append_output(&mut *out, e, i, o);
+        e = append_output(&mut *out, e, parent, i, o);
         i += 1;
     }
     e
 }
 
-fn append_run(out: &mut [u8], at: usize, readable: bool, n: usize, a: [Output; 4]) -> usize
-    ensures { λ r. ⌜ Fits (runText readable n a) at (now (out .entry)) (now (out .exit)) r ⌝ }
+fn append_run(
+    out: &mut [u8],
+    at: usize,
+    parent: [u8; 32],
+    readable: bool,
+    n: usize,
+    a: [Output; 4],
+) -> usize
+    ensures { λ r. ⌜ Fits (runText parent readable n a) at (now (out .entry)) (now (out .exit)) r ⌝ }
 {
     if !readable {
         return append_bytes(out, at, b"      run: unreadable\n");
     }
     let count_end = append_number_line(&mut *out, at, b"      run: readable, outputs: ", n as u64);
-    append_outputs(out, count_end, a, n)
+    append_outputs(out, count_end, parent, a, n)
 }
 
 // The first n bytes of a coin's cell.
@@ -72,6 +94,7 @@ fn append_spend(out: &mut [u8], at: usize, i: usize, s: CoinSpend) -> usize
     let outputs = s.outputs;
     let readable = s.readable;
     let n = s.output_count as usize;
+    let parent = to_coin_id(coin, s.coin_len);
     let heading_end = append_number_line(&mut *out, at, b"    spend ", (i + 1) as u64);
     let coin_end = append_cell(&mut *out, heading_end, coin, s.coin_len);
     let digest_end = append_hash_line(
@@ -80,7 +103,7 @@ fn append_spend(out: &mut [u8], at: usize, i: usize, s: CoinSpend) -> usize
         b"      digest of puzzle, solution and signature: ",
         &digest,
     );
-    append_run(out, digest_end, readable, n, outputs)
+    append_run(out, digest_end, parent, readable, n, outputs)
 }
 
 // The first n spends.
@@ -117,5 +140,6 @@ pub fn append_variant(out: &mut [u8], at: usize, v: SubmissionBroadcastVariant) 
         return append_bytes(out, at, b"  fee bundle: none\n");
     }
     let bundle_end = append_bundle(&mut *out, at, b"  fee bundle, spends: ", bundle);
-    append_number_line(out, bundle_end, b"  applied fee: ", v.applied_fee)
+    let fee_end = append_number_line(&mut *out, bundle_end, b"  applied fee: ", v.applied_fee);
+    append_bytes(out, fee_end, b"  the fee bundle above is to be delivered\n")
 }

@@ -4,13 +4,16 @@ ghost use Prim.Native.Nat.{_<_};
 ghost use Rattle.codec_append.specs.Fits.{Fits};
 ghost use Rattle.codec_forms.specs.Wire.{encMany};
 ghost use Rattle.tool_book_text.specs.Entries.{attemptText, slotText, slotsText, factsText, entryText, headingText, submissionText, intentText, deliveryText, tokenText, tokensText, idAfterSpace, noneOf, idsText};
+use crate::Fingerprints;
 use crate::bundle::append_bundle;
 use crate::bundle::append_variant;
+use crate::checked::append_checked;
+use crate::checked::append_checked_intent;
+use crate::checked::append_checked_optional;
+use crate::checked::fingerprints_of;
 use crate::words::append_chain;
 use crate::words::append_fee_intent;
 use crate::words::append_goal;
-use crate::words::append_hash;
-use crate::words::append_hash_line;
 use crate::words::append_height;
 use crate::words::append_id;
 use crate::words::append_resolution;
@@ -26,8 +29,14 @@ use codec_append::append_bytes;
 use tool_text::append_decimal;
 use tool_text::append_number_line;
 
-fn append_attempt(out: &mut [u8], at: usize, label: &[u8], a: DeliveryAttempt) -> usize
-    ensures { λ r. ⌜ Fits (attemptText (now (label .entry)) a) at (now (out .entry)) (now (out .exit)) r ⌝ }
+fn append_attempt(
+    out: &mut [u8],
+    at: usize,
+    label: &[u8],
+    f: Fingerprints,
+    a: DeliveryAttempt,
+) -> usize
+    ensures { λ r. ⌜ Fits (attemptText (now (label .entry)) f a) at (now (out .entry)) (now (out .exit)) r ⌝ }
 {
     let goal = a.goal;
     let drained = a.drained_variant_fingerprint;
@@ -36,12 +45,24 @@ fn append_attempt(out: &mut [u8], at: usize, label: &[u8], a: DeliveryAttempt) -
     let token_end = append_number_line(&mut *out, label_end, b"token ", a.token.0);
     let word_end = append_bytes(&mut *out, token_end, b"    goal: ");
     let goal_end = append_goal(&mut *out, word_end, goal);
-    let drained_end = append_hash_line(&mut *out, goal_end, b"    drained fingerprint: ", &drained);
-    append_hash(out, drained_end, b"    finalised: ", finalized)
+    let drained_end = append_checked(
+        &mut *out,
+        goal_end,
+        b"    drained fingerprint: ",
+        &drained,
+        f,
+    );
+    append_checked_optional(out, drained_end, b"    finalised: ", finalized, f)
 }
 
-fn append_slot(out: &mut [u8], at: usize, label: &[u8], s: OptionalAttempt) -> usize
-    ensures { λ r. ⌜ Fits (slotText (now (label .entry)) s) at (now (out .entry)) (now (out .exit)) r ⌝ }
+fn append_slot(
+    out: &mut [u8],
+    at: usize,
+    label: &[u8],
+    f: Fingerprints,
+    s: OptionalAttempt,
+) -> usize
+    ensures { λ r. ⌜ Fits (slotText (now (label .entry)) f s) at (now (out .entry)) (now (out .exit)) r ⌝ }
 {
     let present = s.present;
     let attempt = s.attempt;
@@ -49,21 +70,21 @@ fn append_slot(out: &mut [u8], at: usize, label: &[u8], s: OptionalAttempt) -> u
         let label_end = append_bytes(&mut *out, at, label);
         return append_bytes(out, label_end, b"none\n");
     }
-    append_attempt(out, at, label, attempt)
+    append_attempt(out, at, label, f, attempt)
 }
 
-fn append_slots(out: &mut [u8], at: usize, s: AttemptSlots) -> usize
-    ensures { λ r. ⌜ Fits (slotsText s) at (now (out .entry)) (now (out .exit)) r ⌝ }
+fn append_slots(out: &mut [u8], at: usize, f: Fingerprints, s: AttemptSlots) -> usize
+    ensures { λ r. ⌜ Fits (slotsText f s) at (now (out .entry)) (now (out .exit)) r ⌝ }
 {
     let active = s.active_attempt;
     let completed = s.completed_attempt;
-    let active_end = append_slot(&mut *out, at, b"  live attempt: ", active);
-    append_slot(out, active_end, b"  set-aside attempt: ", completed)
+    let active_end = append_slot(&mut *out, at, b"  live attempt: ", f, active);
+    append_slot(out, active_end, b"  set-aside attempt: ", f, completed)
 }
 
 // Fee state and fee intent, acknowledged fingerprint, chain state, expiry.
-fn append_facts(out: &mut [u8], at: usize, e: SubmittedEntry) -> usize
-    ensures { λ r. ⌜ Fits (factsText e) at (now (out .entry)) (now (out .exit)) r ⌝ }
+fn append_facts(out: &mut [u8], at: usize, f: Fingerprints, e: SubmittedEntry) -> usize
+    ensures { λ r. ⌜ Fits (factsText f e) at (now (out .entry)) (now (out .exit)) r ⌝ }
 {
     let status = e.state.status;
     let resolution = status.fee_resolution;
@@ -73,21 +94,26 @@ fn append_facts(out: &mut [u8], at: usize, e: SubmittedEntry) -> usize
     let expiry = status.expiry;
     let resolution_end = append_resolution(&mut *out, at, resolution);
     let intent_end = append_fee_intent(&mut *out, resolution_end, fee_intent);
-    let acknowledged_end = append_hash(&mut *out, intent_end, b"  acknowledged: ", acknowledged);
+    let acknowledged_end = append_checked_optional(
+        &mut *out,
+        intent_end,
+        b"  acknowledged: ",
+        acknowledged,
+        f,
+    );
     let chain_end = append_chain(&mut *out, acknowledged_end, chain);
     append_height(out, chain_end, b"  expiry height: ", expiry)
 }
 
-fn append_entry(out: &mut [u8], at: usize, e: SubmittedEntry) -> usize
-    ensures { λ r. ⌜ Fits (entryText e) at (now (out .entry)) (now (out .exit)) r ⌝ }
+fn append_entry(out: &mut [u8], at: usize, f: Fingerprints, e: SubmittedEntry) -> usize
+    ensures { λ r. ⌜ Fits (entryText f e) at (now (out .entry)) (now (out .exit)) r ⌝ }
 {
-    let fingerprint = e.intent.intent_fingerprint;
     let base = e.intent.base_bundle;
     let variant = e.state.current_variant;
-    let fingerprint_end = append_hash_line(&mut *out, at, b"  intent fingerprint: ", &fingerprint);
+    let fingerprint_end = append_checked_intent(&mut *out, at, e);
     let base_end = append_bundle(&mut *out, fingerprint_end, b"  base bundle, spends: ", base);
     let variant_end = append_variant(&mut *out, base_end, variant);
-    append_facts(out, variant_end, e)
+    append_facts(out, variant_end, f, e)
 }
 
 // The i-th of n, counted from 0, as a heading that counts from 1.
@@ -107,10 +133,11 @@ pub fn append_submission(out: &mut [u8], at: usize, i: usize, n: usize, t: Submi
 {
     let slots = t.slots;
     let entry = t.entry;
+    let f = fingerprints_of(entry);
     let heading_end = append_heading(&mut *out, at, b"retained submission ", i, n);
     let id_end = append_number_line(&mut *out, heading_end, b"  id: ", t.entry.id.0);
-    let slots_end = append_slots(&mut *out, id_end, slots);
-    append_entry(out, slots_end, entry)
+    let slots_end = append_slots(&mut *out, id_end, f, slots);
+    append_entry(out, slots_end, f, entry)
 }
 
 // Id, bundle, expiry and fee intent of a queue entry.

@@ -1,18 +1,19 @@
 // The kinds in words, each up to its line's end, and the optional parts.
+ghost use mathlib.Core.List.{_++_};
 ghost use mathlib.Core.Path.{_≡_};
 ghost use Rattle.codec_append.specs.Fits.{Fits};
-ghost use Rattle.tool_text.specs.Numbers.{hexLine};
-ghost use Rattle.tool_book_text.specs.Words.{goalText, triggerText, chainText, resolutionText, feeIntentText, heightText, idText, hashText};
+ghost use Rattle.tool_text.specs.Numbers.{hex, hexLine};
+ghost use Rattle.tool_book_text.specs.Words.{goalText, triggerText, chainText, resolutionText, feeIntentText, heightText, idText};
 use book::DeliveryTrigger;
 use book::FeeIntentKind;
 use book::FeeResolution;
-use book::OptionalHash;
 use book::OptionalHeight;
 use book::OptionalId;
 use book::SubmissionChainTerminality;
 use book::SubmissionDeliveryGoal;
 use book::SubmissionFeeIntent;
 use codec_append::append_bytes;
+use tool_text::append_hex;
 use tool_text::append_hex_line;
 use tool_text::append_number_line;
 
@@ -99,7 +100,7 @@ pub fn append_resolution(out: &mut [u8], at: usize, f: FeeResolution) -> usize
         FeeResolution::Attached => append_bytes(
             out,
             at,
-            b"  durable fee state: Attached (the fee bundle above is delivered)\n",
+            b"  durable fee state: Attached (the wallet has added the fee)\n",
         ),
     }
 }
@@ -163,15 +164,10 @@ pub fn append_hash_line(out: &mut [u8], at: usize, label: &[u8], hash: &[u8; 32]
     append_hex_line(out, at, label, hash)
 }
 
-// An optional fingerprint.
-pub fn append_hash(out: &mut [u8], at: usize, label: &[u8], h: OptionalHash) -> usize
-    ensures { λ r. ⌜ Fits (hashText (now (label .entry)) h) at (now (out .entry)) (now (out .exit)) r ⌝ }
+// A label and a hash, with the line still open.
+pub fn append_hash_part(out: &mut [u8], at: usize, label: &[u8], hash: &[u8; 32]) -> usize
+    ensures { λ r. ⌜ Fits ((now (label .entry)) ++ hex (now (hash .entry))) at (now (out .entry)) (now (out .exit)) r ⌝ }
 {
-    let present = h.present;
-    let hash = h.hash;
     let label_end = append_bytes(&mut *out, at, label);
-    if !present {
-        return append_bytes(out, label_end, b"no\n");
-    }
-    append_hex_line(out, label_end, b"yes, fingerprint ", &hash)
+    append_hex(out, label_end, hash)
 }

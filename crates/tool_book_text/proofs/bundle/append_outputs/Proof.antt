@@ -1,54 +1,45 @@
 -- The loop keeps `Fits` of the first i outputs' texts up to min(n, 4), which takes from four cells what n takes (`nth-done`).
-use Rattle.codec_append.specs.Fits.{Fits, fits-join, fits-as, fits-none, each-start, each-more}
-use Rattle.tool_book_text.specs.Bundles.{outputText, runText, spendText, bundleText, variantOr, variantText, variant-no, variant-yes, run-no, run-yes}
+use Rattle.codec_append.specs.Fits.{Fits, fits-join, fits-as}
+use Rattle.tool_book_text.specs.Bundles.{outputText}
 use Rattle.tool_text.specs.Each.{eachFrom, nth-start, nth-more, nth-done}
-use borrow.Author.Needs.{needs}
 use native.Mathlib.Omega.{arith}
-use mathlib.Core.Path.{_≡_, refl, sym, ap, _∙_, subst}
-use mathlib.Core.List.{List, [], _∷_, _++_}
-use Prim.Native.Nat.{ℕ, zero, suc, _+_, _-_, _*_, _/_, _%_, _^_, _≤_, _<_}
-use lib.ListN.{length, getD, take, drop, set}
+use mathlib.Core.Path.{_≡_, refl, sym, ap, _∙_}
+use Prim.Native.Nat.{ℕ, _+_, _-_, _≤_, _<_}
+use lib.ListN.{length, take}
+use borrow.Author.Needs.{needs}
 use Rattle.tool_book_text.proofs.bundle.append_outputs.Statement.{statement}
 use Rattle.tool_book_text.proofs.bundle.append_outputs.Tie as tie
-use Rattle.tool_book_text.proofs.bundle.append_outputs.Reads as reads
-use Rattle.tool_book_text.proofs.bundle.append_outputs.Lts as lts
-use Rattle.tool_book_text.proofs.bundle.append_output.Reads as append-output-reads
 
 abbrev Inv-loop : tie.InvT-loop
-Inv-loop out₀ at n a k e₀ i₀ out e i = Fits (eachFrom outputText 0 (take i a)) at out₀ out e × (i ≤ k) × (k ≤ 4) × (length out ≡ length out₀)
+Inv-loop out₀ at parent n a k e₀ i₀ out e i = Fits (eachFrom (outputText parent) 0 (take i a)) at out₀ out e × (i ≤ k) × (k ≤ 4) × (length out ≡ length out₀)
 
 abbrev μ-loop : tie.MeasureT-loop
-μ-loop out₀ at n a k e₀ i₀ out e i = k - i
-
-at-most-requires : tie.Need-at-most-requires Inv-loop μ-loop
-at-most-requires c κs = search needs
+μ-loop out₀ at parent n a k e₀ i₀ out e i = k - i
 
 loop-holds : tie.Need-loop-holds Inv-loop μ-loop
-loop-holds c = (nth-start outputText (c .before .before .args .t3) (c .before .before .args .at) (c .before .before .args .out .now), omega arith, omega (arith, c .at-most .ensures), refl)
-
-mul-o : tie.Need-mul-o Inv-loop μ-loop
-mul-o c = search needs
-
-array-copy-out-o : tie.Need-array-copy-out-o Inv-loop μ-loop
-array-copy-out-o c = search needs
+loop-holds c =
+    (nth-start (outputText (c .before .before .args .parent)) (c .before .before .args .t4) (c .before .before .args .at) (c .before .before .args .out .now), omega arith, omega (arith, c .at-most .ensures), refl)
 
 append-output-requires : tie.Need-append-output-requires Inv-loop μ-loop
 append-output-requires c κs = omega (arith, c .before .before .before .loop .inv .2)
 
-add-i : tie.Need-add-i Inv-loop μ-loop
-add-i c = search needs
-
-loop-less : tie.Need-loop-less Inv-loop μ-loop
-loop-less c = search needs
-
 loop-again : tie.Need-loop-again Inv-loop μ-loop
-loop-again c = let l : length (c .before .before .before .before .before .before .before .before .before .args .t3) ≡ 4 = search needs in (nth-more _ outputText (c .before .before .before .before .before .before .before .before .before .args .t3) (c .before .before .before .before .before .before .loop .i) (omega (arith, l, c .before .before .before .before .before .before .loop .inv .2)) (c .before .before .before .before .before .before .loop .inv .0) (c .before .before .append-output .ensures), omega arith, c .before .before .before .before .before .before .loop .inv .2, search needs)
+loop-again c =
+    let at-loop = c .before .before .before .before .before .before in
+    let at-args = at-loop .before .before .before in
+    let start = at-args .args in let l : length (start .t4) ≡ 4 = search needs in let inv = at-loop .loop .inv in
+    (nth-more _ (outputText (start .parent)) (start .t4) (at-loop .loop .i) (omega (arith, l, inv .2)) (inv .0) (c .before .before .append-output .ensures), omega arith, inv .2, search needs)
 
 same-length : tie.Need-same-length Inv-loop μ-loop
 same-length c = c .before .loop .inv .3
 
 returns : tie.Need-returns Inv-loop μ-loop
-returns c = let l : length (c .before .before .before .before .args .t3) ≡ 4 = search needs in nth-done outputText (c .before .before .before .before .args .t3) 4 (c .before .before .before .before .args .n) (c .before .before .at-most .result) (c .before .loop .i) l (c .before .before .at-most .ensures) (c .before .loop .inv .1) (c .loop-test .left) (c .before .loop .inv .0)
+returns c =
+    let at-loop = c .before in
+    let at-at-most = at-loop .before in
+    let at-args = at-at-most .before .before in
+    let start = at-args .args in let l : length (start .t4) ≡ 4 = search needs in nth-done (outputText (start .parent)) (start .t4) 4 (start .n) (at-at-most .at-most .result) (at-loop .loop .i) l (at-at-most .at-most .ensures)
+    (at-loop .loop .inv .1) (c .loop-test .left) (at-loop .loop .inv .0)
 
 pub append-outputs-spec : {M : Type 1} → statement M
 append-outputs-spec =
@@ -56,13 +47,13 @@ append-outputs-spec =
     (tie.spec
     Inv-loop
     μ-loop
-    at-most-requires
+    (λ c κs. search needs)
     loop-holds
-    mul-o
-    array-copy-out-o
+    (λ c. search needs)
+    (λ c. search needs)
     append-output-requires
-    add-i
-    loop-less
+    (λ c. search needs)
+    (λ c. search needs)
     loop-again
     same-length
     returns)

@@ -1,32 +1,30 @@
--- Heading, coin, digest line and run, each from the end of the one before, join to the spend's text (`fits-join`).
-use Rattle.codec_append.specs.Fits.{Fits, fits-join, fits-as, fits-none, each-start, each-more}
-use Rattle.tool_book_text.specs.Entries.{attemptText, slotOr, slotText, slotsText, factsText, entryText, headingText, submissionText, deliveryText, tokenOr, tokenText, tokensText, idAfterSpace, noneOf, idsText, slot-no, slot-yes, token-no, token-yes, none-empty, none-some}
-use Rattle.tool_book_text.specs.Bundles.{outputText, runText, spendText, bundleText, variantOr, variantText, variant-no, variant-yes, run-no, run-yes}
-use Rattle.tool_book_text.specs.Coins.{amountFrom, amountOf, isCoin, partsText, coinOr, coinOrBytes, coinText, parentOf, puzzleOf, amount-turn, amount-done, coin-short, coin-long, coin-room}
-use native.Mathlib.Omega.{arith}
-use mathlib.Core.Path.{_≡_, refl, sym, ap, _∙_, subst}
-use mathlib.Core.List.{List, [], _∷_, _++_}
-use Prim.Native.Nat.{ℕ, zero, suc, _+_, _-_, _*_, _/_, _%_, _^_, _≤_, _<_}
-use lib.ListN.{length, getD, take, drop, set}
+-- Heading, coin, digest and run follow one another; the parent of what the run makes is the coin's id.
+use Rattle.codec_append.specs.Fits.{Fits, fits-join, fits-as}
+use Rattle.tool_book_text.specs.Bundles.{runText, spendText}
+use mathlib.Core.Path.{_≡_, refl, sym, ap, _∙_}
+use mathlib.Core.List.{List, _++_}
+use Prim.Native.Nat.{ℕ, _+_, _-_, _≤_, _<_}
 use borrow.Author.Needs.{needs}
 use Rattle.tool_book_text.proofs.bundle.append_spend.Statement.{statement}
 use Rattle.tool_book_text.proofs.bundle.append_spend.Tie as tie
-use Rattle.tool_book_text.proofs.bundle.append_spend.Reads as reads
-use Rattle.tool_book_text.proofs.bundle.append_spend.Lts as lts
-use Rattle.tool_book_text.proofs.bundle.append_cell.Reads as append-cell-reads
-use Rattle.tool_book_text.proofs.bundle.append_run.Reads as append-run-reads
-use Rattle.tool_book_text.proofs.words.append_hash_line.Reads as append-hash-line-reads
-use Rattle.tool_text.proofs.append_number_line.Reads as append-number-line-reads
 
 returns : tie.Need-returns
 unfolding spendText
-returns c = fits-join (fits-join (fits-join (c .before .before .before .before .before .before .before .before .before .before .before .before .before .before .before .before .append-number-line .ensures) (c .before .before .before .before .before .before .before .before .before .before .before .before .append-cell .ensures)) (c .before .before .before .before .before .before .append-hash-line .ensures)) (c .before .before .append-run .ensures)
+returns c =
+    let at-append-hash-line = c .before .before .before .before .before .before in
+    let at-append-cell = at-append-hash-line .before .before .before .before .before .before in
+    let at-append-number-line = at-append-cell .before .before .before .before in
+    let at-to-coin-id = at-append-number-line .before .before .before in
+    let at-args = at-to-coin-id .before .before .before .before .before .before in
+    let start = at-args .args in fits-join (fits-join (fits-join (at-append-number-line .append-number-line .ensures) (at-append-cell .append-cell .ensures)) (at-append-hash-line .append-hash-line .ensures))
+    (fits-as (ap (λ (p : List ℕ). runText p (start .s .readable) (start .s .«output_count») (start .s .outputs)) (at-to-coin-id .to-coin-id .ensures)) (c .before .before .append-run .ensures))
 
 pub append-spend-spec : {M : Type 1} → statement M
 append-spend-spec =
     tie.close
     (tie.spec
     (λ c. search needs)
+    (λ c κs. search needs)
     (λ c. search needs)
     (λ c. search needs)
     (λ c κs. search needs)

@@ -1,31 +1,29 @@
--- Heading, id line, slots and entry, each from the end of the one before, join to the submission's text (`fits-join`).
-use Rattle.codec_append.specs.Fits.{Fits, fits-join, fits-as, fits-none, each-start, each-more}
-use Rattle.tool_book_text.specs.Entries.{attemptText, slotOr, slotText, slotsText, factsText, entryText, headingText, submissionText, deliveryText, tokenOr, tokenText, tokensText, idAfterSpace, noneOf, idsText, slot-no, slot-yes, token-no, token-yes, none-empty, none-some}
-use Rattle.tool_book_text.specs.Bundles.{outputText, runText, spendText, bundleText, variantOr, variantText, variant-no, variant-yes, run-no, run-yes}
-use Rattle.tool_book_text.specs.Coins.{amountFrom, amountOf, isCoin, partsText, coinOr, coinOrBytes, coinText, parentOf, puzzleOf, amount-turn, amount-done, coin-short, coin-long, coin-room}
-use native.Mathlib.Omega.{arith}
-use mathlib.Core.Path.{_≡_, refl, sym, ap, _∙_, subst}
-use mathlib.Core.List.{List, [], _∷_, _++_}
-use Prim.Native.Nat.{ℕ, zero, suc, _+_, _-_, _*_, _/_, _%_, _^_, _≤_, _<_}
-use lib.ListN.{length, getD, take, drop, set}
+-- Heading, id, slots and entry follow one another; the fingerprints are those of the entry.
+use Rattle.codec_append.specs.Fits.{Fits, fits-join, fits-as}
+use Rattle.tool_book_text.specs.Entries.{slotsText, entryText, submissionText}
+use Rattle.tool_book_text.specs.declared.Fingerprints.{Fingerprints}
+use mathlib.Core.Path.{_≡_, refl, sym, ap, _∙_}
 use borrow.Author.Needs.{needs}
 use Rattle.tool_book_text.proofs.entry.append_submission.Statement.{statement}
 use Rattle.tool_book_text.proofs.entry.append_submission.Tie as tie
-use Rattle.tool_book_text.proofs.entry.append_submission.Reads as reads
-use Rattle.tool_book_text.proofs.entry.append_submission.Lts as lts
-use Rattle.tool_book_text.proofs.entry.append_entry.Reads as append-entry-reads
-use Rattle.tool_book_text.proofs.entry.append_heading.Reads as append-heading-reads
-use Rattle.tool_book_text.proofs.entry.append_slots.Reads as append-slots-reads
-use Rattle.tool_text.proofs.append_number_line.Reads as append-number-line-reads
 
 returns : tie.Need-returns
 unfolding submissionText
-returns c = fits-join (fits-join (fits-join (c .before .before .before .before .before .before .before .before .before .before .before .before .before .before .before .append-heading .ensures) (c .before .before .before .before .before .before .before .before .before .before .append-number-line .ensures)) (c .before .before .before .before .before .before .append-slots .ensures)) (c .before .before .append-entry .ensures)
+returns c =
+    let at-append-slots = c .before .before .before .before .before .before in
+    let at-append-number-line = at-append-slots .before .before .before .before in
+    let at-append-heading = at-append-number-line .before .before .before .before .before in
+    let at-fingerprints-of = at-append-heading .before .before .before in
+    let at-args = at-fingerprints-of .before .before .before .before in
+    let start = at-args .args in fits-join (fits-join (fits-join (at-append-heading .append-heading .ensures) (at-append-number-line .append-number-line .ensures))
+    (fits-as (ap (λ (f : Fingerprints). slotsText f (start .t .slots)) (at-fingerprints-of .fingerprints-of .ensures)) (at-append-slots .append-slots .ensures)))
+    (fits-as (ap (λ (f : Fingerprints). entryText f (start .t .entry)) (at-fingerprints-of .fingerprints-of .ensures)) (c .before .before .append-entry .ensures))
 
 pub append-submission-spec : {M : Type 1} → statement M
 append-submission-spec =
     tie.close
     (tie.spec
+    (λ c κs. search needs)
     (λ c. search needs)
     (λ c κs. search needs)
     (λ c. search needs)

@@ -1,6 +1,6 @@
 -- By the kind: two kinds have a fixed line, and `Attach` has the line of its target and the one of its amount behind it.
 use Rattle.codec_append.specs.Fits.{Fits, fits-join, fits-as, fits-none, each-start, each-more}
-use Rattle.tool_book_text.specs.Words.{goalText, triggerText, chainText, resolutionText, feeIntentText, feeKindText, heightText, idText, hashText, hashOr, hash-no, hash-yes}
+use Rattle.tool_book_text.specs.Words.{goalText, triggerText, chainText, resolutionText, feeIntentText, feeKindText, heightText, idText}
 use Rattle.tool_text.specs.Ascii.{ascii}
 use Rattle.tool_text.specs.Numbers.{decimal, numberLine, hexLine}
 use native.Mathlib.Omega.{arith}

@@ -1,6 +1,6 @@
 -- By the case: no id is the label and the word new behind it, an id is the line that `append_number_line` promises.
 use Rattle.codec_append.specs.Fits.{Fits, fits-join, fits-as, fits-none, each-start, each-more}
-use Rattle.tool_book_text.specs.Words.{goalText, triggerText, chainText, resolutionText, feeIntentText, feeKindText, heightText, idText, hashText, hashOr, hash-no, hash-yes}
+use Rattle.tool_book_text.specs.Words.{goalText, triggerText, chainText, resolutionText, feeIntentText, feeKindText, heightText, idText}
 use native.Mathlib.Omega.{arith}
 use mathlib.Core.Path.{_≡_, refl, sym, ap, _∙_, subst}
 use mathlib.Core.List.{List, [], _∷_, _++_}

@@ -1,0 +1,32 @@
+-- The capped count is at most 16 and `i` stays within it, so each queue entry read lies in the array.
+use borrow.Author.Needs.{needs}
+use native.Mathlib.Omega.{arith}
+use Prim.Native.Nat.{ℕ, _-_, _≤_}
+use Rattle.tool_book_report.proofs.show_queued_payments.Statement.{statement}
+use Rattle.tool_book_report.proofs.show_queued_payments.Tie as tie
+
+abbrev Inv-loop : tie.InvT-loop
+Inv-loop submitted n m a k i₀ i = (k ≤ 16) × (i ≤ k)
+
+abbrev μ-loop : tie.MeasureT-loop
+μ-loop submitted n m a k i₀ i = k - i
+
+loop-holds : tie.Need-loop-holds Inv-loop μ-loop
+loop-holds c = (omega (arith, c .at-most .ensures), omega arith)
+
+pub show-queued-payments-spec : {M : Type 1} → statement M
+show-queued-payments-spec =
+    tie.close
+    (tie.spec
+    Inv-loop
+    μ-loop
+    (λ c κs. search needs)
+    loop-holds
+    (λ c. search needs)
+    (λ c. search needs)
+    (λ c. search needs)
+    (λ c κs. search needs)
+    (λ c. search needs)
+    (λ c. search needs)
+    (λ c. search needs)
+    (λ c. search needs))

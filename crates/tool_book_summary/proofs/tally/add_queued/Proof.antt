@@ -1,0 +1,57 @@
+-- What is counted and the queue that is left make the whole.
+use Rattle.tool_book_summary.specs.Tally.{addNew, addQueued}
+use Rattle.tool_book_summary.specs.Laws.{queued-turn, queued-done}
+use mathlib.Core.Path.{_≡_, refl, sym, ap, _∙_}
+use Prim.Native.Nat.{ℕ, _+_, _-_, _≤_, _<_}
+use native.Mathlib.Omega.{arith}
+use lib.ListN.{length, take, drop}
+use Rattle.base_lists.specs.Lists.{anyb, foldl, flatMap}
+use Rattle.base_lists.specs.Laws.{counted-step, counted-end, take-cut}
+use borrow.Author.Needs.{needs}
+use Rattle.tool_book_summary.proofs.tally.add_queued.Statement.{statement}
+use Rattle.tool_book_summary.proofs.tally.add_queued.Tie as tie
+
+abbrev Inv-loop : tie.InvT-loop
+Inv-loop submitted n m a k acc₀ i₀ acc i = (addQueued (take n submitted) acc (drop i (take k a)) ≡ addQueued (take n submitted) acc₀ (take k a)) × (k ≤ 16) × (length a ≡ 16)
+
+abbrev μ-loop : tie.MeasureT-loop
+μ-loop submitted n m a k acc₀ i₀ acc i = k - i
+
+loop-holds : tie.Need-loop-holds Inv-loop μ-loop
+loop-holds c = (refl, omega (arith, c .at-most .ensures), search needs)
+
+loop-again : tie.Need-loop-again Inv-loop μ-loop
+loop-again c =
+    let at-loop-test = c .before .before in
+    let at-loop = at-loop-test .before in
+    let at-at-most = at-loop .before in
+    let at-args = at-at-most .before in
+    let start = at-args .args in let inv = at-loop .loop .inv in (
+      queued-turn (take (start .n) (start .submitted)) (at-loop .loop .acc) (counted-step (start .t4) (at-at-most .at-most .result) (at-loop .loop .i) _ (at-loop-test .loop-test .taken) (omega (arith, inv .1, inv .2)))
+          (c .add-new .ensures) (inv .0),
+      inv .1,
+      inv .2,
+    )
+
+returns : tie.Need-returns Inv-loop μ-loop
+returns c =
+    let start = c .before .before .before .args in let inv = c .before .loop .inv in
+    queued-done (take (start .n) (start .submitted)) (c .before .loop .acc) (counted-end (start .t4) (c .before .before .at-most .result) (c .before .loop .i) (c .loop-test .left) (omega (arith, inv .1, inv .2))) (inv .0)
+    ∙ ap (addQueued (take (start .n) (start .submitted)) (start .t)) (take-cut 16 (start .m) (c .before .before .at-most .result) (start .t4) (inv .2) (c .before .before .at-most .ensures))
+
+pub add-queued-spec : {M : Type 1} → statement M
+add-queued-spec =
+    tie.close
+    (tie.spec
+    Inv-loop
+    μ-loop
+    (λ c κs. search needs)
+    loop-holds
+    (λ c. search needs)
+    (λ c. search needs)
+    (λ c. search needs)
+    (λ c κs. search needs)
+    (λ c. search needs)
+    (λ c. search needs)
+    loop-again
+    returns)
