@@ -12,10 +12,23 @@ use Rattle.c_attempts.proofs.settle_final.Statement.{statement}
 use Rattle.c_attempts.proofs.settle_final.Tie as tie
 
 part-settle-end : tie.Need-part-settle-end
-part-settle-end c = let e = told-end (encOpt (c .before .before .before .before .before .before .before .before .before .before .before .before .args .r .present) (encodeFinal (c .before .before .before .before .before .before .before .before .before .before .before .before .args .r .finalized))) _ _ (c .before .before .before .append-optional-finalized .result) (c .before .before .before .append-optional-finalized .ensures) (final-most (c .before .before .before .before .before .before .before .before .before .before .before .before .args .r .present) (c .before .before .before .before .before .before .before .before .before .before .before .before .args .r .finalized) (c .before .before .before .before .before .before .before .size-bundle .ensures) (c .before .before .before .before .before .hash-length .ensures)) in omega (arith, e .0, e .1, final-most (c .before .before .before .before .before .before .before .before .before .before .before .before .args .r .present) (c .before .before .before .before .before .before .before .before .before .before .before .before .args .r .finalized) (c .before .before .before .before .before .before .before .size-bundle .ensures) (c .before .before .before .before .before .hash-length .ensures))
+part-settle-end c =
+    let start = c .before .before .before .before .before .before .before .before .before .before .before .before in
+    let size-bundle = c .before .before .before .before .before .before .before .size-bundle in
+    let hash-length = c .before .before .before .before .before .hash-length in
+    let append-optional-finalized = c .before .before .before .append-optional-finalized in
+    let e = told-end (encOpt (start .args .r .present) (encodeFinal (start .args .r .finalized))) _ _ (append-optional-finalized .result) (append-optional-finalized .ensures)
+    (final-most (start .args .r .present) (start .args .r .finalized) (size-bundle .ensures) (hash-length .ensures)) in omega
+    (arith, e .0, e .1, final-most (start .args .r .present) (start .args .r .finalized) (size-bundle .ensures) (hash-length .ensures))
 
 returns : tie.Need-returns
-returns c = gives-as (ap (λ (l : List ℕ). finish (c .before .before .before .before .before .before .before .before .before .before .before .before .before .before .before .before .before .before .before .before .args .r .answer) (c .before .before .before .before .before .before .before .before .before .before .before .before .before .before .before .before .before .before .before .before .args .r .book) l (c .before .before .before .before .before .before .before .before .before .before .before .before .before .before .before .before .before .before .before .before .args .book .now) (c .before .before .before .before .before .before .before .before .before .before .before .before .before .before .before .before .before .before .before .before .args .answer .now)) (told (encOpt (c .before .before .before .before .before .before .before .before .before .before .before .before .before .before .before .before .before .before .before .before .args .r .present) (encodeFinal (c .before .before .before .before .before .before .before .before .before .before .before .before .before .before .before .before .before .before .before .before .args .r .finalized))) _ _ (c .before .before .before .before .before .before .before .before .before .before .before .append-optional-finalized .result) (c .before .before .before .before .before .before .before .before .before .before .before .append-optional-finalized .ensures) (final-most (c .before .before .before .before .before .before .before .before .before .before .before .before .before .before .before .before .before .before .before .before .args .r .present) (c .before .before .before .before .before .before .before .before .before .before .before .before .before .before .before .before .before .before .before .before .args .r .finalized) (c .before .before .before .before .before .before .before .before .before .before .before .before .before .before .before .size-bundle .ensures) (c .before .before .before .before .before .before .before .before .before .before .before .before .before .hash-length .ensures)))) (c .before .before .before .before .settle .ensures)
+returns c =
+    let start = c .before .before .before .before .before .before .before .before .before .before .before .before .before .before .before .before .before .before .before .before in
+    let append-optional-finalized = c .before .before .before .before .before .before .before .before .before .before .before .append-optional-finalized in
+    gives-as (ap (λ (l : List ℕ). finish (start .args .r .answer) (start .args .r .book) l (start .args .book .now) (start .args .answer .now))
+    (told (encOpt (start .args .r .present) (encodeFinal (start .args .r .finalized))) _ _ (append-optional-finalized .result) (append-optional-finalized .ensures)
+    (final-most (start .args .r .present) (start .args .r .finalized) (c .before .before .before .before .before .before .before .before .before .before .before .before .before .before .before .size-bundle .ensures)
+    (c .before .before .before .before .before .before .before .before .before .before .before .before .before .hash-length .ensures)))) (c .before .before .before .before .settle .ensures)
 
 pub settle-final-spec : {M : Type 1} → statement M
 settle-final-spec =

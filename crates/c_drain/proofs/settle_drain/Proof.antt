@@ -11,10 +11,25 @@ use Rattle.c_drain.proofs.settle_drain.Statement.{statement}
 use Rattle.c_drain.proofs.settle_drain.Tie as tie
 
 part-settle-end : tie.Need-part-settle-end
-part-settle-end c = let w = drain-fits (c .before .before .before .before .before .before .before .before .before .before .before .before .before .before .args .r) (c .before .before .before .before .before .before .append-submissions .ensures) (c .before .before .before .append-failures .ensures) in let e = told-end (encodeDrain (c .before .before .before .before .before .before .before .before .before .before .before .before .before .before .args .r)) _ _ (c .before .before .before .append-failures .result) (w .fits) (w .few) in omega (arith, e .0, e .1, w .few)
+part-settle-end c =
+    let start = c .before .before .before .before .before .before .before .before .before .before .before .before .before .before in
+    let append-failures = c .before .before .before .append-failures in
+    let w = drain-fits (start .args .r) (c .before .before .before .before .before .before .append-submissions .ensures) (append-failures .ensures) in let e = told-end (encodeDrain (start .args .r)) _ _ (append-failures .result)
+    (w .fits) (w .few) in omega (arith, e .0, e .1, w .few)
 
 returns : tie.Need-returns
-returns c = let w = drain-fits (c .before .before .before .before .before .before .before .before .before .before .before .before .before .before .before .before .before .before .before .before .before .before .args .r) (c .before .before .before .before .before .before .before .before .before .before .before .before .before .before .append-submissions .ensures) (c .before .before .before .before .before .before .before .before .before .before .before .append-failures .ensures) in record { left = gives-as (ap (λ (l : List ℕ). finish (c .before .before .before .before .before .before .before .before .before .before .before .before .before .before .before .before .before .before .before .before .before .before .args .r .answer) (c .before .before .before .before .before .before .before .before .before .before .before .before .before .before .before .before .before .before .before .before .before .before .args .r .book) l (c .before .before .before .before .before .before .before .before .before .before .before .before .before .before .before .before .before .before .before .before .before .before .args .book .now) (c .before .before .before .before .before .before .before .before .before .before .before .before .before .before .before .before .before .before .before .before .before .before .args .answer .now)) (told (encodeDrain (c .before .before .before .before .before .before .before .before .before .before .before .before .before .before .before .before .before .before .before .before .before .before .args .r)) _ _ (c .before .before .before .before .before .before .before .before .before .before .before .append-failures .result) (w .fits) (w .few))) (c .before .before .before .before .settle .ensures); submissions = c .before .before .before .before .before .before .before .before .before .before .before .before .before .before .before .before .before .submissions-length .ensures; failures = c .before .before .before .before .before .before .before .before .before .before .before .before .before .before .before .before .failures-length .ensures }
+returns c =
+    let start = c .before .before .before .before .before .before .before .before .before .before .before .before .before .before .before .before .before .before .before .before .before .before in
+    let append-failures = c .before .before .before .before .before .before .before .before .before .before .before .append-failures in
+    let w = drain-fits (start .args .r) (c .before .before .before .before .before .before .before .before .before .before .before .before .before .before .append-submissions .ensures) (append-failures .ensures) in
+    record {
+      left = gives-as (ap (λ (l : List ℕ). finish (start .args .r .answer) (start .args .r .book) l (start .args .book .now) (start .args .answer .now))
+          (told (encodeDrain (start .args .r)) _ _ (append-failures .result) (w .fits) (w .few))) (c .before .before .before .before .settle .ensures);
+      submissions =
+          c .before .before .before .before .before .before .before .before .before .before .before .before .before .before .before .before .before .submissions-length .ensures;
+      failures =
+          c .before .before .before .before .before .before .before .before .before .before .before .before .before .before .before .before .failures-length .ensures;
+    }
 
 pub settle-drain-spec : {M : Type 1} → statement M
 settle-drain-spec =

@@ -20,7 +20,8 @@ finalize-attempt-sound-requires c κs = (c .before .before .before .before .befo
 
 returns-4 : tie.Need-returns-4
 returns-4 c =
-    let h = c .before .before .before .before .before .before .before .before .before .before .before .before .before .held .ensures .present (not-false _ (c .before .before .before .before .before .before .before .before .before .before .before .before .if1 .left)) in
+    let h = c .before .before .before .before .before .before .before .before .before .before .before .before .before .held .ensures .present
+    (not-false _ (c .before .before .before .before .before .before .before .before .before .before .before .before .if1 .left)) in
     let j = c .before .before .before .before .before .before .before .before .before .joined-in .ensures .present (not-false _ (c .before .before .before .before .before .before .before .before .if3 .left)) in
     finalize-done _ _ _ _ _ _ h (c .before .before .before .before .before .before .before .before .before .before .before .if2 .left) _
     (c .before .before .before .before .before .before .before .before .before .before .source-from .ensures) j
