@@ -35,7 +35,8 @@ fn from_hex(text: &str) -> Vec<u8> {
 /// A line each: the amount's bytes, the coin string, its id.
 #[test]
 fn coin_ids_are_the_recorded_ones() {
-    let lines: Vec<&str> = include_str!("../../../crates/tool_coin_vectors/stdout").lines().collect();
+    let lines: Vec<&str> =
+        include_str!("../../../crates/tool_coin_vectors/stdout").lines().collect();
     assert_eq!(lines.len(), 35);
     for line in lines {
         let words: Vec<&str> = line.split(' ').collect();
@@ -60,7 +61,9 @@ fn looks(book: &SubmissionBook) -> String {
     let coins = book.reconciliation_input_coins(&[made(10)]);
     let tokens = (0..9).map(Token);
     let attempts: Vec<_> = tokens
-        .map(|t| (book.attempt(t), book.fee_intent_for_attempt(t), book.relinquish_completed_attempt(t)))
+        .map(|t| {
+            (book.attempt(t), book.fee_intent_for_attempt(t), book.relinquish_completed_attempt(t))
+        })
         .collect();
     let rolled_back = book.causally_rolled_back_ids(&[made(10)], &[coin_id(&coin(10))]);
     let absent = book.absent_outputs_for_ids(&book.active_ids(), &[made(10)]);
