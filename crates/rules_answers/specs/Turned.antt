@@ -313,7 +313,7 @@ turns encode (Call.ReconcileChainTerminality observed spent reorg ids) = turns-m
     turns-cond false (coinListb observed && idListb spent && idsOk ids) _ _ (λ b. turns-judges false (coinsIn observed) (idsIn spent) reorg ids (b .submitted)) refl)
 turns encode (Call.CausallyRolledBackIds absent inputs) = turns-map false false idsAre (causallyRolledBackIds absent inputs) (turns-cond false (coinListb absent && idListb inputs) _ _ (λ b. tt) refl)
 turns encode (Call.AbsentOutputsForIds is absent room) = turns-map false true written (absentOutputsForIds is absent room) (
-    turns-asked (idsOk is && coinListb absent) _ (λ b. turns-writing room (encodeCoins (flatMap (λ t. absentOutputsOf (coinsIn absent) (t .entry)) (filterb (λ t. elemb (idOf t) is) (b .submitted))))))
+    turns-asked (idsOk is && coinListb absent) _ (λ b. turns-writing room (encodeCoins (flatMap (λ t. absentOutputsOf (coinsIn absent) (t .entry .intent)) (filterb (λ t. elemb (idOf t) is) (b .submitted))))))
 turns encode (Call.CollectRollbackReplayIds is) = turns-map false false nothing (collectRollbackReplayIds is) (turns-collect false is)
 turns encode Call.ClearLocalArtifacts = turns-map false false nothing clearLocalArtifacts (λ b. turns-withdraws false _ tt (rising (map idOf (b .submitted))))
 turns encode Call.RestoreRuntime = turns-map false false nothing restoreRuntime (λ b. turns-setAsides false (map idOf (b .submitted)))
