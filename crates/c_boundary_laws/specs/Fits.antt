@@ -222,7 +222,7 @@ module _ (m : Book) (s : SoundBook m) (w : Within m) where
   fits (Call.AbsentOutputsForIds is absent room) t r =
       mapped-fitting asBytes 18946 (absentOutputsForIds is absent room) m
       (asked-fits 18946 _ m
-      (written-fits m room 18946 (encodeCoins (flatMap (λ x. absentOutputsOf (coinsIn absent) (x .entry)) (filterb (λ x. elemb (idOf x) is) (m .submitted)))) r
+      (written-fits m room 18946 (encodeCoins (flatMap (λ x. absentOutputsOf (coinsIn absent) (x .entry .intent)) (filterb (λ x. elemb (idOf x) is) (m .submitted)))) r
       (outputs-size m s w is (coinsIn absent))) (idsOk is && coinListb absent))
   fits (Call.CollectRollbackReplayIds is) t r = always (Call.CollectRollbackReplayIds is) refl asNothing (collectRollbackReplayIds is) refl silent
   fits Call.ClearLocalArtifacts t r = always Call.ClearLocalArtifacts refl asNothing clearLocalArtifacts refl silent
