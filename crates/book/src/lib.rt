@@ -119,11 +119,11 @@ pub struct RetainedIntent {
     pub fee_intent: SubmissionFeeIntent,
 }
 
-// What is revised of a submission and is no array.
+// What is revised of a submission and is no array. The expiry comes first, so that no byte of padding stands before a mark.
 pub struct SubmissionStatus {
+    pub expiry: OptionalHeight,
     pub fee_resolution: FeeResolution,
     pub chain_terminality: SubmissionChainTerminality,
-    pub expiry: OptionalHeight,
 }
 
 // What is revised of a submission.

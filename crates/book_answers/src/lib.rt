@@ -1,11 +1,13 @@
 // What the calls of a book answer, under the Rust's names. The rules speak of these types too, so that an answer stands once.
+use book::FeeResolution;
 use book::OptionalHeight;
 use book::SpendBundle;
+use book::SubmissionChainTerminality;
 use book::SubmissionFeeIntent;
 use book::SubmissionId;
 use book::Token;
 ghost use mathlib.Core.Path.{_≡_};
-ghost use Rattle.book_answers.specs.Zero.{zeroDrained, zeroFailure, zeroFinal};
+ghost use Rattle.book_answers.specs.Zero.{zeroDrained, zeroFailure, zeroFinal, zeroLook, zeroSummary};
 
 // ---- drain
 // How an issued attempt stands to its predecessor.
@@ -88,6 +90,30 @@ pub struct FinalizedSubmission {
     pub should_broadcast: bool,
 }
 
+// ---- looks
+// What a retained submission holds besides its bundles; acknowledged is its current variant, and the tokens are of its live attempt and
+// of the one that is set aside.
+pub struct SubmissionLook {
+    pub expiry: OptionalHeight,
+    pub active_attempt_token: OptionalToken,
+    pub completed_attempt_token: OptionalToken,
+    pub applied_fee: u64,
+    pub fee_resolution: FeeResolution,
+    pub chain_terminality: SubmissionChainTerminality,
+    pub acknowledged: bool,
+}
+
+// The numbers of a book, and how many entries its lists have.
+pub struct BookSummary {
+    pub next_delivery_attempt_token: Token,
+    pub next_submission_id: SubmissionId,
+    pub submitted_count: usize,
+    pub pending_count: usize,
+    pub retired_count: usize,
+    pub replayed_count: usize,
+    pub rollback_height: OptionalHeight,
+}
+
 // ---- the unused cell of each
 impl DrainedSubmission {
     pub fn zero() -> DrainedSubmission
@@ -129,6 +155,38 @@ impl FinalizedSubmission {
             disposition: FeeSourceDisposition::Attached,
             variant_fingerprint: [0; 32],
             should_broadcast: false,
+        }
+    }
+}
+
+impl SubmissionLook {
+    pub fn zero() -> SubmissionLook
+        ensures { λ r. ⌜ r ≡ zeroLook ⌝ }
+    {
+        SubmissionLook {
+            expiry: OptionalHeight::NoHeight,
+            active_attempt_token: OptionalToken::NoToken,
+            completed_attempt_token: OptionalToken::NoToken,
+            applied_fee: 0,
+            fee_resolution: FeeResolution::Unresolved,
+            chain_terminality: SubmissionChainTerminality::Active,
+            acknowledged: false,
+        }
+    }
+}
+
+impl BookSummary {
+    pub fn zero() -> BookSummary
+        ensures { λ r. ⌜ r ≡ zeroSummary ⌝ }
+    {
+        BookSummary {
+            next_delivery_attempt_token: Token(0),
+            next_submission_id: SubmissionId(0),
+            submitted_count: 0,
+            pending_count: 0,
+            retired_count: 0,
+            replayed_count: 0,
+            rollback_height: OptionalHeight::NoHeight,
         }
     }
 }

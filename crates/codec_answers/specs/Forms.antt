@@ -9,6 +9,9 @@ use Rattle.archive_bundle_form.specs.Forms.{encodeBundle, encodeHeight, encodeF
 use Rattle.book.specs.declared.Ids64.{Ids64}
 use Rattle.part_replies.specs.declared.CallAnswer.{CallAnswer}
 use Rattle.part_replies.specs.declared.CallAnswer.the-variants.{Done, Refused}
+use Rattle.archive_form.specs.Encode.{chainNumber, resolutionNumber}
+use Rattle.book_answers.specs.declared.BookSummary.{BookSummary}
+use Rattle.book_answers.specs.declared.SubmissionLook.{SubmissionLook}
 use Rattle.book_answers.specs.declared.SubmissionAttemptStatus.{SubmissionAttemptStatus}
 use Rattle.book_answers.specs.declared.SubmissionAttemptStatus.the-variants.{Applied, Stale}
 use Rattle.book_answers.specs.declared.FeeSourceDisposition.{FeeSourceDisposition}
@@ -61,6 +64,30 @@ token-no t e = sym (ap encodeToken e)
 pub token-of : (t : OptionalToken) (x : Token) → t ≡ Of x → be 1 1 ++ be 8 (x .0) ≡ encodeToken t
 unfolding encodeToken
 token-of t x e = sym (ap encodeToken e)
+
+-- what a submission holds: chain, acknowledged, fee mark, applied fee, expiry, live token, set-aside token
+unfoldable pub encodeLook : SubmissionLook → List ℕ
+unfolding be encodeToken encodeHeight
+encodeLook l =
+    be 1 (chainNumber (l .«chain_terminality»))
+    ++ be 1 (flagNumber (l .acknowledged))
+    ++ be 1 (resolutionNumber (l .«fee_resolution»))
+    ++ be 8 (l .«applied_fee»)
+    ++ encodeHeight (l .expiry)
+    ++ encodeToken (l .«active_attempt_token»)
+    ++ encodeToken (l .«completed_attempt_token»)
+
+-- the book in numbers: next token, next id, retained, queued, retired, replayed, rollback height
+unfoldable pub encodeSummary : BookSummary → List ℕ
+unfolding be encodeHeight
+encodeSummary s =
+    be 8 (s .«next_delivery_attempt_token» .0)
+    ++ be 8 (s .«next_submission_id» .0)
+    ++ be 8 (s .«submitted_count»)
+    ++ be 8 (s .«pending_count»)
+    ++ be 8 (s .«retired_count»)
+    ++ be 8 (s .«replayed_count»)
+    ++ encodeHeight (s .«rollback_height»)
 
 -- id, token, predecessor, relationship, bundle, expiry, fee intent
 unfoldable pub encodeDrained : DrainedSubmission → List ℕ

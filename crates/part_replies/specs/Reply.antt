@@ -14,8 +14,10 @@ use Rattle.book.specs.declared.OptionalAttempt.{OptionalAttempt}
 use Rattle.book.specs.declared.OptionalHeight.{OptionalHeight}
 use Rattle.book.specs.declared.OptionalHeight.the-variants.{NoHeight}
 use Rattle.book.specs.declared.SubmissionFeeIntent.{SubmissionFeeIntent}
+use Rattle.book_answers.specs.declared.BookSummary.{BookSummary}
 use Rattle.book_answers.specs.declared.FinalizedSubmission.{FinalizedSubmission}
 use Rattle.book_answers.specs.declared.SubmissionAttemptStatus.{SubmissionAttemptStatus}
+use Rattle.book_answers.specs.declared.SubmissionLook.{SubmissionLook}
 use Rattle.rules.specs.Rule.{Rule, Outcome, ended, undone, stopped, run, full}
 use Rattle.rules.specs.Steps.{onBook, runBook}
 use Rattle.part_replies.specs.declared.CallAnswer.{CallAnswer}
@@ -29,8 +31,10 @@ use Rattle.part_replies.specs.declared.HeightReply.{HeightReply}
 use Rattle.part_replies.specs.declared.AttemptReply.{AttemptReply}
 use Rattle.part_replies.specs.declared.FeeIntentReply.{FeeIntentReply}
 use Rattle.part_replies.specs.declared.FinalizeReply.{FinalizeReply}
+use Rattle.part_replies.specs.declared.LookReply.{LookReply}
+use Rattle.part_replies.specs.declared.SummaryReply.{SummaryReply}
 use Rattle.part_replies.specs.declared.WrittenReply.{WrittenReply}
-use Rattle.book_answers.specs.Zero.{zeroFinal}
+use Rattle.book_answers.specs.Zero.{zeroFinal, zeroLook, zeroSummary}
 use Rattle.book.specs.Refusals as refusals
 
 -- ---- shared by all
@@ -87,6 +91,12 @@ heightReply b o = record { answer = answerOf o; height = valueOf NoHeight o; boo
 
 abbrev pub attemptReply : BookData → Outcome Book (Option DeliveryAttempt) → AttemptReply
 attemptReply b o = record { answer = answerOf o; attempt = attemptIn (valueOf none o); book = bookLeft b o }
+
+abbrev pub lookReply : BookData → Outcome Book (Option SubmissionLook) → LookReply
+lookReply b o = record { answer = answerOf o; present = isSome (valueOf none o); look = orElse zeroLook (valueOf none o); book = bookLeft b o }
+
+abbrev pub summaryReply : BookData → Outcome Book BookSummary → SummaryReply
+summaryReply b o = record { answer = answerOf o; summary = valueOf zeroSummary o; book = bookLeft b o }
 
 abbrev pub feeIntentReply : BookData → Outcome Book (Option SubmissionFeeIntent) → FeeIntentReply
 feeIntentReply b o = record { answer = answerOf o; present = isSome (valueOf none o); «fee_intent» = orElse zeroFeeIntent (valueOf none o); book = bookLeft b o }

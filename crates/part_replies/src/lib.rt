@@ -8,8 +8,10 @@ use book::Ids64;
 use book::OptionalAttempt;
 use book::OptionalHeight;
 use book::SubmissionFeeIntent;
+use book_answers::BookSummary;
 use book_answers::FinalizedSubmission;
 use book_answers::SubmissionAttemptStatus;
+use book_answers::SubmissionLook;
 
 pub enum CallAnswer {
     Done,
@@ -49,6 +51,19 @@ pub struct HeightReply {
 pub struct AttemptReply {
     pub answer: CallAnswer,
     pub attempt: OptionalAttempt,
+    pub book: BookData,
+}
+
+pub struct LookReply {
+    pub answer: CallAnswer,
+    pub present: bool,
+    pub look: SubmissionLook,
+    pub book: BookData,
+}
+
+pub struct SummaryReply {
+    pub answer: CallAnswer,
+    pub summary: BookSummary,
     pub book: BookData,
 }
 

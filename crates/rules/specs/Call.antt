@@ -14,6 +14,7 @@ use Rattle.book.specs.declared.SubmissionDeliveryGoal.{SubmissionDeliveryGoal}
 use Rattle.book.specs.declared.DeliveryTrigger.{DeliveryTrigger}
 use Rattle.book.specs.declared.OptionalId.{OptionalId}
 use Rattle.book.specs.declared.OptionalId.the-variants.{NoId, Of}
+use Rattle.book_answers.specs.declared.BookSummary.{BookSummary}
 use Rattle.book_answers.specs.declared.DrainFailureCause.{DrainFailureCause}
 use Rattle.book_answers.specs.declared.DrainFailureCause.the-variants.{NoRetainedState, FeeIntentDiffers, InvalidRetainedState, IntentDiffers, IdCollides, OutputsUnreadable, IdsExhausted}
 use Rattle.book_answers.specs.declared.FinalizedSubmission.{FinalizedSubmission}
@@ -22,6 +23,7 @@ use Rattle.book_answers.specs.declared.SubmissionDrainFailure.{SubmissionDrainF
 use Rattle.book_answers.specs.declared.SubmissionDrainFailureStage.{SubmissionDrainFailureStage}
 use Rattle.book_answers.specs.declared.SubmissionDrainFailureStage.the-variants as stage
 use Rattle.book_answers.specs.declared.SubmissionFeeSource.{SubmissionFeeSource}
+use Rattle.book_answers.specs.declared.SubmissionLook.{SubmissionLook}
 
 pub data Call : Type 0 where
   Queue : PendingDelivery → Call
@@ -50,6 +52,9 @@ pub data Call : Type 0 where
   CollectRollbackReplayIds : List ℕ → Call
   ClearLocalArtifacts RestoreRuntime : Call
   Attempt : ℕ → Call
+  -- what one submission holds, and the book in numbers
+  Look : ℕ → Call
+  Summary : Call
   -- buffer
   WriteArchive : ℕ → Call
 
@@ -87,5 +92,7 @@ pub data Value : Type 0 where
   flag : Bool → Value
   heightIs : OptionalHeight → Value
   attemptIs : Option DeliveryAttempt → Value
+  lookIs : Option SubmissionLook → Value
+  summaryIs : BookSummary → Value
   -- into the lent buffer
   written : List ℕ → Value

@@ -29,11 +29,13 @@ pub mod CollectRollbackReplayIds
 pub mod ClearLocalArtifacts
 pub mod RestoreRuntime
 pub mod Attempt
+pub mod Look
+pub mod Summary
 pub mod WriteArchive
 use Prim.Native.Nat.{ℕ}
 use mathlib.Core.List.{List}
 use Rattle.book.specs.Model.{Book, back}
-use Rattle.rules.specs.Call.{Call, Value, noValue, failures, finalized, feeIntentIs, statusIs, idsAre, flag, heightIs, attemptIs, written}
+use Rattle.rules.specs.Call.{Call, Value, noValue, failures, finalized, feeIntentIs, statusIs, idsAre, flag, heightIs, attemptIs, lookIs, summaryIs, written}
 use Rattle.rules.specs.Calls.AbandonAttempt.{abandonAttempt}
 use Rattle.rules.specs.Calls.AbsentOutputsForIds.{absentOutputsForIds}
 use Rattle.rules.specs.Calls.AcknowledgeAttempt.{acknowledgeAttempt}
@@ -47,6 +49,7 @@ use Rattle.rules.specs.Calls.DrainRetirements.{drainRetirements}
 use Rattle.rules.specs.Calls.EmitRetirement.{emitRetirement}
 use Rattle.rules.specs.Calls.FeeIntentForAttempt.{feeIntentForAttempt}
 use Rattle.rules.specs.Calls.FinalizeAttempt.{finalizeAttempt}
+use Rattle.rules.specs.Calls.Look.{lookAt}
 use Rattle.rules.specs.Calls.Queue.{queue}
 use Rattle.rules.specs.Calls.QueueFeeReadiness.{queueFeeReadiness}
 use Rattle.rules.specs.Calls.QueueRebroadcastEpoch.{queueRebroadcastEpoch}
@@ -58,6 +61,7 @@ use Rattle.rules.specs.Calls.Replay.{beginReplay, finishReplayIfAdvanced
 use Rattle.rules.specs.Calls.RestoreRuntime.{restoreRuntime}
 use Rattle.rules.specs.Calls.RetainSubmitted.{retainSubmitted}
 use Rattle.rules.specs.Calls.StopAttempt.{stopAttempt}
+use Rattle.rules.specs.Calls.Summary.{summary}
 use Rattle.rules.specs.Calls.WriteArchive.{writeArchive}
 use Rattle.rules.specs.Rule.{Rule, _<$>_}
 
@@ -66,7 +70,7 @@ nothing u = noValue
 
 module _ (encode : Book → List ℕ) where
   unfoldable pub rules : Call → Rule Value
-  unfolding queue queueRetainedDelivery queueRebroadcastEpoch queueFeeReadiness drain finalizeAttempt feeIntentForAttempt acknowledgeAttempt stopAttempt abandonAttempt relinquishCompletedAttempt retainSubmitted emitRetirement drainRetirements reconciliationInputCoins activeIds beginReplay finishReplayIfAdvanced replayRollbackHeight reconcileChainTerminality causallyRolledBackIds absentOutputsForIds collectRollbackReplayIds clearLocalArtifacts restoreRuntime attempt writeArchive
+  unfolding queue queueRetainedDelivery queueRebroadcastEpoch queueFeeReadiness drain finalizeAttempt feeIntentForAttempt acknowledgeAttempt stopAttempt abandonAttempt relinquishCompletedAttempt retainSubmitted emitRetirement drainRetirements reconciliationInputCoins activeIds beginReplay finishReplayIfAdvanced replayRollbackHeight reconcileChainTerminality causallyRolledBackIds absentOutputsForIds collectRollbackReplayIds clearLocalArtifacts restoreRuntime attempt lookAt summary writeArchive
   rules (Call.Queue d) = nothing <$> queue d
   rules (Call.QueueRebroadcastEpoch is trigger) = nothing <$> queueRebroadcastEpoch is trigger
   rules Call.QueueFeeReadiness = nothing <$> queueFeeReadiness
@@ -93,4 +97,6 @@ module _ (encode : Book → List ℕ) where
   rules Call.ClearLocalArtifacts = nothing <$> clearLocalArtifacts
   rules Call.RestoreRuntime = nothing <$> restoreRuntime
   rules (Call.Attempt t) = attemptIs <$> attempt t
+  rules (Call.Look i) = lookIs <$> lookAt i
+  rules Call.Summary = summaryIs <$> summary
   rules (Call.WriteArchive room) = written <$> writeArchive encode room

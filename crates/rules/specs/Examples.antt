@@ -5,25 +5,27 @@ use Rattle.base_sha256.specs.Fips
 use Prim.Native.Nat.{ℕ}
 use mathlib.Core.Bool.{true}
 use mathlib.Core.List.{List, [], _∷_, map}
-use mathlib.Core.Option.{none}
+use mathlib.Core.Option.{none, some}
 use mathlib.Core.Path.{_≡_, refl, ap}
 use Rattle.base_lists.specs.Lists.{allb}
 use Rattle.archive_bundle_form.specs.Forms.{intentFingerprint}
+use Rattle.book.specs.declared.FeeResolution.the-variants.{Attached}
 use Rattle.book.specs.declared.OptionalHeight.the-variants.{At}
 use Rattle.book.specs.declared.OptionalId.the-variants.{NoId}
-use Rattle.book.specs.declared.SubmissionChainTerminality.the-variants.{Active, Landed}
+use Rattle.book.specs.declared.SubmissionChainTerminality.the-variants.{Active, InputSpent, Landed}
 use Rattle.book.specs.Model.{Book}
 use Rattle.book.specs.Sound.{idOf, soundLists}
 use Rattle.book.specs.Zero.{zeroBundle, zeroFeeIntent}
 use Rattle.rules.specs.Books.{bookAfter, answersBook}
+use Rattle.book_answers.specs.declared.OptionalToken.the-variants.{NoToken, Of}
 use Rattle.book_answers.specs.declared.DrainFailureCause.the-variants.{NoRetainedState, FeeIntentDiffers}
 use Rattle.book_answers.specs.declared.SubmissionAttemptRelationship.the-variants.{Initial}
 use Rattle.book_answers.specs.declared.SubmissionAttemptStatus.the-variants.{Applied, Stale}
-use Rattle.rules.specs.Call.{Call, Value, noValue, failures, finalized, feeIntentIs, statusIs, idsAre, flag, heightIs, attemptIs, written}
+use Rattle.rules.specs.Call.{Call, Value, noValue, failures, finalized, feeIntentIs, statusIs, idsAre, flag, heightIs, attemptIs, lookIs, summaryIs, written}
 use Rattle.rules.specs.Calls.{rules}
 use Rattle.rules.specs.Calls.Candidate.{met}
 use Rattle.rules.specs.Calls.Plan.{blank}
-use Rattle.rules.specs.Examples.Pieces.{noArchive, height, byId, heightNumber, queuedId, intentBy, delivery, damaged, drained, failing, noFee, entryOf, spending, seventhId, noCoins, liveSlot, seventh, holding, fifteen, queueing, accepted}
+use Rattle.rules.specs.Examples.Pieces.{noArchive, height, byId, heightNumber, queuedId, intentBy, delivery, damaged, drained, failing, noFee, entryOf, spending, seventhId, noCoins, liveSlot, seventh, feeAttached, holding, counted, fifteen, queueing, accepted}
 use Rattle.rules.specs.Opened.{opened}
 use Rattle.rules.specs.Parts.{intentOf}
 use Rattle.rules.specs.Rule.{retain, full, run, step, Answer, answer, refused, answered, left}
@@ -76,6 +78,8 @@ indicesOf (idsAre is) = []
 indicesOf (flag b) = []
 indicesOf (heightIs h) = []
 indicesOf (attemptIs a) = []
+indicesOf (lookIs l) = []
+indicesOf (summaryIs s) = []
 indicesOf (written bs) = []
 
 abbrev pub failedAt : Answer Value → List ℕ
@@ -137,6 +141,29 @@ stopped = record {
   leaves = (6 ∷ []) ∷ (2 ∷ []) ∷ [] ∷ [] ∷ [] ∷ (1 ∷ []) ∷ [] ∷ [];
 }
 
+-- what a submission holds, none for an id that is not retained, and the book in numbers
+abbrev pub looks : Specimen
+looks = record {
+  start = holding feeAttached (liveSlot 5) (1 ∷ []);
+  calls = Call.Look 1 ∷ Call.Look 4 ∷ Call.Summary ∷ Call.EmitRetirement 7 ∷ Call.EmitRetirement 8 ∷ Call.Summary ∷ [];
+  answers = answer [] (lookIs (some (record {
+    expiry = At (height 9);
+    «active_attempt_token» = Of (record { 0 = 5 });
+    «completed_attempt_token» = NoToken;
+    «applied_fee» = 3;
+    «fee_resolution» = Attached;
+    «chain_terminality» = InputSpent;
+    acknowledged = true;
+  })))
+      ∷ answer [] (lookIs none)
+      ∷ answer [] (summaryIs (counted 0))
+      ∷ answer [] noValue
+      ∷ answer [] noValue
+      ∷ answer [] (summaryIs (counted 2))
+      ∷ [];
+  leaves = (6 ∷ []) ∷ (2 ∷ []) ∷ (1 ∷ []) ∷ (9 ∷ []) ∷ [] ∷ (7 ∷ 8 ∷ []) ∷ (1 ∷ []) ∷ [];
+}
+
 -- the last token is issued
 abbrev pub lastToken : Specimen
 lastToken = record {
@@ -166,6 +193,10 @@ offered-again-hold = refl
 pub stopped-hold : played stopped ≡ claimed stopped
 unfolding play opened height holding seventh zeroBundle spending entryOf liveSlot noFee delivery byId drained failing fifteen damaged queueing accepted seventhId noCoins zeroFeeIntent
 stopped-hold = refl
+
+pub looks-hold : played looks ≡ claimed looks
+unfolding play opened height holding seventh zeroBundle spending entryOf liveSlot noFee delivery byId drained failing fifteen damaged queueing accepted seventhId noCoins zeroFeeIntent feeAttached counted Fips.hashed Fips.pad Fips.plus Fips.H0 Fips.rounds Fips.round Fips.K Fips.schedule
+looks-hold = refl
 
 -- by the indices alone, and by the tokens alone: the answers have whole bundles and fingerprints
 pub indices-told : map failedAt (played indices .says) ≡ [] ∷ [] ∷ [] ∷ (0 ∷ 2 ∷ []) ∷ []

@@ -4,7 +4,7 @@ use mathlib.Core.Bool.{Bool, true, false}
 use Rattle.rules.specs.Call.{Call}
 
 pub data Kind : Type 0 where
-  nothing status flag height ids attempt feeIntent final drained : Kind
+  nothing status flag height ids attempt feeIntent final look summary drained : Kind
   -- with the room in the lent buffer, for which the rules themselves ask
   inputCoins absentOutputs archive : ℕ → Kind
 
@@ -35,6 +35,8 @@ kindOf (Call.CollectRollbackReplayIds is) = nothing
 kindOf Call.ClearLocalArtifacts = nothing
 kindOf Call.RestoreRuntime = nothing
 kindOf (Call.Attempt t) = attempt
+kindOf (Call.Look i) = look
+kindOf Call.Summary = summary
 kindOf (Call.WriteArchive room) = archive room
 
 -- the header's size of an answer
@@ -47,6 +49,8 @@ answerBytes ids = 513
 answerBytes attempt = 75
 answerBytes feeIntent = 42
 answerBytes final = 1117
+answerBytes look = 39
+answerBytes summary = 57
 answerBytes drained = 19330
 answerBytes (inputCoins room) = 4738
 answerBytes (absentOutputs room) = 18946
@@ -62,6 +66,8 @@ Roomy ids = Unit {0}
 Roomy attempt = Unit {0}
 Roomy feeIntent = Unit {0}
 Roomy final = Unit {0}
+Roomy look = Unit {0}
+Roomy summary = Unit {0}
 Roomy drained = Unit {0}
 Roomy (inputCoins room) = 4738 ≤ room
 Roomy (absentOutputs room) = 18946 ≤ room
@@ -76,6 +82,8 @@ isDrain ids = false
 isDrain attempt = false
 isDrain feeIntent = false
 isDrain final = false
+isDrain look = false
+isDrain summary = false
 isDrain drained = true
 isDrain (inputCoins room) = false
 isDrain (absentOutputs room) = false
@@ -91,6 +99,8 @@ asksRoom ids = false
 asksRoom attempt = false
 asksRoom feeIntent = false
 asksRoom final = false
+asksRoom look = false
+asksRoom summary = false
 asksRoom drained = false
 asksRoom (inputCoins room) = true
 asksRoom (absentOutputs room) = true

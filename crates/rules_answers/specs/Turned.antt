@@ -25,7 +25,7 @@ use Rattle.book.specs.Sound.{readableBundle, soundDelivery, idOf}
 use Rattle.book_answers.specs.declared.DrainFailureCause.{DrainFailureCause}
 use Rattle.book_answers.specs.declared.DrainedSubmission.{DrainedSubmission}
 use Rattle.book_answers.specs.declared.SubmissionFeeSource.{SubmissionFeeSource}
-use Rattle.rules.specs.Call.{Call, failures, finalized, feeIntentIs, statusIs, idsAre, flag, heightIs, attemptIs, written}
+use Rattle.rules.specs.Call.{Call, failures, finalized, feeIntentIs, statusIs, idsAre, flag, heightIs, attemptIs, lookIs, summaryIs, written}
 use Rattle.rules.specs.Calls.{rules, nothing}
 use Rattle.rules.specs.CoinLists.{encodeCoins}
 use Rattle.rules.specs.Doors.{idsOk}
@@ -58,6 +58,8 @@ use Rattle.rules.specs.Calls.EmitRetirement.{emitRetirement}
 use Rattle.rules.specs.Calls.DrainRetirements.{drainRetirements}
 use Rattle.rules.specs.Calls.ActiveIds.{activeIds}
 use Rattle.rules.specs.Calls.Attempt.{attempt}
+use Rattle.rules.specs.Calls.Look.{lookAt}
+use Rattle.rules.specs.Calls.Summary.{summary}
 use Rattle.rules.specs.Calls.CausallyRolledBackIds.{causallyRolledBackIds}
 use Rattle.rules.specs.Calls.WriteArchive.{writeArchive}
 use Rattle.rules.specs.Calls.QueueRetainedDelivery.{queueRetainedDelivery}
@@ -318,6 +320,8 @@ turns encode (Call.CollectRollbackReplayIds is) = turns-map false false nothing 
 turns encode Call.ClearLocalArtifacts = turns-map false false nothing clearLocalArtifacts (λ b. turns-withdraws false _ tt (rising (map idOf (b .submitted))))
 turns encode Call.RestoreRuntime = turns-map false false nothing restoreRuntime (λ b. turns-setAsides false (map idOf (b .submitted)))
 turns encode (Call.Attempt t) = turns-map false false attemptIs (attempt t) (λ b. tt)
+turns encode (Call.Look i) = turns-map false false lookIs (lookAt i) (λ b. tt)
+turns encode Call.Summary = turns-map false false summaryIs summary (λ b. tt)
 turns encode (Call.WriteArchive room) = turns-map false true written (writeArchive encode room) (λ b. turns-writing room (encode b))
 
 -- how a call's rules turn it away, on any book

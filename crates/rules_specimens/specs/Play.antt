@@ -6,7 +6,7 @@ use Rattle.book.specs.Model.{Book}
 use Rattle.archive_form.specs.Encode.{encodeModel}
 use Rattle.rules.specs.Books.{bookAfter, answersBook}
 use Rattle.book_answers.specs.declared.SubmissionDrainFailureStage.{SubmissionDrainFailureStage}
-use Rattle.rules.specs.Call.{Call, stageOf, Value, noValue, failures, finalized, feeIntentIs, statusIs, idsAre, flag, heightIs, attemptIs, written}
+use Rattle.rules.specs.Call.{Call, stageOf, Value, noValue, failures, finalized, feeIntentIs, statusIs, idsAre, flag, heightIs, attemptIs, lookIs, summaryIs, written}
 use Rattle.rules.specs.Calls.{rules}
 use Rattle.rules.specs.Examples.{Specimen, Played, brief, saying}
 use Rattle.rules.specs.Rule.{full, run, Answer, answer, refused, answered, left}
@@ -37,6 +37,8 @@ failedAt (idsAre is) = []
 failedAt (flag b) = []
 failedAt (heightIs h) = []
 failedAt (attemptIs a) = []
+failedAt (lookIs l) = []
+failedAt (summaryIs s) = []
 failedAt (written s) = []
 
 abbrev pub stagesOf : Answer Value → List SubmissionDrainFailureStage

@@ -31,7 +31,7 @@ use Rattle.book_answers.specs.declared.DrainFailureCause.{DrainFailureCause}
 use Rattle.book_answers.specs.declared.DrainFailureCause.the-variants.{IdsExhausted}
 use Rattle.book_answers.specs.declared.FinalizedSubmission.{FinalizedSubmission}
 use Rattle.book_answers.specs.declared.SubmissionFeeSource.{SubmissionFeeSource}
-use Rattle.rules.specs.Call.{Call, failures, finalized, feeIntentIs, statusIs, idsAre, flag, heightIs, attemptIs, written}
+use Rattle.rules.specs.Call.{Call, failures, finalized, feeIntentIs, statusIs, idsAre, flag, heightIs, attemptIs, lookIs, summaryIs, written}
 use Rattle.rules.specs.Calls.{rules, nothing}
 use Rattle.rules.specs.CoinLists.{encodeCoins}
 use Rattle.rules.specs.Doors.{idsOk}
@@ -68,6 +68,8 @@ use Rattle.rules.specs.Calls.DrainRetirements.{drainRetirements}
 use Rattle.rules.specs.Calls.ActiveIds.{activeIds}
 use Rattle.rules.specs.Calls.CausallyRolledBackIds.{causallyRolledBackIds}
 use Rattle.rules.specs.Calls.Attempt.{attempt}
+use Rattle.rules.specs.Calls.Look.{lookAt}
+use Rattle.rules.specs.Calls.Summary.{summary}
 use Rattle.rules.specs.Calls.WriteArchive.{writeArchive}
 use Rattle.rules_typed.specs.Every.{every-filter, every-image, every-rising}
 use Rattle.rules_typed.specs.Parts.{variant-typed, current-typed, resolved-typed}
@@ -407,4 +409,6 @@ typed encode (Call.CollectRollbackReplayIds is) h = kept-map nothing (collectRol
 typed encode Call.ClearLocalArtifacts h = kept-map nothing clearLocalArtifacts typed-clear
 typed encode Call.RestoreRuntime h = kept-map nothing restoreRuntime (λ b w. typed-setAsides (map idOf (b .submitted)) b w)
 typed encode (Call.Attempt t) h = kept-map attemptIs (attempt t) (λ b w. tt)
+typed encode (Call.Look i) h = kept-map lookIs (lookAt i) (λ b w. tt)
+typed encode Call.Summary h = kept-map summaryIs summary (λ b w. tt)
 typed encode (Call.WriteArchive room) h = kept-map written (writeArchive encode room) (λ b w. typed-writing room (encode b) b w)

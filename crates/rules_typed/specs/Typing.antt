@@ -82,6 +82,8 @@ TypedCall (Call.CollectRollbackReplayIds is) = Unit {0}
 TypedCall Call.ClearLocalArtifacts = Unit {0}
 TypedCall Call.RestoreRuntime = Unit {0}
 TypedCall (Call.Attempt t) = Unit {0}
+TypedCall (Call.Look i) = Unit {0}
+TypedCall Call.Summary = Unit {0}
 TypedCall (Call.WriteArchive room) = Unit {0}
 
 -- ---- rules one after the other

@@ -19,13 +19,14 @@ use Rattle.book.specs.declared.FeeIntentKind.the-variants.{AlreadyPaid, NoFeeCo
 use Rattle.book.specs.declared.SubmissionDeliveryGoal.the-variants.{EnsureBroadcast}
 use Rattle.book.specs.declared.DeliveryTrigger.the-variants.{Protocol}
 use Rattle.book.specs.declared.SubmissionChainTerminality.{SubmissionChainTerminality}
-use Rattle.book.specs.declared.SubmissionChainTerminality.the-variants.{Active, Landed}
-use Rattle.book.specs.declared.FeeResolution.the-variants.{Unresolved, NotRequested}
+use Rattle.book.specs.declared.SubmissionChainTerminality.the-variants.{Active, InputSpent, Landed}
+use Rattle.book.specs.declared.FeeResolution.the-variants.{Unresolved, NotRequested, Attached}
 use Rattle.book.specs.Model.{Book}
 use Rattle.book.specs.Zero.{zeros, zeroOutput, zeroSpend, zeroBundle, zeroFeeIntent, zeroHash, noAttempt, noSlots, baseVariant}
 use Rattle.archive_bundle_form.specs.Forms.{variantFingerprint}
 use Rattle.book_answers.specs.declared.DrainFailureCause.{DrainFailureCause}
 use Rattle.book_answers.specs.declared.DrainedSubmission.{DrainedSubmission}
+use Rattle.book_answers.specs.declared.BookSummary.{BookSummary}
 use Rattle.book_answers.specs.declared.FeeSourceDisposition.the-variants as disposition
 use Rattle.book_answers.specs.declared.FinalizedSubmission.{FinalizedSubmission}
 use Rattle.book_answers.specs.declared.OptionalToken.{OptionalToken}
@@ -170,6 +171,19 @@ feeOpen = record {
   };
 }
 
+-- the fee of 3 is attached, and the variant with it, an empty bundle, acknowledged
+unfoldable pub feeAttached : SubmittedEntry
+unfolding zeroBundle feeOf3 emptyVariant
+feeAttached = record {
+  id = record { 0 = 1 };
+  intent = record { «intent_fingerprint» = zeros 32; «base_bundle» = zeroBundle; «fee_intent» = feeOf3 };
+  state = record {
+    «current_variant» = record { «fee_bearing» = true; bundle = zeroBundle; «applied_fee» = 3 };
+    «wallet_acknowledged_variant» = record { present = true; hash = emptyVariant };
+    status = record { «fee_resolution» = Attached; «chain_terminality» = InputSpent; expiry = At (record { 0 = 9 }) };
+  };
+}
+
 -- a live attempt that was drained with the empty bundle
 unfoldable pub drainedSlot : ℕ → AttemptSlots
 unfolding noAttempt zeroHash emptyVariant
@@ -192,6 +206,18 @@ holding e s is = record {
   retired = [];
   rollback = NoHeight;
   replayed = is;
+}
+
+-- that book in numbers, when n are retired
+unfoldable pub counted : ℕ → BookSummary
+counted n = record {
+  «next_delivery_attempt_token» = record { 0 = 6 };
+  «next_submission_id» = record { 0 = 2 };
+  «submitted_count» = 1;
+  «pending_count» = 0;
+  «retired_count» = n;
+  «replayed_count» = 1;
+  «rollback_height» = NoHeight;
 }
 
 abbrev numbered : ℕ → SubmittedTx → SubmittedTx

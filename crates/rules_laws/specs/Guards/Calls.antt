@@ -28,7 +28,7 @@ use Rattle.book.specs.Model.{Book}
 use Rattle.book.specs.Sound.{readableBundle, soundDelivery, idOf, soundBundle, soundEntry, soundSubmitted, soundIntent}
 use Rattle.book_answers.specs.declared.DrainFailureCause.{DrainFailureCause}
 use Rattle.book_answers.specs.declared.SubmissionFeeSource.{SubmissionFeeSource}
-use Rattle.rules.specs.Call.{Call, Value, noValue, failures, finalized, feeIntentIs, statusIs, idsAre, flag, heightIs, attemptIs, written}
+use Rattle.rules.specs.Call.{Call, Value, noValue, failures, finalized, feeIntentIs, statusIs, idsAre, flag, heightIs, attemptIs, lookIs, summaryIs, written}
 use Rattle.rules.specs.Calls.{rules, nothing}
 use Rattle.rules.specs.CoinLists.{encodeCoins}
 use Rattle.rules.specs.Doors.{idsOk}
@@ -71,6 +71,8 @@ use Rattle.rules.specs.Calls.DrainRetirements.{drainRetirements}
 use Rattle.rules.specs.Calls.ActiveIds.{activeIds}
 use Rattle.rules.specs.Calls.CausallyRolledBackIds.{causallyRolledBackIds}
 use Rattle.rules.specs.Calls.Attempt.{attempt}
+use Rattle.rules.specs.Calls.Look.{lookAt}
+use Rattle.rules.specs.Calls.Summary.{summary}
 use Rattle.rules.specs.Calls.WriteArchive.{writeArchive}
 use Rattle.rules_laws.specs.Held.{Then, Leaves, held-bind, held-map, held-cond, held-run}
 use Rattle.rules_laws.specs.Guards.Bare.{runBare, Taken, AtLast, TakenTo, bare-run}
@@ -367,6 +369,8 @@ all-taken encode (Call.CollectRollbackReplayIds is) = taken-map nothing (collect
 all-taken encode Call.ClearLocalArtifacts = taken-map nothing clearLocalArtifacts taken-clear
 all-taken encode Call.RestoreRuntime = taken-map nothing restoreRuntime (λ b s. taken-setAsides (map idOf (b .submitted)) b s)
 all-taken encode (Call.Attempt t) = taken-map attemptIs (attempt t) (λ b s. tt)
+all-taken encode (Call.Look i) = taken-map lookIs (lookAt i) (λ b s. tt)
+all-taken encode Call.Summary = taken-map summaryIs summary (λ b s. tt)
 all-taken encode (Call.WriteArchive room) = taken-map written (writeArchive encode room) (λ b s. taken-writing room (encode b) b s)
 
 -- on a sound book every call comes to the same with steps that take whatever they are handed: the guards never turn anything away

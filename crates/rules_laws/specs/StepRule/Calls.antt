@@ -31,7 +31,7 @@ use Rattle.rules.specs.Books.{callBook, answerBook}
 use Rattle.book_answers.specs.declared.DrainFailureCause.{DrainFailureCause}
 use Rattle.book_answers.specs.declared.DrainedSubmission.{DrainedSubmission}
 use Rattle.book_answers.specs.declared.SubmissionFeeSource.{SubmissionFeeSource}
-use Rattle.rules.specs.Call.{Call, Value, noValue, failures, finalized, feeIntentIs, statusIs, idsAre, flag, heightIs, attemptIs, written}
+use Rattle.rules.specs.Call.{Call, Value, noValue, failures, finalized, feeIntentIs, statusIs, idsAre, flag, heightIs, attemptIs, lookIs, summaryIs, written}
 use Rattle.rules.specs.Calls.{rules, nothing}
 use Rattle.rules.specs.CoinLists.{encodeCoins}
 use Rattle.rules.specs.Doors.{idsOk}
@@ -68,6 +68,8 @@ use Rattle.rules.specs.Calls.DrainRetirements.{drainRetirements}
 use Rattle.rules.specs.Calls.ActiveIds.{activeIds}
 use Rattle.rules.specs.Calls.CausallyRolledBackIds.{causallyRolledBackIds}
 use Rattle.rules.specs.Calls.Attempt.{attempt}
+use Rattle.rules.specs.Calls.Look.{lookAt}
+use Rattle.rules.specs.Calls.Summary.{summary}
 use Rattle.rules.specs.Calls.WriteArchive.{writeArchive}
 use Rattle.rules_laws.specs.Sound.Facts.{short-of}
 use Rattle.rules_laws.specs.Sound.Run.{SoundBook}
@@ -360,6 +362,8 @@ paced encode (Call.CollectRollbackReplayIds is) = paced-map nothing (collectRoll
 paced encode Call.ClearLocalArtifacts = paced-map nothing clearLocalArtifacts paced-clear
 paced encode Call.RestoreRuntime = paced-map nothing restoreRuntime (λ b. paced-setAsides (map idOf (b .submitted)))
 paced encode (Call.Attempt t) = paced-map attemptIs (attempt t) (λ b. refl)
+paced encode (Call.Look i) = paced-map lookIs (lookAt i) (λ b. refl)
+paced encode Call.Summary = paced-map summaryIs summary (λ b. refl)
 paced encode (Call.WriteArchive room) = paced-map written (writeArchive encode room) (λ b. paced-writing room (encode b))
 
 -- "A call is refused as full exactly if, after some step of the unlimited rules, retained, queue or retirements exceed their limit":
