@@ -19,29 +19,11 @@ Inv-loop n a k r₀ i₀ r i = Sizing encodeOutput a 40 k r i × (k ≤ 4) × (l
 abbrev μ-loop : tie.MeasureT-loop
 μ-loop n a k r₀ i₀ r i = k - i
 
-at-most-requires : tie.Need-at-most-requires Inv-loop μ-loop
-at-most-requires c κs = search needs
-
 loop-holds : tie.Need-loop-holds Inv-loop μ-loop
 loop-holds c = let l : length ((c .before .args) .t1) ≡ 4 = search needs in (sizing-start encodeOutput ((c .before .args) .t1) 40 ((c .at-most) .result), omega (arith, (c .at-most) .ensures), l)
 
-mul-o : tie.Need-mul-o Inv-loop μ-loop
-mul-o c = search needs
-
-array-copy-out-o : tie.Need-array-copy-out-o Inv-loop μ-loop
-array-copy-out-o c = search needs
-
-size-output-requires : tie.Need-size-output-requires Inv-loop μ-loop
-size-output-requires c κs = search needs
-
 add-r : tie.Need-add-r Inv-loop μ-loop
 add-r c = omega (arith, (c .before .before .before .loop) .inv .0 .sum .few, (c .size-output) .ensures .few)
-
-add-i : tie.Need-add-i Inv-loop μ-loop
-add-i c = search needs
-
-loop-less : tie.Need-loop-less Inv-loop μ-loop
-loop-less c = search needs
 
 loop-again : tie.Need-loop-again Inv-loop μ-loop
 loop-again c = let l = (c .before .before .before .loop) in let z : Output = record { «puzzle_hash» = []; amount = 0 } in (
@@ -64,13 +46,13 @@ size-outputs-spec =
     (tie.spec
     Inv-loop
     μ-loop
-    at-most-requires
+    (λ c κs. search needs)
     loop-holds
-    mul-o
-    array-copy-out-o
-    size-output-requires
+    (λ c. search needs)
+    (λ c. search needs)
+    (λ c κs. search needs)
     add-r
-    add-i
-    loop-less
+    (λ c. search needs)
+    (λ c. search needs)
     loop-again
     returns)

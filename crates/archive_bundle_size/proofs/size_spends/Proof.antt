@@ -20,29 +20,11 @@ Inv-loop n a k r₀ i₀ r i = Sizing encodeSpend a 268 k r i × (k ≤ 4) × (l
 abbrev μ-loop : tie.MeasureT-loop
 μ-loop n a k r₀ i₀ r i = k - i
 
-at-most-requires : tie.Need-at-most-requires Inv-loop μ-loop
-at-most-requires c κs = search needs
-
 loop-holds : tie.Need-loop-holds Inv-loop μ-loop
 loop-holds c = let l : length ((c .before .args) .t1) ≡ 4 = search needs in (sizing-start encodeSpend ((c .before .args) .t1) 268 ((c .at-most) .result), omega (arith, (c .at-most) .ensures), l)
 
-mul-s : tie.Need-mul-s Inv-loop μ-loop
-mul-s c = search needs
-
-array-copy-out-s : tie.Need-array-copy-out-s Inv-loop μ-loop
-array-copy-out-s c = search needs
-
-size-spend-requires : tie.Need-size-spend-requires Inv-loop μ-loop
-size-spend-requires c κs = search needs
-
 add-r : tie.Need-add-r Inv-loop μ-loop
 add-r c = omega (arith, (c .before .before .before .loop) .inv .0 .sum .few, (c .size-spend) .ensures .few)
-
-add-i : tie.Need-add-i Inv-loop μ-loop
-add-i c = search needs
-
-loop-less : tie.Need-loop-less Inv-loop μ-loop
-loop-less c = search needs
 
 loop-again : tie.Need-loop-again Inv-loop μ-loop
 loop-again c = let l = (c .before .before .before .loop) in let z : CoinSpend = record { «coin_len» = 0; coin = []; digest = []; readable = false; «output_count» = 0; outputs = [] } in (
@@ -65,13 +47,13 @@ size-spends-spec =
     (tie.spec
     Inv-loop
     μ-loop
-    at-most-requires
+    (λ c κs. search needs)
     loop-holds
-    mul-s
-    array-copy-out-s
-    size-spend-requires
+    (λ c. search needs)
+    (λ c. search needs)
+    (λ c κs. search needs)
     add-r
-    add-i
-    loop-less
+    (λ c. search needs)
+    (λ c. search needs)
     loop-again
     returns)

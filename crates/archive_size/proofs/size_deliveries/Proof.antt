@@ -17,29 +17,11 @@ Inv-loop n a k r₀ i₀ r i = Sizing encodeDelivery a 1134 k r i × (k ≤ 16) 
 abbrev μ-loop : tie.MeasureT-loop
 μ-loop n a k r₀ i₀ r i = k - i
 
-at-most-requires : tie.Need-at-most-requires Inv-loop μ-loop
-at-most-requires c κs = search needs
-
 loop-holds : tie.Need-loop-holds Inv-loop μ-loop
 loop-holds c = let l : length ((c .before .args) .t1) ≡ 16 = search needs in (sizing-start encodeDelivery ((c .before .args) .t1) 1134 ((c .at-most) .result), omega (arith, (c .at-most) .ensures), l)
 
-mul-d : tie.Need-mul-d Inv-loop μ-loop
-mul-d c = search needs
-
-array-copy-out-d : tie.Need-array-copy-out-d Inv-loop μ-loop
-array-copy-out-d c = search needs
-
-size-delivery-requires : tie.Need-size-delivery-requires Inv-loop μ-loop
-size-delivery-requires c κs = search needs
-
 add-r : tie.Need-add-r Inv-loop μ-loop
 add-r c = omega (arith, (c .before .before .before .loop) .inv .0 .sum .few, (c .size-delivery) .ensures .few)
-
-add-i : tie.Need-add-i Inv-loop μ-loop
-add-i c = search needs
-
-loop-less : tie.Need-loop-less Inv-loop μ-loop
-loop-less c = search needs
 
 loop-again : tie.Need-loop-again Inv-loop μ-loop
 loop-again c = let l = (c .before .before .before .loop) in (
@@ -62,13 +44,13 @@ size-deliveries-spec =
     (tie.spec
     Inv-loop
     μ-loop
-    at-most-requires
+    (λ c κs. search needs)
     loop-holds
-    mul-d
-    array-copy-out-d
-    size-delivery-requires
+    (λ c. search needs)
+    (λ c. search needs)
+    (λ c κs. search needs)
     add-r
-    add-i
-    loop-less
+    (λ c. search needs)
+    (λ c. search needs)
     loop-again
     returns)

@@ -17,29 +17,11 @@ Inv-loop n a k r₀ i₀ r i = Sizing encodeSubmitted a 2430 k r i × (k ≤ 16)
 abbrev μ-loop : tie.MeasureT-loop
 μ-loop n a k r₀ i₀ r i = k - i
 
-at-most-requires : tie.Need-at-most-requires Inv-loop μ-loop
-at-most-requires c κs = search needs
-
 loop-holds : tie.Need-loop-holds Inv-loop μ-loop
 loop-holds c = let l : length ((c .before .args) .t1) ≡ 16 = search needs in (sizing-start encodeSubmitted ((c .before .args) .t1) 2430 ((c .at-most) .result), omega (arith, (c .at-most) .ensures), l)
 
-mul-t : tie.Need-mul-t Inv-loop μ-loop
-mul-t c = search needs
-
-array-copy-out-t : tie.Need-array-copy-out-t Inv-loop μ-loop
-array-copy-out-t c = search needs
-
-size-submitted-requires : tie.Need-size-submitted-requires Inv-loop μ-loop
-size-submitted-requires c κs = search needs
-
 add-r : tie.Need-add-r Inv-loop μ-loop
 add-r c = omega (arith, (c .before .before .before .loop) .inv .0 .sum .few, (c .size-submitted) .ensures .few)
-
-add-i : tie.Need-add-i Inv-loop μ-loop
-add-i c = search needs
-
-loop-less : tie.Need-loop-less Inv-loop μ-loop
-loop-less c = search needs
 
 loop-again : tie.Need-loop-again Inv-loop μ-loop
 loop-again c = let l = (c .before .before .before .loop) in (
@@ -62,13 +44,13 @@ size-submissions-spec =
     (tie.spec
     Inv-loop
     μ-loop
-    at-most-requires
+    (λ c κs. search needs)
     loop-holds
-    mul-t
-    array-copy-out-t
-    size-submitted-requires
+    (λ c. search needs)
+    (λ c. search needs)
+    (λ c κs. search needs)
     add-r
-    add-i
-    loop-less
+    (λ c. search needs)
+    (λ c. search needs)
     loop-again
     returns)

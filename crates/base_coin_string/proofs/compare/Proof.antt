@@ -28,23 +28,11 @@ returns c =
     let start = c .before .before .before in
     longer (c .before .before .loop .inv .1) (rest-step (start .args .a .now) (c .before .before .loop .i) 0 (c .before .loop-test .taken)) (drop-of-length-le (start .args .b .now) {i = c .before .before .loop .i} (c .if1 .taken))
 
-shared-slice-read-if2 : tie.Need-shared-slice-read-if2 Inv-loop μ-loop
-shared-slice-read-if2 c = search needs
-
-shared-slice-read-if2-2 : tie.Need-shared-slice-read-if2-2 Inv-loop μ-loop
-shared-slice-read-if2-2 c = search needs
-
 returns-2 : tie.Need-returns-2 Inv-loop μ-loop
 returns-2 c =
     let start = c .before .before .before .before .before .before in
     below (c .before .before .before .before .before .loop .inv .1) (rest-step (start .args .a .now) (c .before .before .before .before .before .loop .i) 0 (c .before .before .before .before .loop-test .taken))
     (rest-step (start .args .b .now) (c .before .before .before .before .before .loop .i) 0 (c .before .before .before .if1 .left)) (c .if2 .taken)
-
-shared-slice-read-if3 : tie.Need-shared-slice-read-if3 Inv-loop μ-loop
-shared-slice-read-if3 c = search needs
-
-shared-slice-read-if3-2 : tie.Need-shared-slice-read-if3-2 Inv-loop μ-loop
-shared-slice-read-if3-2 c = search needs
 
 returns-3 : tie.Need-returns-3 Inv-loop μ-loop
 returns-3 c =
@@ -53,12 +41,6 @@ returns-3 c =
     (rest-step (start .args .a .now) (c .before .before .before .before .before .before .before .before .loop .i) 0 (c .before .before .before .before .before .before .before .loop-test .taken))
     (rest-step (start .args .b .now) (c .before .before .before .before .before .before .before .before .loop .i) 0 (c .before .before .before .before .before .before .if1 .left)) (c .if3 .taken)
     (c .before .before .before .if2 .left)
-
-add-i : tie.Need-add-i Inv-loop μ-loop
-add-i c = search needs
-
-loop-less : tie.Need-loop-less Inv-loop μ-loop
-loop-less c = search needs
 
 loop-again : tie.Need-loop-again Inv-loop μ-loop
 loop-again c =
@@ -88,14 +70,14 @@ compare-spec =
     μ-loop
     loop-holds
     returns
-    shared-slice-read-if2
-    shared-slice-read-if2-2
+    (λ c. search needs)
+    (λ c. search needs)
     returns-2
-    shared-slice-read-if3
-    shared-slice-read-if3-2
+    (λ c. search needs)
+    (λ c. search needs)
     returns-3
-    add-i
-    loop-less
+    (λ c. search needs)
+    (λ c. search needs)
     loop-again
     returns-4
     returns-5)

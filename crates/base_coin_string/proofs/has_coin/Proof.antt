@@ -27,16 +27,10 @@ Inv-loop s coin len left₀ at₀ left at = isIn (coinsIn s) (take len coin) ≡
 abbrev μ-loop : tie.MeasureT-loop
 μ-loop s coin len left₀ at₀ left at = left
 
-list-count-requires : tie.Need-list-count-requires Inv-loop μ-loop
-list-count-requires c κs = search needs
-
 loop-holds : tie.Need-loop-holds Inv-loop μ-loop
 loop-holds c =
     let start = c .before .before in
     ap (λ (n : ℕ). isIn (coinsFrom n (drop 2 (start .args .s .now))) (take (start .args .len) (start .args .coin))) (sym (c .list-count .ensures))
-
-coin-end-requires : tie.Need-coin-end-requires Inv-loop μ-loop
-coin-end-requires c κs = search needs
 
 returns : tie.Need-returns Inv-loop μ-loop
 returns c =
@@ -52,9 +46,6 @@ add-coin-is c =
     (c .before .coin-end .ensures) (c .if1 .left) in
     omega (arith, w .start, w .end)
 
-coin-is-requires : tie.Need-coin-is-requires Inv-loop μ-loop
-coin-is-requires c κs = search needs
-
 returns-2 : tie.Need-returns-2 Inv-loop μ-loop
 returns-2 c =
     let start = c .before .before .before .before .before .before .before .before in
@@ -63,12 +54,6 @@ returns-2 c =
     (coin-end .ensures) (c .before .before .if1 .left) in
     in-hit (take (start .args .len) (start .args .coin)) (w .coins (c .before .before .before .before .before .loop .left) (c .before .before .before .before .loop-test .taken)) (sym (c .if2 .taken) ∙ c .before .coin-is .ensures)
     (c .before .before .before .before .before .loop .inv)
-
-sub-left : tie.Need-sub-left Inv-loop μ-loop
-sub-left c = search needs
-
-loop-less : tie.Need-loop-less Inv-loop μ-loop
-loop-less c = search needs
 
 loop-again : tie.Need-loop-again Inv-loop μ-loop
 loop-again c =
@@ -90,14 +75,14 @@ has-coin-spec =
     (tie.spec
     Inv-loop
     μ-loop
-    list-count-requires
+    (λ c κs. search needs)
     loop-holds
-    coin-end-requires
+    (λ c κs. search needs)
     returns
     add-coin-is
-    coin-is-requires
+    (λ c κs. search needs)
     returns-2
-    sub-left
-    loop-less
+    (λ c. search needs)
+    (λ c. search needs)
     loop-again
     returns-3)

@@ -32,24 +32,12 @@ loop-holds c = (omega arith, refl)
 add-to : tie.Need-add-to Inv-loop μ-loop
 add-to c = omega arith
 
-part-requires : tie.Need-part-requires Inv-loop μ-loop
-part-requires c κs = search needs
-
-same-requires : tie.Need-same-requires Inv-loop μ-loop
-same-requires c κs = search needs
-
 returns : tie.Need-returns Inv-loop μ-loop
 returns c =
     let start = c .before .before .before .before .before .before .before in
     in-hit (start .args .id .now) (ids-step (start .args .s .now) (c .before .before .before .before .before .loop .at) (c .before .before .before .before .before .loop .left)
     (c .before .before .before .before .loop-test .taken)) (sym (c .if1 .taken) ∙ c .before .same .ensures ∙ ap (λ (l : List ℕ). eqs l (start .args .id .now)) (c .before .before .before .part .ensures))
     (c .before .before .before .before .before .loop .inv .1)
-
-sub-left : tie.Need-sub-left Inv-loop μ-loop
-sub-left c = search needs
-
-loop-less : tie.Need-loop-less Inv-loop μ-loop
-loop-less c = search needs
 
 loop-again : tie.Need-loop-again Inv-loop μ-loop
 loop-again c =
@@ -73,10 +61,10 @@ has-id-spec =
     μ-loop
     loop-holds
     add-to
-    part-requires
-    same-requires
+    (λ c κs. search needs)
+    (λ c κs. search needs)
     returns
-    sub-left
-    loop-less
+    (λ c. search needs)
+    (λ c. search needs)
     loop-again
     returns-2)

@@ -25,9 +25,6 @@ Inv-loop s left₀ at₀ left at = (at ≤ length s) × (coinListb s ≡ usedUp 
 abbrev μ-loop : tie.MeasureT-loop
 μ-loop s left₀ at₀ left at = left
 
-list-count-requires : tie.Need-list-count-requires Inv-loop μ-loop
-list-count-requires c κs = search needs
-
 returns : tie.Need-returns Inv-loop μ-loop
 returns c = list-short (c .before .before .before .args .s .now) (c .if1 .taken)
 
@@ -41,18 +38,9 @@ loop-holds c =
     let list-count = c .before .before .list-count in
     (c .before .if1 .left, list-start (c .before .before .before .before .args .s .now) (list-count .result) (c .before .if1 .left) (list-count .ensures) (c .if2 .left))
 
-coin-end-requires : tie.Need-coin-end-requires Inv-loop μ-loop
-coin-end-requires c κs = search needs
-
 returns-3 : tie.Need-returns-3 Inv-loop μ-loop
 returns-3 c = sym (c .before .before .before .loop .inv .1 ∙ broken (c .before .before .before .before .before .before .before .before .args .s .now) (c .before .before .before .loop .at) (c .before .coin-end .result)
     (c .before .coin-end .ensures) (c .if3 .taken) .used (c .before .before .before .loop .left) (c .before .before .loop-test .taken))
-
-sub-left : tie.Need-sub-left Inv-loop μ-loop
-sub-left c = search needs
-
-loop-less : tie.Need-loop-less Inv-loop μ-loop
-loop-less c = search needs
 
 loop-again : tie.Need-loop-again Inv-loop μ-loop
 loop-again c =
@@ -72,13 +60,13 @@ is-coin-list-spec =
     (tie.spec
     Inv-loop
     μ-loop
-    list-count-requires
+    (λ c κs. search needs)
     returns
     returns-2
     loop-holds
-    coin-end-requires
+    (λ c κs. search needs)
     returns-3
-    sub-left
-    loop-less
+    (λ c. search needs)
+    (λ c. search needs)
     loop-again
     returns-4)

@@ -23,20 +23,11 @@ abbrev μ-loop : tie.MeasureT-loop
 loop-holds : tie.Need-loop-holds Inv-loop μ-loop
 loop-holds c = (search needs, refl)
 
-shared-slice-read-push : tie.Need-shared-slice-read-push Inv-loop μ-loop
-shared-slice-read-push c = search needs
-
 push-requires : tie.Need-push-requires Inv-loop μ-loop
 push-requires c κs =
     let start = c .before .before .before .before in
     let e = ap (λ (o : CoinString). o .len) (c .before .before .loop .inv .1) ∙ pushes-len (start .args .c) (take (c .before .before .loop .i) (start .args .s .now)) in omega
     (arith, e, length-take-le (c .before .before .loop .i) (start .args .s .now) (c .before .before .loop .inv .0), start .pre)
-
-add-i : tie.Need-add-i Inv-loop μ-loop
-add-i c = search needs
-
-loop-less : tie.Need-loop-less Inv-loop μ-loop
-loop-less c = search needs
 
 loop-again : tie.Need-loop-again Inv-loop μ-loop
 loop-again c =
@@ -58,9 +49,9 @@ push-all-spec =
     Inv-loop
     μ-loop
     loop-holds
-    shared-slice-read-push
+    (λ c. search needs)
     push-requires
-    add-i
-    loop-less
+    (λ c. search needs)
+    (λ c. search needs)
     loop-again
     returns)

@@ -24,21 +24,9 @@ loop-holds : tie.Need-loop-holds Inv-loop μ-loop
 loop-holds c = (search needs, refl)
 
 -- src/lib.rt:39:20
-mul-ok : tie.Need-mul-ok Inv-loop μ-loop
-mul-ok c = search needs
-
 -- src/lib.rt:39:20
-shared-slice-read-ok : tie.Need-shared-slice-read-ok Inv-loop μ-loop
-shared-slice-read-ok c = search needs
-
 -- src/lib.rt:40:9
-add-i : tie.Need-add-i Inv-loop μ-loop
-add-i c = search needs
-
 -- src/lib.rt:38:5
-loop-less : tie.Need-loop-less Inv-loop μ-loop
-loop-less c = search needs
-
 -- src/lib.rt:38:5
 loop-again : tie.Need-loop-again Inv-loop μ-loop
 loop-again c =
@@ -58,9 +46,9 @@ all-below-spec =
     Inv-loop
     μ-loop
     loop-holds
-    mul-ok
-    shared-slice-read-ok
-    add-i
-    loop-less
+    (λ c. search needs)
+    (λ c. search needs)
+    (λ c. search needs)
+    (λ c. search needs)
     loop-again
     returns)

@@ -24,13 +24,7 @@ loop-holds : tie.Need-loop-holds Inv-loop μ-loop
 loop-holds c = (search needs, refl)
 
 -- src/lib.rt:11:12
-mul-if1 : tie.Need-mul-if1 Inv-loop μ-loop
-mul-if1 c = search needs
-
 -- src/lib.rt:11:12
-shared-slice-read-if1 : tie.Need-shared-slice-read-if1 Inv-loop μ-loop
-shared-slice-read-if1 c = search needs
-
 -- src/lib.rt:12:13
 returns : tie.Need-returns Inv-loop μ-loop
 returns c =
@@ -38,13 +32,7 @@ returns c =
     elem-hit (start .args .x) (rest-step (start .args .s .now) (c .before .before .before .loop .i) 0 (c .before .before .loop-test .taken)) (c .if1 .taken) (c .before .before .before .loop .inv .1)
 
 -- src/lib.rt:14:9
-add-i : tie.Need-add-i Inv-loop μ-loop
-add-i c = search needs
-
 -- src/lib.rt:10:5
-loop-less : tie.Need-loop-less Inv-loop μ-loop
-loop-less c = search needs
-
 -- src/lib.rt:10:5
 loop-again : tie.Need-loop-again Inv-loop μ-loop
 loop-again c =
@@ -64,10 +52,10 @@ contains-spec =
     Inv-loop
     μ-loop
     loop-holds
-    mul-if1
-    shared-slice-read-if1
+    (λ c. search needs)
+    (λ c. search needs)
     returns
-    add-i
-    loop-less
+    (λ c. search needs)
+    (λ c. search needs)
     loop-again
     returns-2)

@@ -23,37 +23,13 @@ loop-holds : tie.Need-loop-holds Inv-loop μ-loop
 loop-holds c = (search needs, refl)
 
 -- src/lib.rt:24:17
-add-j : tie.Need-add-j Inv-loop μ-loop
-add-j c = search needs
-
 -- src/lib.rt:25:21
-mul-contains : tie.Need-mul-contains Inv-loop μ-loop
-mul-contains c = search needs
-
 -- src/lib.rt:25:21
-sub-contains : tie.Need-sub-contains Inv-loop μ-loop
-sub-contains c = search needs
-
 -- src/lib.rt:25:21
-part-contains-start : tie.Need-part-contains-start Inv-loop μ-loop
-part-contains-start c = search needs
-
 -- src/lib.rt:25:21
-part-contains-end : tie.Need-part-contains-end Inv-loop μ-loop
-part-contains-end c = search needs
-
 -- src/lib.rt:25:30
-mul-contains-2 : tie.Need-mul-contains-2 Inv-loop μ-loop
-mul-contains-2 c = search needs
-
 -- src/lib.rt:25:30
-shared-slice-read-contains : tie.Need-shared-slice-read-contains Inv-loop μ-loop
-shared-slice-read-contains c = search needs
-
 -- src/lib.rt:25:12
-contains-requires : tie.Need-contains-requires Inv-loop μ-loop
-contains-requires c κs = search needs
-
 tail : (c : tie.After-contains Inv-loop μ-loop) → c .contains .result ≡ elemb (getD (c .before .before .before .before .before .before .args .s .now) (c .before .before .before .before .loop .i) 0)
     (drop (c .before .before .before .before .loop .i + 1) (c .before .before .before .before .before .before .args .s .now))
 tail c = c .contains .ensures ∙ simp part-to-end
@@ -64,9 +40,6 @@ returns c = distinct-hit (rest-step (c .before .before .before .before .before .
     (sym (tail (c .before)) ∙ c .if1 .taken) (c .before .before .before .before .before .loop .inv .1)
 
 -- src/lib.rt:23:5
-loop-less : tie.Need-loop-less Inv-loop μ-loop
-loop-less c = search needs
-
 -- src/lib.rt:23:5
 loop-again : tie.Need-loop-again Inv-loop μ-loop
 loop-again c = (
@@ -87,15 +60,15 @@ distinct-spec =
     Inv-loop
     μ-loop
     loop-holds
-    add-j
-    mul-contains
-    sub-contains
-    part-contains-start
-    part-contains-end
-    mul-contains-2
-    shared-slice-read-contains
-    contains-requires
+    (λ c. search needs)
+    (λ c. search needs)
+    (λ c. search needs)
+    (λ c. search needs)
+    (λ c. search needs)
+    (λ c. search needs)
+    (λ c. search needs)
+    (λ c κs. search needs)
     returns
-    loop-less
+    (λ c. search needs)
     loop-again
     returns-2)

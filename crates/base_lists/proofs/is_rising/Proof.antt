@@ -29,27 +29,6 @@ abbrev μ-loop : tie.MeasureT-loop
 loop-holds : tie.Need-loop-holds Inv-loop μ-loop
 loop-holds c = (omega arith, omega arith, refl)
 
-sub-ok : tie.Need-sub-ok Inv-loop μ-loop
-sub-ok c = search needs
-
-mul-ok : tie.Need-mul-ok Inv-loop μ-loop
-mul-ok c = search needs
-
-shared-slice-read-ok : tie.Need-shared-slice-read-ok Inv-loop μ-loop
-shared-slice-read-ok c = search needs
-
-mul-ok-2 : tie.Need-mul-ok-2 Inv-loop μ-loop
-mul-ok-2 c = search needs
-
-shared-slice-read-ok-2 : tie.Need-shared-slice-read-ok-2 Inv-loop μ-loop
-shared-slice-read-ok-2 c = search needs
-
-add-i : tie.Need-add-i Inv-loop μ-loop
-add-i c = search needs
-
-loop-less : tie.Need-loop-less Inv-loop μ-loop
-loop-less c = search needs
-
 loop-again : tie.Need-loop-again Inv-loop μ-loop
 loop-again c = let s = c .before .before .before .before .args .s .now in let i = c .before .before .before .loop .i in
     let p : i - 1 + 1 ≡ i + 1 - 1 = omega arith in
@@ -69,12 +48,12 @@ is-rising-spec =
     Inv-loop
     μ-loop
     loop-holds
-    sub-ok
-    mul-ok
-    shared-slice-read-ok
-    mul-ok-2
-    shared-slice-read-ok-2
-    add-i
-    loop-less
+    (λ c. search needs)
+    (λ c. search needs)
+    (λ c. search needs)
+    (λ c. search needs)
+    (λ c. search needs)
+    (λ c. search needs)
+    (λ c. search needs)
     loop-again
     returns)

@@ -26,23 +26,11 @@ returns c = sym (eqs-lengths (c .before .args .a .now) (c .before .args .b .now)
 loop-holds : tie.Need-loop-holds Inv-loop μ-loop
 loop-holds c = (search needs, c .if1 .left, refl)
 
-shared-slice-read-if2 : tie.Need-shared-slice-read-if2 Inv-loop μ-loop
-shared-slice-read-if2 c = search needs
-
-shared-slice-read-if2-2 : tie.Need-shared-slice-read-if2-2 Inv-loop μ-loop
-shared-slice-read-if2-2 c = search needs
-
 returns-2 : tie.Need-returns-2 Inv-loop μ-loop
 returns-2 c =
     let start = c .before .before .before .before .before .before in
     eqs-differ (rest-step (start .args .a .now) (c .before .before .before .before .loop .i) 0 (c .before .before .before .loop-test .taken))
     (rest-step (start .args .b .now) (c .before .before .before .before .loop .i) 0 (search needs)) (c .if2 .taken) (c .before .before .before .before .loop .inv .2)
-
-add-i : tie.Need-add-i Inv-loop μ-loop
-add-i c = search needs
-
-loop-less : tie.Need-loop-less Inv-loop μ-loop
-loop-less c = search needs
 
 loop-again : tie.Need-loop-again Inv-loop μ-loop
 loop-again c =
@@ -66,10 +54,10 @@ same-spec =
     μ-loop
     returns
     loop-holds
-    shared-slice-read-if2
-    shared-slice-read-if2-2
+    (λ c. search needs)
+    (λ c. search needs)
     returns-2
-    add-i
-    loop-less
+    (λ c. search needs)
+    (λ c. search needs)
     loop-again
     returns-3)

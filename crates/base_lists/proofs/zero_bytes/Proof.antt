@@ -24,17 +24,8 @@ loop-holds : tie.Need-loop-holds Inv-loop μ-loop
 loop-holds c = (search needs, refl)
 
 -- src/lib.rt:63:20
-shared-slice-read-ok : tie.Need-shared-slice-read-ok Inv-loop μ-loop
-shared-slice-read-ok c = search needs
-
 -- src/lib.rt:64:9
-add-i : tie.Need-add-i Inv-loop μ-loop
-add-i c = search needs
-
 -- src/lib.rt:62:5
-loop-less : tie.Need-loop-less Inv-loop μ-loop
-loop-less c = search needs
-
 -- src/lib.rt:62:5
 loop-again : tie.Need-loop-again Inv-loop μ-loop
 loop-again c = (search needs, all-turn isZero (c .before .before .loop .ok) (rest-step (c .before .before .before .args .a .now) (c .before .before .loop .i) 0 (c .before .loop-test .taken)) (c .before .before .loop .inv .1))
@@ -46,4 +37,4 @@ returns c = all-done isZero (c .before .loop .ok) (drop-of-length-le (c .before 
 pub zero-bytes-spec : {M : Type 1} → statement M
 zero-bytes-spec =
     tie.close
-    (tie.spec Inv-loop μ-loop loop-holds shared-slice-read-ok add-i loop-less loop-again returns)
+    (tie.spec Inv-loop μ-loop loop-holds (λ c. search needs) (λ c. search needs) (λ c. search needs) loop-again returns)

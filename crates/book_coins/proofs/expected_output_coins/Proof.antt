@@ -25,12 +25,6 @@ Inv-loop spends n acc₀ i₀ acc i = (i ≤ n) × (n ≤ 4) × (length spends �
 abbrev μ-loop : tie.MeasureT-loop
 μ-loop spends n acc₀ i₀ acc i = n - i
 
-at-most-four-requires : tie.Need-at-most-four-requires Inv-loop μ-loop
-at-most-four-requires c κs = search needs
-
-no-outputs-requires : tie.Need-no-outputs-requires Inv-loop μ-loop
-no-outputs-requires c κs = search needs
-
 loop-holds : tie.Need-loop-holds Inv-loop μ-loop
 loop-holds c =
     let start = c .before .before .before in (
@@ -42,20 +36,8 @@ loop-holds c =
           (take (c .before .at-most-four .result) (start .args .b .spends)) (c .no-outputs .ensures),
     )
 
-mul-s : tie.Need-mul-s Inv-loop μ-loop
-mul-s c = search needs
-
-array-copy-out-s : tie.Need-array-copy-out-s Inv-loop μ-loop
-array-copy-out-s c = search needs
-
 push-outputs-requires : tie.Need-push-outputs-requires Inv-loop μ-loop
 push-outputs-requires c κs = omega (arith, c .before .before .loop .inv .3, c .before .before .loop .inv .1, c .before .loop-test .taken)
-
-add-i : tie.Need-add-i Inv-loop μ-loop
-add-i c = search needs
-
-loop-less : tie.Need-loop-less Inv-loop μ-loop
-loop-less c = search needs
 
 loop-again : tie.Need-loop-again Inv-loop μ-loop
 loop-again c = (
@@ -85,13 +67,13 @@ expected-output-coins-spec =
     (tie.spec
     Inv-loop
     μ-loop
-    at-most-four-requires
-    no-outputs-requires
+    (λ c κs. search needs)
+    (λ c κs. search needs)
     loop-holds
-    mul-s
-    array-copy-out-s
+    (λ c. search needs)
+    (λ c. search needs)
     push-outputs-requires
-    add-i
-    loop-less
+    (λ c. search needs)
+    (λ c. search needs)
     loop-again
     returns)

@@ -22,12 +22,6 @@ Inv-loop s parent outs acc₀ j₀ acc j = (j ≤ outs) × (acc .count ≡ acc�
 abbrev μ-loop : tie.MeasureT-loop
 μ-loop s parent outs acc₀ j₀ acc j = outs - j
 
-input-coin-id-requires : tie.Need-input-coin-id-requires Inv-loop μ-loop
-input-coin-id-requires c κs = search needs
-
-output-count-requires : tie.Need-output-count-requires Inv-loop μ-loop
-output-count-requires c κs = search needs
-
 loop-holds : tie.Need-loop-holds Inv-loop μ-loop
 loop-holds c =
     let start = c .before .before in
@@ -38,12 +32,6 @@ output-coin-requires c κs = omega (arith, c .before .before .output-count .ensu
 
 push-output-requires : tie.Need-push-output-requires Inv-loop μ-loop
 push-output-requires c κs = omega (arith, c .before .before .before .output-count .ensures .most, c .before .loop-test .taken, c .before .before .loop .inv .1, c .before .before .before .before .before .pre)
-
-add-j : tie.Need-add-j Inv-loop μ-loop
-add-j c = search needs
-
-loop-less : tie.Need-loop-less Inv-loop μ-loop
-loop-less c = search needs
 
 loop-again : tie.Need-loop-again Inv-loop μ-loop
 unfolding outputCoin
@@ -77,12 +65,12 @@ push-outputs-spec =
     (tie.spec
     Inv-loop
     μ-loop
-    input-coin-id-requires
-    output-count-requires
+    (λ c κs. search needs)
+    (λ c κs. search needs)
     loop-holds
     output-coin-requires
     push-output-requires
-    add-j
-    loop-less
+    (λ c. search needs)
+    (λ c. search needs)
     loop-again
     returns)

@@ -21,41 +21,17 @@ Inv-loop amounts k₀ k = k ≤ 35
 abbrev μ-loop : tie.MeasureT-loop
 μ-loop amounts k₀ k = 35 - k
 
-loop-holds : tie.Need-loop-holds Inv-loop μ-loop
-loop-holds c = search needs
-
-mul-show-coin : tie.Need-mul-show-coin Inv-loop μ-loop
-mul-show-coin c = search needs
-
-array-read-show-coin : tie.Need-array-read-show-coin Inv-loop μ-loop
-array-read-show-coin c = search needs
-
-show-coin-requires : tie.Need-show-coin-requires Inv-loop μ-loop
-show-coin-requires c κs = search needs
-
-add-k : tie.Need-add-k Inv-loop μ-loop
-add-k c = search needs
-
-loop-less : tie.Need-loop-less Inv-loop μ-loop
-loop-less c = search needs
-
-loop-again : tie.Need-loop-again Inv-loop μ-loop
-loop-again c = search needs
-
-returns : tie.Need-returns Inv-loop μ-loop
-returns c = search needs
-
 pub main-spec : {M : Type 1} → statement M
 main-spec =
     tie.close
     (tie.spec
     Inv-loop
     μ-loop
-    loop-holds
-    mul-show-coin
-    array-read-show-coin
-    show-coin-requires
-    add-k
-    loop-less
-    loop-again
-    returns)
+    (λ c. search needs)
+    (λ c. search needs)
+    (λ c. search needs)
+    (λ c κs. search needs)
+    (λ c. search needs)
+    (λ c. search needs)
+    (λ c. search needs)
+    (λ c. search needs))

@@ -24,18 +24,6 @@ abbrev μ-loop : tie.MeasureT-loop
 loop-holds : tie.Need-loop-holds Inv-loop μ-loop
 loop-holds c = (each-start spacedByte (c .before .before .args .src .now) (c .before .before .args .at) (c .before .before .args .out .now), omega arith, refl)
 
-shared-slice-read-b : tie.Need-shared-slice-read-b Inv-loop μ-loop
-shared-slice-read-b c = search needs
-
-append-spaced-byte-requires : tie.Need-append-spaced-byte-requires Inv-loop μ-loop
-append-spaced-byte-requires c κs = search needs
-
-add-i : tie.Need-add-i Inv-loop μ-loop
-add-i c = search needs
-
-loop-less : tie.Need-loop-less Inv-loop μ-loop
-loop-less c = search needs
-
 loop-again : tie.Need-loop-again Inv-loop μ-loop
 loop-again c = (each-more 0 spacedByte (c .before .before .before .before .before .before .before .before .before .args .src .now) (c .before .before .before .before .before .before .loop .i) (c .before .before .before .before .before .loop-test .taken) (c .before .before .before .before .before .before .loop .inv .0) (c .before .before .append-spaced-byte .ensures), omega arith, search needs)
 
@@ -53,10 +41,10 @@ append-spaced-hex-spec =
     Inv-loop
     μ-loop
     loop-holds
-    shared-slice-read-b
-    append-spaced-byte-requires
-    add-i
-    loop-less
+    (λ c. search needs)
+    (λ c κs. search needs)
+    (λ c. search needs)
+    (λ c. search needs)
     loop-again
     same-length
     returns)

@@ -16,28 +16,10 @@ Inv-loop out₀ at n a k e₀ i₀ out e i = FitsWithin (i * 1149) (encMany enco
 abbrev μ-loop : tie.MeasureT-loop
 μ-loop out₀ at n a k e₀ i₀ out e i = k - i
 
-at-most-requires : tie.Need-at-most-requires Inv-loop μ-loop
-at-most-requires c κs = search needs
-
 loop-holds : tie.Need-loop-holds Inv-loop μ-loop
 loop-holds c =
     let start = c .before .before in
     (within-start 1149 encodeDrained (start .args .t3) (start .args .at) (start .args .out .now), omega arith, omega (arith, c .at-most .ensures), refl)
-
-mul-d : tie.Need-mul-d Inv-loop μ-loop
-mul-d c = search needs
-
-array-copy-out-d : tie.Need-array-copy-out-d Inv-loop μ-loop
-array-copy-out-d c = search needs
-
-append-drained-requires : tie.Need-append-drained-requires Inv-loop μ-loop
-append-drained-requires c κs = search needs
-
-add-i : tie.Need-add-i Inv-loop μ-loop
-add-i c = search needs
-
-loop-less : tie.Need-loop-less Inv-loop μ-loop
-loop-less c = search needs
 
 loop-again : tie.Need-loop-again Inv-loop μ-loop
 loop-again c =
@@ -66,13 +48,13 @@ append-each-spec =
     (tie.spec
     Inv-loop
     μ-loop
-    at-most-requires
+    (λ c κs. search needs)
     loop-holds
-    mul-d
-    array-copy-out-d
-    append-drained-requires
-    add-i
-    loop-less
+    (λ c. search needs)
+    (λ c. search needs)
+    (λ c κs. search needs)
+    (λ c. search needs)
+    (λ c. search needs)
     loop-again
     same-length
     returns)

@@ -16,28 +16,10 @@ Inv-loop out₀ at n a k e₀ i₀ out e i = FitsWithin (i * 59) (encMany encode
 abbrev μ-loop : tie.MeasureT-loop
 μ-loop out₀ at n a k e₀ i₀ out e i = k - i
 
-at-most-requires : tie.Need-at-most-requires Inv-loop μ-loop
-at-most-requires c κs = search needs
-
 loop-holds : tie.Need-loop-holds Inv-loop μ-loop
 loop-holds c =
     let start = c .before .before in
     (within-start 59 encodeFailure (start .args .t3) (start .args .at) (start .args .out .now), omega arith, omega (arith, c .at-most .ensures), refl)
-
-mul-f : tie.Need-mul-f Inv-loop μ-loop
-mul-f c = search needs
-
-array-copy-out-f : tie.Need-array-copy-out-f Inv-loop μ-loop
-array-copy-out-f c = search needs
-
-append-drain-failure-requires : tie.Need-append-drain-failure-requires Inv-loop μ-loop
-append-drain-failure-requires c κs = search needs
-
-add-i : tie.Need-add-i Inv-loop μ-loop
-add-i c = search needs
-
-loop-less : tie.Need-loop-less Inv-loop μ-loop
-loop-less c = search needs
 
 loop-again : tie.Need-loop-again Inv-loop μ-loop
 loop-again c =
@@ -66,13 +48,13 @@ append-each-failure-spec =
     (tie.spec
     Inv-loop
     μ-loop
-    at-most-requires
+    (λ c κs. search needs)
     loop-holds
-    mul-f
-    array-copy-out-f
-    append-drain-failure-requires
-    add-i
-    loop-less
+    (λ c. search needs)
+    (λ c. search needs)
+    (λ c κs. search needs)
+    (λ c. search needs)
+    (λ c. search needs)
     loop-again
     same-length
     returns)

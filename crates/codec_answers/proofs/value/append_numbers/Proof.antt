@@ -15,28 +15,10 @@ Inv-loop out₀ at n a k e₀ i₀ out e i = Fits (encMany (be 8) (take i a)) at
 abbrev μ-loop : tie.MeasureT-loop
 μ-loop out₀ at n a k e₀ i₀ out e i = k - i
 
-at-most-requires : tie.Need-at-most-requires Inv-loop μ-loop
-at-most-requires c κs = search needs
-
 loop-holds : tie.Need-loop-holds Inv-loop μ-loop
 loop-holds c =
     let start = c .before .before in
     let l : length (start .args .t3) ≡ 64 = search needs in (each-start (be 8) (start .args .t3) (start .args .at) (start .args .out .now), omega arith, omega (arith, c .at-most .ensures), refl)
-
-mul-append-number : tie.Need-mul-append-number Inv-loop μ-loop
-mul-append-number c = search needs
-
-array-read-append-number : tie.Need-array-read-append-number Inv-loop μ-loop
-array-read-append-number c = search needs
-
-append-number-requires : tie.Need-append-number-requires Inv-loop μ-loop
-append-number-requires c κs = search needs
-
-add-i : tie.Need-add-i Inv-loop μ-loop
-add-i c = search needs
-
-loop-less : tie.Need-loop-less Inv-loop μ-loop
-loop-less c = search needs
 
 loop-again : tie.Need-loop-again Inv-loop μ-loop
 loop-again c =
@@ -64,13 +46,13 @@ append-numbers-spec =
     (tie.spec
     Inv-loop
     μ-loop
-    at-most-requires
+    (λ c κs. search needs)
     loop-holds
-    mul-append-number
-    array-read-append-number
-    append-number-requires
-    add-i
-    loop-less
+    (λ c. search needs)
+    (λ c. search needs)
+    (λ c κs. search needs)
+    (λ c. search needs)
+    (λ c. search needs)
     loop-again
     same-length
     returns)

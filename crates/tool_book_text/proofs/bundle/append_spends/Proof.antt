@@ -20,26 +20,11 @@ Inv-loop out₀ at n a k e₀ i₀ out e i = Fits (eachFrom spendText 0 (take i 
 abbrev μ-loop : tie.MeasureT-loop
 μ-loop out₀ at n a k e₀ i₀ out e i = k - i
 
-at-most-requires : tie.Need-at-most-requires Inv-loop μ-loop
-at-most-requires c κs = search needs
-
 loop-holds : tie.Need-loop-holds Inv-loop μ-loop
 loop-holds c = (nth-start spendText (c .before .before .args .t3) (c .before .before .args .at) (c .before .before .args .out .now), omega arith, omega (arith, c .at-most .ensures), refl)
 
-mul-s : tie.Need-mul-s Inv-loop μ-loop
-mul-s c = search needs
-
-array-copy-out-s : tie.Need-array-copy-out-s Inv-loop μ-loop
-array-copy-out-s c = search needs
-
 append-spend-requires : tie.Need-append-spend-requires Inv-loop μ-loop
 append-spend-requires c κs = omega (arith, c .before .before .before .loop .inv .2)
-
-add-i : tie.Need-add-i Inv-loop μ-loop
-add-i c = search needs
-
-loop-less : tie.Need-loop-less Inv-loop μ-loop
-loop-less c = search needs
 
 loop-again : tie.Need-loop-again Inv-loop μ-loop
 loop-again c = let l : length (c .before .before .before .before .before .before .before .before .before .args .t3) ≡ 4 = search needs in (nth-more _ spendText (c .before .before .before .before .before .before .before .before .before .args .t3) (c .before .before .before .before .before .before .loop .i) (omega (arith, l, c .before .before .before .before .before .before .loop .inv .2)) (c .before .before .before .before .before .before .loop .inv .0) (c .before .before .append-spend .ensures), omega arith, c .before .before .before .before .before .before .loop .inv .2, search needs)
@@ -56,13 +41,13 @@ append-spends-spec =
     (tie.spec
     Inv-loop
     μ-loop
-    at-most-requires
+    (λ c κs. search needs)
     loop-holds
-    mul-s
-    array-copy-out-s
+    (λ c. search needs)
+    (λ c. search needs)
     append-spend-requires
-    add-i
-    loop-less
+    (λ c. search needs)
+    (λ c. search needs)
     loop-again
     same-length
     returns)

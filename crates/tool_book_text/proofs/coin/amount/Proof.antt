@@ -21,23 +21,11 @@ loop-holds : tie.Need-loop-holds Inv-loop μ-loop
 unfolding amountOf
 loop-holds c = refl
 
-shared-slice-read-wide : tie.Need-shared-slice-read-wide Inv-loop μ-loop
-shared-slice-read-wide c = search needs
-
-wide-requires : tie.Need-wide-requires Inv-loop μ-loop
-wide-requires c κs = search needs
-
 mul-v : tie.Need-mul-v Inv-loop μ-loop
 mul-v c = omega arith
 
 add-v : tie.Need-add-v Inv-loop μ-loop
 add-v c = omega (arith, c .wide .ensures, c .before .shared-slice-known2 .given (c .before .before .before .loop .i))
-
-add-i : tie.Need-add-i Inv-loop μ-loop
-add-i c = search needs
-
-loop-less : tie.Need-loop-less Inv-loop μ-loop
-loop-less c = search needs
 
 loop-again : tie.Need-loop-again Inv-loop μ-loop
 loop-again c = amount-turn (c .before .before .before .before .before .args .c .now) (c .before .before .before .loop .i) (c .before .before .before .loop .v) (amountOf (c .before .before .before .before .before .args .c .now)) (c .wide .result) (c .before .before .loop-test .taken) (c .wide .ensures) (c .before .before .before .loop .inv)
@@ -52,11 +40,11 @@ amount-spec =
     Inv-loop
     μ-loop
     loop-holds
-    shared-slice-read-wide
-    wide-requires
+    (λ c. search needs)
+    (λ c κs. search needs)
     mul-v
     add-v
-    add-i
-    loop-less
+    (λ c. search needs)
+    (λ c. search needs)
     loop-again
     returns)

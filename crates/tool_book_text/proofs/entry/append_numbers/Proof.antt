@@ -24,21 +24,6 @@ abbrev μ-loop : tie.MeasureT-loop
 loop-holds : tie.Need-loop-holds Inv-loop μ-loop
 loop-holds c = (each-start idAfterSpace (c .before .before .args .l .now) (c .before .before .args .at) (c .before .before .args .out .now), omega arith, refl)
 
-mul-n : tie.Need-mul-n Inv-loop μ-loop
-mul-n c = search needs
-
-shared-slice-read-n : tie.Need-shared-slice-read-n Inv-loop μ-loop
-shared-slice-read-n c = search needs
-
-append-spaced-requires : tie.Need-append-spaced-requires Inv-loop μ-loop
-append-spaced-requires c κs = search needs
-
-add-i : tie.Need-add-i Inv-loop μ-loop
-add-i c = search needs
-
-loop-less : tie.Need-loop-less Inv-loop μ-loop
-loop-less c = search needs
-
 loop-again : tie.Need-loop-again Inv-loop μ-loop
 loop-again c = (each-more 0 idAfterSpace (c .before .before .before .before .before .before .before .before .before .args .l .now) (c .before .before .before .before .before .before .loop .i) (c .before .before .before .before .before .loop-test .taken) (c .before .before .before .before .before .before .loop .inv .0) (c .before .before .append-spaced .ensures), omega arith, search needs)
 
@@ -55,11 +40,11 @@ append-numbers-spec =
     Inv-loop
     μ-loop
     loop-holds
-    mul-n
-    shared-slice-read-n
-    append-spaced-requires
-    add-i
-    loop-less
+    (λ c. search needs)
+    (λ c. search needs)
+    (λ c κs. search needs)
+    (λ c. search needs)
+    (λ c. search needs)
     loop-again
     same-length
     returns)
