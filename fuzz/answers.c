@@ -104,6 +104,29 @@ static void put_attempt(const submission_book_live_attempt *attempt) {
     }
 }
 
+static void put_look(const submission_book_look_result *look) {
+    put_byte(look->present);
+    if (look->present) {
+        put_byte(look->chain);
+        put_byte(look->acknowledged);
+        put_byte(look->fee_resolution);
+        put_number(look->applied_fee);
+        put_optional(look->expiry);
+        put_optional(look->live_token);
+        put_optional(look->set_aside_token);
+    }
+}
+
+static void put_summary(const submission_book_summary_result *summary) {
+    put_number(summary->next_token);
+    put_number(summary->next_id);
+    put_number(summary->retained);
+    put_number(summary->queued);
+    put_number(summary->retired);
+    put_number(summary->replayed);
+    put_optional(summary->rollback_height);
+}
+
 static void put_ids(const submission_book_ids *ids) {
     put_byte(ids->count);
     for (size_t i = 0; i < ids->count; i++) {
@@ -125,6 +148,8 @@ static union {
     submission_book_coins coins;
     bool flag;
     submission_book_optional height;
+    submission_book_look_result look;
+    submission_book_summary_result summary;
     uint8_t bytes[1];
 } value;
 
@@ -146,6 +171,10 @@ static uint8_t read_kind(unsigned kind, const uint8_t *answer, size_t length) {
         return submission_book_answer_coins(answer, length, &value.coins);
     case 7:
         return submission_book_answer_flag(answer, length, &value.flag);
+    case 8:
+        return submission_book_answer_look(answer, length, &value.look);
+    case 9:
+        return submission_book_answer_summary(answer, length, &value.summary);
     default:
         return submission_book_answer_height(answer, length, &value.height);
     }
@@ -180,6 +209,12 @@ static void put_kind(unsigned kind) {
     case 7:
         put_byte(value.flag);
         break;
+    case 8:
+        put_look(&value.look);
+        break;
+    case 9:
+        put_summary(&value.summary);
+        break;
     default:
         put_optional(value.height);
         break;
@@ -193,7 +228,7 @@ int LLVMFuzzerTestOneInput(const uint8_t *data, size_t size) {
     if (size == 0) {
         return 0;
     }
-    unsigned kind = data[0] % 9;
+    unsigned kind = data[0] % 11;
     size_t length = size - 1;
     uint8_t *answer = malloc(length == 0 ? 1 : length);
     check(answer != NULL, "memory");

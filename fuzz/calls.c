@@ -104,6 +104,8 @@ static uint8_t run_collect(void) { return submission_book_collect_rollback_repla
 static uint8_t run_clear(void) { return submission_book_clear_local_artifacts(BOOK); }
 static uint8_t run_restore(void) { return submission_book_restore_runtime(BOOK); }
 static uint8_t run_attempt(void) { return submission_book_attempt(BOOK, given.number, ANSWER); }
+static uint8_t run_look(void) { return submission_book_look(BOOK, given.number, ANSWER); }
+static uint8_t run_summary(void) { return submission_book_summary(BOOK, ANSWER); }
 static uint8_t run_read(void) { return submission_book_read(BOOK, ONE, NUMBER); }
 #ifdef SUBMISSION_BOOK_DRAIN_BYTES
 static uint8_t run_drain(void) { return submission_book_drain(BOOK, ANSWER); }
@@ -152,6 +154,8 @@ static const struct call calls[32] = {
     [0x18] = {"clear_local_artifacts", give_none, run_clear, foretell_unsaid, check_clear, R(10), 0, 0},
     [0x19] = {"restore_runtime", give_none, run_restore, foretell_none, check_restore, 0, 0, 0},
     [0x1a] = {"attempt", give_token, run_attempt, foretell_none, check_attempt, 0, 75, 0},
+    [0x1e] = {"look", give_id, run_look, foretell_none, check_look, 0, 39, 0},
+    [0x1f] = {"summary", give_none, run_summary, foretell_none, check_summary, 0, 57, 0},
 };
 
 /* ---- state that the fuzzer is to see beside the code's own counters */
@@ -363,7 +367,7 @@ static void step(struct script *p) {
         run_another(p, give_archive);
     } else if ((b & 31) == 0x1d) {
         run_damaged(p);
-    } else if ((b & 31) == 0x1e) {
+    } else if ((b & 31) == 0x1b) {
         run_another(p, give_book);
     }
 }

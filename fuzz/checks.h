@@ -397,6 +397,46 @@ static size_t check_height(const struct given *g, const uint8_t *answer, size_t 
     return was->has_height ? 9 : 1;
 }
 
+/* An optional token or height at the front of an answer's bytes; says how many it has. */
+static size_t check_optional(const uint8_t *answer, size_t len, int there, uint64_t value) {
+    must(len >= 1 && answer[0] == there, "mark of an optional number");
+    must(!there || (len >= 9 && number_at(answer + 1) == value), "optional number");
+    return there ? 9 : 1;
+}
+
+static int is_acknowledged(const struct submission *x) {
+    uint8_t own[32];
+    struct part current = x->has_fee ? x->fee : x->base;
+    sha256(was->s + current.at, current.end - current.at, own);
+    return was->s[x->acknowledged.at] == 1 && memcmp(was->s + x->acknowledged.at + 1, own, 32) == 0;
+}
+
+static size_t check_look(const struct given *g, const uint8_t *answer, size_t len) {
+    const struct submission *x = retained_with(was, g->number);
+    must(same_book() && answer[0] == (x != NULL), "mark of a look");
+    if (x == NULL) {
+        return 1;
+    }
+    size_t at = 12, n = x->expiry.end - x->expiry.at;
+    must(len >= at + n && answer[1] == x->chain && answer[3] == x->mark, "chain and mark of a look");
+    must(answer[2] == is_acknowledged(x), "acknowledged in a look");
+    must(number_at(answer + 4) == x->applied_fee, "applied fee of a look");
+    must(memcmp(answer + at, was->s + x->expiry.at, n) == 0, "expiry of a look");
+    at += n;
+    at += check_optional(answer + at, len - at, x->live.there, x->live.token);
+    return at + check_optional(answer + at, len - at, x->aside.there, x->aside.token);
+}
+
+static size_t check_summary(const struct given *g, const uint8_t *answer, size_t len) {
+    const uint64_t numbers[6] = {was->next_token, was->next_id, was->retained, was->queue, was->retirements, was->replayed};
+    (void)g;
+    must(same_book() && len >= 49, "length of a summary");
+    for (size_t i = 0; i < 6; i++) {
+        must(number_at(answer + 8 * i) == numbers[i], "number of a summary");
+    }
+    return 48 + check_optional(answer + 48, len - 48, (int)was->has_height, was->height);
+}
+
 static size_t check_clear(const struct given *g, const uint8_t *answer, size_t len) {
     (void)g, (void)answer, (void)len;
     must(is->retained + is->queue + is->has_height + is->replayed == 0, "nothing is left of a cleared book");

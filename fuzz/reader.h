@@ -19,7 +19,8 @@ struct slot {
 struct submission {
     uint64_t id;
     struct slot live, aside;
-    struct part intent, base, fee, fee_intent, whole;
+    struct part intent, base, fee, fee_intent, acknowledged, expiry, whole; /* acknowledged and expiry with their marks */
+    uint64_t applied_fee;
     int has_fee, mark, chain;
 };
 
@@ -87,10 +88,14 @@ static unsigned take_count(struct shape *r, unsigned low, unsigned high) {
     return r->ok ? r->s[at] : 0;
 }
 
-static void take_optional(struct shape *r, size_t n) {
+/* Says where it stands, its mark included. */
+static struct part take_optional(struct shape *r, size_t n) {
+    struct part p = {r->at, 0};
     if (take_count(r, 0, 1)) {
         take_run(r, n);
     }
+    p.end = r->at;
+    return p;
 }
 
 static void take_outputs(struct shape *r) {
@@ -182,15 +187,16 @@ static void take_submission(struct shape *r) {
     x->intent.end = r->at;
     x->base = take_bundle(r, 1);
     x->has_fee = (int)take_count(r, 0, 1);
+    x->applied_fee = 0;
     if (x->has_fee) {
         x->fee = take_bundle(r, 0);
-        take_run(r, 8);
+        x->applied_fee = take_number(r);
     }
     x->mark = (int)take_count(r, 0, 2);
     x->fee_intent = take_fee_intent(r);
-    take_optional(r, 32);
+    x->acknowledged = take_optional(r, 32);
     x->chain = (int)take_count(r, 0, 2);
-    take_optional(r, 8);
+    x->expiry = take_optional(r, 8);
     x->whole.end = r->at;
     r->retained += (unsigned)r->ok;
 }

@@ -52,9 +52,9 @@
 
 /* ---- version: the higher one of two is the greater number */
 #define SUBMISSION_BOOK_VERSION_MAJOR 0
-#define SUBMISSION_BOOK_VERSION_MINOR 3
+#define SUBMISSION_BOOK_VERSION_MINOR 4
 #define SUBMISSION_BOOK_VERSION_PATCH 0
-#define SUBMISSION_BOOK_VERSION_STRING "0.3.0"
+#define SUBMISSION_BOOK_VERSION_STRING "0.4.0"
 #define SUBMISSION_BOOK_VERSION \
     (SUBMISSION_BOOK_VERSION_MAJOR << 16 | SUBMISSION_BOOK_VERSION_MINOR << 8 | SUBMISSION_BOOK_VERSION_PATCH)
 
@@ -90,6 +90,8 @@
 #define SUBMISSION_BOOK_IDS_BYTES 513 /* 64 ids */
 #define SUBMISSION_BOOK_INPUT_COINS_BYTES 4738
 #define SUBMISSION_BOOK_ABSENT_OUTPUTS_BYTES 18946
+#define SUBMISSION_BOOK_LOOK_BYTES 39
+#define SUBMISSION_BOOK_SUMMARY_BYTES 57
 
 /* stack of one call: measured (tests/c_api/stack.c; the largest is about 823,000), not proved */
 #define SUBMISSION_BOOK_STACK_BYTES 1000000
@@ -155,10 +157,15 @@ enum submission_book_stage { /* where a candidate of a drain failed */
     SUBMISSION_BOOK_STAGE_EXPECTED_OUTPUTS = 2,
     SUBMISSION_BOOK_STAGE_SUBMISSION_ID = 3
 };
-enum submission_book_chain { /* what the chain has shown of a submission; stands in the archive */
+enum submission_book_chain { /* what the chain has shown of a submission; stands in the archive and in a look */
     SUBMISSION_BOOK_CHAIN_ACTIVE = 0,
     SUBMISSION_BOOK_CHAIN_INPUT_SPENT = 1,
     SUBMISSION_BOOK_CHAIN_LANDED = 2
+};
+enum submission_book_resolution { /* what became of the fee of a submission; stands in the archive and in a look */
+    SUBMISSION_BOOK_RESOLUTION_UNRESOLVED = 0, /* a fee is asked for and not attached: it is open */
+    SUBMISSION_BOOK_RESOLUTION_NOT_REQUESTED = 1,
+    SUBMISSION_BOOK_RESOLUTION_ATTACHED = 2 /* it is in the current bundle */
 };
 enum submission_book_disposition { /* what finalising made of the fee */
     SUBMISSION_BOOK_DISPOSITION_ATTACHED = 0,
@@ -222,6 +229,13 @@ SUBMISSION_BOOK_NODISCARD
 uint8_t submission_book_write(const uint8_t *book, size_t book_len, uint8_t *archive, size_t archive_len,
     uint64_t *length);
 
+/* The book in numbers. Changes nothing.
+ * Answer, at most SUBMISSION_BOOK_SUMMARY_BYTES (57): next token (8), next id (8), then how many submissions are
+ * retained (8), deliveries queued (8), ids retired and not collected (8) and ids replayed (8), then the height at which
+ * the running replay began (mark, then 8 if 1). No refusal but 1 and 12. */
+SUBMISSION_BOOK_NODISCARD
+uint8_t submission_book_summary(const uint8_t *book, size_t book_len, uint8_t *answer, size_t answer_len);
+
 /* ==== the queue ==== */
 
 /* Puts a delivery, `delivery_len` bytes of the form above, at the end of the queue; nothing of it is looked up
@@ -270,8 +284,8 @@ uint8_t submission_book_queue_fee_readiness(uint8_t *book, size_t book_len);
  * payment has a run that is unreadable. Stage 3: the next id is taken, or is 2^64 - 1.
  * Refusals: 10 more than 16 submissions or more than 64 retirements would result; 11 a token is needed and the next
  * one is 2^64 - 1: the queue is empty then, `answer` stays, and the book keeps all that was done up to that entry,
- * tokens included (they are in the archive, and submission_book_attempt shows the live ones). 10 or 11 goes by the
- * earlier entry, within one entry 10. */
+ * tokens included (submission_book_active_ids has the ids, and submission_book_look the live token of each). 10 or 11
+ * goes by the earlier entry, within one entry 10. */
 SUBMISSION_BOOK_NODISCARD
 uint8_t submission_book_drain(uint8_t *book, size_t book_len, uint8_t *answer, size_t answer_len);
 
@@ -355,6 +369,14 @@ uint8_t submission_book_retain_submitted(uint8_t *book, size_t book_len,
  * but 1 and 12. */
 SUBMISSION_BOOK_NODISCARD
 uint8_t submission_book_active_ids(const uint8_t *book, size_t book_len, uint8_t *answer, size_t answer_len);
+
+/* What a retained submission holds beside its bundles. Changes nothing.
+ * Answer, at most SUBMISSION_BOOK_LOOK_BYTES (39): mark; if 1 chain (1), acknowledged (mark; 1 where the current bundle
+ * is), resolution of its fee (1), applied fee (8; 0 where the current bundle is the base), expiry (mark, then 8 if
+ * 1), token of the live attempt (mark, then 8 if 1), token of the set-aside attempt (mark, then 8 if 1). Mark 0: the id
+ * is not retained. No refusal but 1 and 12. */
+SUBMISSION_BOOK_NODISCARD
+uint8_t submission_book_look(const uint8_t *book, size_t book_len, uint64_t id, uint8_t *answer, size_t answer_len);
 
 /* Retires an id by hand: it is put behind the retirements, unless it is among them.
  * Refusals: 10 more than 64 retirements would result. */

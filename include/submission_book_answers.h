@@ -115,6 +115,17 @@ uint8_t submission_book_build_coin_ids(const submission_book_hash *coin_ids, siz
 /* ==== readers ==== */
 
 typedef struct {
+    uint64_t next_token, next_id;
+    size_t retained, queued, retired, replayed; /* how many */
+    submission_book_optional rollback_height;
+} submission_book_summary_result;
+
+/* summary */
+SUBMISSION_BOOK_NODISCARD
+uint8_t submission_book_answer_summary(const uint8_t *answer, size_t answer_len,
+    submission_book_summary_result *summary);
+
+typedef struct {
     uint64_t id, token;
     submission_book_optional predecessor;
     uint8_t relationship; /* enum submission_book_relationship */
@@ -190,6 +201,19 @@ typedef struct {
 /* retain_submitted, active_ids, drain_retirements, causally_rolled_back_ids */
 SUBMISSION_BOOK_NODISCARD
 uint8_t submission_book_answer_ids(const uint8_t *answer, size_t answer_len, submission_book_ids *ids);
+
+typedef struct {
+    bool present;
+    uint8_t chain; /* enum submission_book_chain */
+    bool acknowledged;
+    uint8_t fee_resolution; /* enum submission_book_resolution */
+    uint64_t applied_fee;
+    submission_book_optional expiry, live_token, set_aside_token;
+} submission_book_look_result;
+
+/* look */
+SUBMISSION_BOOK_NODISCARD
+uint8_t submission_book_answer_look(const uint8_t *answer, size_t answer_len, submission_book_look_result *look);
 
 typedef struct {
     size_t count;

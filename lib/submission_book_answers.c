@@ -283,6 +283,13 @@ static uint64_t take_number(Reader *r) {
     return number;
 }
 
+/* A count of eight bytes. */
+static size_t take_count(Reader *r, size_t most) {
+    uint64_t count = take_number(r);
+    r->bad = r->bad || count > most;
+    return r->bad ? 0 : (size_t)count;
+}
+
 static void take_hash(Reader *r, submission_book_hash *hash) {
     take(r, hash->bytes, 32);
 }
@@ -348,6 +355,20 @@ static uint8_t settle(const Reader *r, void *to, const void *value, size_t size)
     }
     memcpy(to, value, size);
     return SUBMISSION_BOOK_DONE;
+}
+
+uint8_t submission_book_answer_summary(const uint8_t *answer, size_t answer_len, submission_book_summary_result *summary) {
+    Reader r = {answer, answer_len, 0, false};
+    submission_book_summary_result value;
+    memset(&value, 0, sizeof value);
+    value.next_token = take_number(&r);
+    value.next_id = take_number(&r);
+    value.retained = take_count(&r, SUBMISSION_BOOK_RETAINED_LIMIT);
+    value.queued = take_count(&r, SUBMISSION_BOOK_QUEUE_LIMIT);
+    value.retired = take_count(&r, SUBMISSION_BOOK_RETIREMENTS_LIMIT);
+    value.replayed = take_count(&r, SUBMISSION_BOOK_REPLAYED_LIMIT);
+    take_optional(&r, &value.rollback_height);
+    return settle(&r, summary, &value, sizeof value);
 }
 
 uint8_t submission_book_answer_drain(const uint8_t *answer, size_t answer_len, submission_book_drain_result *result) {
@@ -424,6 +445,23 @@ uint8_t submission_book_answer_ids(const uint8_t *answer, size_t answer_len, sub
         value.ids[i] = take_number(&r);
     }
     return settle(&r, ids, &value, sizeof value);
+}
+
+uint8_t submission_book_answer_look(const uint8_t *answer, size_t answer_len, submission_book_look_result *look) {
+    Reader r = {answer, answer_len, 0, false};
+    submission_book_look_result value;
+    memset(&value, 0, sizeof value);
+    value.present = take_mark(&r);
+    if (value.present) {
+        value.chain = take_byte(&r, SUBMISSION_BOOK_CHAIN_LANDED);
+        value.acknowledged = take_mark(&r);
+        value.fee_resolution = take_byte(&r, SUBMISSION_BOOK_RESOLUTION_ATTACHED);
+        value.applied_fee = take_number(&r);
+        take_optional(&r, &value.expiry);
+        take_optional(&r, &value.live_token);
+        take_optional(&r, &value.set_aside_token);
+    }
+    return settle(&r, look, &value, sizeof value);
 }
 
 uint8_t submission_book_answer_coins(const uint8_t *answer, size_t answer_len, submission_book_coins *coins) {

@@ -461,6 +461,77 @@ static void extras(Planner *p, const Payment *sockets, const Payment *lights, co
     queue_payment(p, handles);
 }
 
+/* ---- what became of each payment */
+static void print_look(const submission_book_look_result *look) {
+    static const char *const chains[] = {"not on the chain yet", "an input of it is spent", "landed"};
+    static const char *const fees[] = {"its fee is open", "no fee asked for"};
+    printf("       %s, %s by the wallet, ", chains[look->chain], look->acknowledged ? "taken" : "not taken");
+    if (look->fee_resolution == SUBMISSION_BOOK_RESOLUTION_ATTACHED) {
+        printf("with a fee of %" PRIu64 " cents", look->applied_fee);
+    } else {
+        printf("%s", fees[look->fee_resolution]);
+    }
+    if (look->live_token.present) {
+        printf(", attempt %" PRIu64 " is live", look->live_token.value);
+    }
+    if (look->set_aside_token.present) {
+        printf(", attempt %" PRIu64 " is set aside", look->set_aside_token.value);
+    }
+    if (look->expiry.present) {
+        printf(", expires at height %" PRIu64, look->expiry.value);
+    }
+    puts("");
+}
+
+/* Its attempts in the book are those of the account. */
+static void expect_attempts(const Account *account, uint64_t id, const submission_book_look_result *look) {
+    for (size_t i = 0; i < account->count; i++) {
+        const Row *row = &account->rows[i];
+        if (row->id == id) {
+            bool live = look->live_token.present && look->live_token.value == row->token;
+            bool aside = look->set_aside_token.present && look->set_aside_token.value == row->token;
+            expect(live == (row->fate == LIVE) && aside == (row->fate == SET_ASIDE), "the attempts of a submission");
+            expect(row->fate != STRUCK_OUT || !look->present, "that a submission is gone");
+        }
+    }
+}
+
+static void look_at(Planner *p, uint64_t id) {
+    uint8_t answer[SUBMISSION_BOOK_LOOK_BYTES];
+    submission_book_look_result look;
+    uint8_t said = submission_book_look(p->book, sizeof p->book, id, answer, sizeof answer);
+    told(p, said, 0, "look at submission %" PRIu64 ", the %s", id, p->payments[id]->name);
+    expect(submission_book_answer_look(answer, sizeof answer, &look) == SUBMISSION_BOOK_DONE, "the form of a look");
+    if (look.present) {
+        print_look(&look);
+    } else {
+        puts("       no longer in the book");
+    }
+    expect_attempts(&p->account, id, &look);
+}
+
+/* Answers the next token. */
+static uint64_t count_all(Planner *p) {
+    uint8_t answer[SUBMISSION_BOOK_SUMMARY_BYTES];
+    submission_book_summary_result all;
+    uint8_t said = submission_book_summary(p->book, sizeof p->book, answer, sizeof answer);
+    told(p, said, 0, "ask for the book in numbers");
+    expect(submission_book_answer_summary(answer, sizeof answer, &all) == SUBMISSION_BOOK_DONE, "the form of a summary");
+    printf("       %zu submissions, %zu queued, %zu ids for the wallet to forget, next token %" PRIu64 ", next submission %" PRIu64 "\n", all.retained,
+           all.queued, all.retired, all.next_token, all.next_id);
+    expect(all.retained == 5 && all.queued == 1 && all.retired == 2 && all.replayed == 0, "the counts of the book");
+    expect(all.next_id == SUBMISSIONS && !all.rollback_height.present, "the next submission, and that no replay runs");
+    return all.next_token;
+}
+
+static uint64_t outcome(Planner *p) {
+    chapter("What became of each payment");
+    for (uint64_t id = 1; id < SUBMISSIONS; id++) {
+        look_at(p, id);
+    }
+    return count_all(p);
+}
+
 /* ---- the account, held against the book */
 static void compare_row(Planner *p, const Row *row) {
     uint8_t answer[SUBMISSION_BOOK_ATTEMPT_BYTES], status = 0;
@@ -531,7 +602,6 @@ static void keep_archive(Planner *p, const char *name) {
     told(p, said, SUBMISSION_BOOK_NO_ARCHIVE, "read all but the last byte");
     printf("       the archive breaks off at byte %" PRIu64 "\n", place);
     expect(place == length - 1, "the place of the refusal");
-    print_account(p, number_at(archive + 1));
 }
 
 int main(int argc, char **argv) {
@@ -563,6 +633,8 @@ int main(int argc, char **argv) {
     fitting(&planner, &third);
     final_payment(&planner, &wrong, &right);
     extras(&planner, &sockets, &lights, &handles);
+    uint64_t next_token = outcome(&planner);
     keep_archive(&planner, argv[1]);
+    print_account(&planner, next_token);
     return 0;
 }

@@ -89,3 +89,5 @@ class List:
             yield self.rng.choice(kinds)()
             if n % 6 == 5:
                 yield script.write(12000)
+                yield script.summary()
+                yield from map(script.look, range(1, 5))

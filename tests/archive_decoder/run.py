@@ -16,7 +16,7 @@ import archive
 import books
 import lists
 import script
-from script import READ, WRITE
+from script import LOOK, READ, SUMMARY, WRITE
 
 
 def decoded(data):
@@ -63,11 +63,22 @@ def check_page():
 
 
 # ---- archives that were recorded or are written by the driver
-def check_answers(played):
-    """Each archive that was read or written: the decoder's answer, its digest. Answers the archives."""
+def check_look(op, last, answer, data):
+    """What a look or a summary says of the book of this archive."""
+    book = archive.decode(data)
+    wanted = script.summed(book) if op == SUMMARY else script.looked(book, int.from_bytes(last, "big"))
+    expect("call %02x %s on %s" % (op, last.hex(), data.hex()), answer.value, wanted)
+
+
+def check_answers(played, seen=None):
+    """Each archive that was read or written: the decoder's answer, its digest; and what looks say of it. Answers the archives."""
     found = []
     for (op, last, _), answer in played:
-        if op == READ:
+        if op in (LOOK, SUMMARY) and found and answer.digest == archive.sha256(found[-1]):
+            check_look(op, last, answer, found[-1])
+            if seen is not None:
+                seen[op] += 1
+        elif op == READ:
             refusal, place, _ = decoded(last)
             expect("reading " + last.hex(), (refusal, place), (answer.refusal, answer.place))
             if refusal == 0:
@@ -114,13 +125,13 @@ def check_called(data, seen):
 
 def called(driver, rng, count):
     text = b"".join(call for _ in range(count) for call in lists.List(rng).calls(24))
-    found = [data for data in check_answers(script.play(driver, b"\0" * 16 + text)) if data != script.OPENED]
     seen = collections.Counter()
+    found = [data for data in check_answers(script.play(driver, b"\0" * 16 + text), seen) if data != script.OPENED]
     for data in found:
         check_called(data, seen)
     missing = [name for name in "live,set aside,fee bundle,acknowledged,expiry,InputSpent,Landed,queue,retirements,rollback height,replayed".split(",") if not seen[name]]
     expect("parts that no list of calls has made", missing, [])
-    return found, seen["submissions"]
+    return found, seen["submissions"], seen[LOOK] + seen[SUMMARY]
 
 
 def check_parent(driver):
@@ -190,11 +201,11 @@ def main():
     example = check_page()
     found = recorded()
     check_parent(driver)
-    made_by_calls, submissions = called(driver, rng, 120)
+    made_by_calls, submissions, looks = called(driver, rng, 120)
     made = strings(rng, example, found + made_by_calls)
     rows = compared(driver, made)
     compared_with_library(library, made)
-    print("archive decoder: %d recorded archives; %d of calls, the fingerprints of %d submissions recomputed;" % (len(found), len(made_by_calls), submissions))
+    print("archive decoder: %d recorded archives; %d of calls, the fingerprints of %d submissions recomputed, and %d looks;" % (len(found), len(made_by_calls), submissions, looks))
     print("    %d strings read as the driver and the library read them: %d archives, %s" % (len(made), rows[None], ", ".join("%d %s" % (rows[row], row) for row in archive.ROWS)))
 
 

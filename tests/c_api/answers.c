@@ -53,6 +53,14 @@ static uint8_t read_height(const uint8_t *a, size_t n, void *v) {
     return submission_book_answer_height(a, n, v);
 }
 
+static uint8_t read_look(const uint8_t *a, size_t n, void *v) {
+    return submission_book_answer_look(a, n, v);
+}
+
+static uint8_t read_summary(const uint8_t *a, size_t n, void *v) {
+    return submission_book_answer_summary(a, n, v);
+}
+
 static const AnswerReader drain_reader = {"drain", read_drain, sizeof(submission_book_drain_result)};
 static const AnswerReader fee_intent_reader = {"fee intent", read_fee_intent, sizeof(submission_book_optional_fee)};
 static const AnswerReader finalized_reader = {"finalized", read_finalized, sizeof(submission_book_finalized)};
@@ -62,6 +70,8 @@ static const AnswerReader ids_reader = {"ids", read_ids, sizeof(submission_book_
 static const AnswerReader coins_reader = {"coins", read_coins, sizeof(submission_book_coins)};
 static const AnswerReader flag_reader = {"flag", read_flag, sizeof(bool)};
 static const AnswerReader height_reader = {"height", read_height, sizeof(submission_book_optional)};
+static const AnswerReader look_reader = {"look", read_look, sizeof(submission_book_look_result)};
+static const AnswerReader summary_reader = {"summary", read_summary, sizeof(submission_book_summary_result)};
 
 enum { VALUE_BYTES = 1 << 15 };
 static uint8_t value[VALUE_BYTES], untouched[VALUE_BYTES];
@@ -109,6 +119,15 @@ static uint64_t form_number(Form *f, uint64_t number) {
         f->bytes[f->length++] = (uint8_t)(number >> shift);
     }
     return number;
+}
+
+/* A count of eight bytes, at most `most`. */
+static size_t form_count(Form *f, uint8_t count, uint8_t most) {
+    for (size_t i = 0; i < 7; i++) {
+        form_byte(f, 0, 0);
+    }
+    form_byte(f, count, most);
+    return count;
 }
 
 static void form_run(Form *f, uint8_t first, uint8_t *copy, size_t length) {
@@ -254,6 +273,51 @@ static void test_attempt_forms(void) {
     check_form(&attempt_reader, &without, &none);
 }
 
+static void test_look_forms(void) {
+    static submission_book_look_result wanted, bare, none;
+    static Form f, short_form, without;
+    form_byte(&f, 1, 1);
+    wanted.present = true;
+    form_byte(&f, 2, 2);
+    wanted.chain = SUBMISSION_BOOK_CHAIN_LANDED;
+    form_byte(&f, 1, 1);
+    wanted.acknowledged = true;
+    form_byte(&f, 2, 2);
+    wanted.fee_resolution = SUBMISSION_BOOK_RESOLUTION_ATTACHED;
+    wanted.applied_fee = form_number(&f, 25);
+    short_form = f;
+    bare = wanted;
+    form_present(&f, 9000, &wanted.expiry);
+    form_present(&f, UINT64_MAX - 1, &wanted.live_token);
+    form_present(&f, 5, &wanted.set_aside_token);
+    expect("the longest look", f.length, SUBMISSION_BOOK_LOOK_BYTES);
+    check_form(&look_reader, &f, &wanted);
+    for (size_t i = 0; i < 3; i++) {
+        form_byte(&short_form, 0, 1);
+    }
+    check_form(&look_reader, &short_form, &bare);
+    form_byte(&without, 0, 1);
+    check_form(&look_reader, &without, &none);
+}
+
+static void test_summary_forms(void) {
+    static submission_book_summary_result wanted, calm;
+    static Form f, calm_form;
+    wanted.next_token = form_number(&f, UINT64_MAX);
+    wanted.next_id = form_number(&f, 1 + (uint64_t)UINT32_MAX);
+    wanted.retained = form_count(&f, 16, 16);
+    wanted.queued = form_count(&f, 15, 16);
+    wanted.retired = form_count(&f, 64, 64);
+    wanted.replayed = form_count(&f, 14, 16);
+    calm_form = f;
+    calm = wanted;
+    form_present(&f, 5200, &wanted.rollback_height);
+    expect("the longest summary", f.length, SUBMISSION_BOOK_SUMMARY_BYTES);
+    check_form(&summary_reader, &f, &wanted);
+    form_byte(&calm_form, 0, 1);
+    check_form(&summary_reader, &calm_form, &calm);
+}
+
 static void test_lists_and_numbers(void) {
     static submission_book_ids ids;
     static submission_book_coins coins;
@@ -319,6 +383,8 @@ static const AnswerReader *reader_of(const char *call) {
         {"absent_outputs_for_ids", &coins_reader},
         {"begin_replay", &flag_reader},
         {"replay_rollback_height", &height_reader},
+        {"look", &look_reader},
+        {"summary", &summary_reader},
     };
     for (size_t i = 0; i < sizeof readers / sizeof readers[0]; i++) {
         if (strcmp(readers[i].call, call) == 0) {
@@ -351,7 +417,7 @@ static void test_real_answers(void) {
         expect_for(c->name, "room that just fits", call_with_room(c, answer, length), 0);
         expect_for(c->name, "a byte less", call_with_room(c, answer, length - 1), 12);
     }
-    expect("calls with an answer", read, 16);
+    expect("calls with an answer", read, 18);
 }
 
 /* ---- every builder behind one type */
@@ -666,6 +732,8 @@ void test_forms(void) {
     test_drains();
     test_finalized();
     test_attempt_forms();
+    test_look_forms();
+    test_summary_forms();
     test_lists_and_numbers();
     test_many_coins();
     test_delivery_builder();

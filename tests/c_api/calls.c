@@ -95,6 +95,52 @@ static submission_book_optional replay_height(void) {
     return height;
 }
 
+static submission_book_look_result look_at(uint64_t id) {
+    submission_book_look_result look = {0};
+    expect("look", submission_book_look(book, LEN, id, answer, ROOM), 0);
+    expect("form of a look", submission_book_answer_look(answer, ROOM, &look), 0);
+    return look;
+}
+
+/* The two attempts of a retained submission; 0 where a slot is empty. */
+static void expect_attempts(const char *what, uint64_t id, uint64_t live, uint64_t set_aside) {
+    submission_book_look_result look = look_at(id);
+    expect_for(what, "retained", look.present, true);
+    expect_for(what, "a live token", look.live_token.present, live != 0);
+    expect_for(what, "live token", look.live_token.value, live);
+    expect_for(what, "a set-aside token", look.set_aside_token.present, set_aside != 0);
+    expect_for(what, "set-aside token", look.set_aside_token.value, set_aside);
+}
+
+/* Its fee and whether its current bundle is acknowledged. */
+static void expect_fee(const char *what, uint64_t id, uint8_t resolution, uint64_t applied, bool acknowledged) {
+    submission_book_look_result look = look_at(id);
+    expect_for(what, "fee resolution", look.fee_resolution, resolution);
+    expect_for(what, "applied fee", look.applied_fee, applied);
+    expect_for(what, "acknowledged", look.acknowledged, acknowledged);
+}
+
+static submission_book_summary_result summed(void) {
+    submission_book_summary_result summary = {0};
+    expect("summary", submission_book_summary(book, LEN, answer, ROOM), 0);
+    expect("form of a summary", submission_book_answer_summary(answer, ROOM, &summary), 0);
+    return summary;
+}
+
+static void expect_numbers(const char *what, uint64_t next_token, uint64_t next_id) {
+    submission_book_summary_result summary = summed();
+    expect_for(what, "next token", summary.next_token, next_token);
+    expect_for(what, "next id", summary.next_id, next_id);
+}
+
+static void expect_counts(const char *what, size_t retained, size_t queued, size_t retired, size_t replayed) {
+    submission_book_summary_result summary = summed();
+    expect_for(what, "retained", summary.retained, retained);
+    expect_for(what, "queued", summary.queued, queued);
+    expect_for(what, "retired", summary.retired, retired);
+    expect_for(what, "replayed", summary.replayed, replayed);
+}
+
 static bool replay_begun(uint64_t height) {
     bool begun = false;
     expect("begin", submission_book_begin_replay(book, LEN, height, answer, ROOM), 0);
@@ -263,6 +309,131 @@ static void test_replay(void) {
     expect("then the other", drained.submissions[1].id, 3);
 }
 
+/* ---- what a look says of a submission, from the queue to its end */
+static void test_look_attempts(void) {
+    submission_book_delivery d = sample_delivery(1, 1, 1), other = sample_delivery(2, 1, 1);
+    d.expiry = (submission_book_optional){true, 77};
+    expect("open", submission_book_open(book, LEN, 5, 1), 0);
+    expect("queue", queue_delivery(book, LEN, &d), 0);
+    expect("queue", queue_delivery(book, LEN, &other), 0);
+    expect("queued only", look_at(1).present, false);
+    drain(2, 0);
+    expect_attempts("drained", 1, 5, 0);
+    expect_attempts("the other", 2, 6, 0);
+    expect_fee("no fee", 1, SUBMISSION_BOOK_RESOLUTION_NOT_REQUESTED, 0, false);
+    expect("active", look_at(1).chain, SUBMISSION_BOOK_CHAIN_ACTIVE);
+    expect("an expiry", look_at(1).expiry.present && look_at(1).expiry.value == 77, true);
+    expect("no expiry", look_at(2).expiry.present, false);
+    expect("an id that comes next", look_at(3).present, false);
+    expect("the last id", look_at(UINT64_MAX).present, false);
+    expect_status("stop", submission_book_stop_attempt(book, LEN, 5, answer, ROOM), SUBMISSION_BOOK_STATUS_APPLIED);
+    expect_attempts("stopped", 1, 0, 5);
+    expect("offer again", submission_book_queue_retained_delivery(book, LEN, 1, SUBMISSION_BOOK_TRIGGER_FRESH_CHAIN, 0), 0);
+    drain(1, 0);
+    expect_attempts("the first is displaced", 1, 7, 0);
+    finalize(7, SUBMISSION_BOOK_SOURCE_NOT_REQUESTED, NULL);
+    expect_fee("finalised", 1, SUBMISSION_BOOK_RESOLUTION_NOT_REQUESTED, 0, false);
+    expect_status("acknowledge", submission_book_acknowledge_attempt(book, LEN, 7, answer, ROOM), SUBMISSION_BOOK_STATUS_APPLIED);
+    expect_attempts("acknowledged", 1, 0, 7);
+    expect_fee("acknowledged", 1, SUBMISSION_BOOK_RESOLUTION_NOT_REQUESTED, 0, true);
+    expect_status("abandon", submission_book_abandon_attempt(book, LEN, 6, answer, ROOM), SUBMISSION_BOOK_STATUS_APPLIED);
+    expect("abandoned", look_at(2).present, false);
+    expect_ids("remove", submission_book_retain_submitted(book, LEN, (const uint64_t[]){1}, 1, answer, ROOM), 1, (const uint64_t[]){1});
+    expect("removed", look_at(1).present, false);
+}
+
+/* The base bundle is acknowledged first, and the bundle with the fee later. */
+static void test_look_fee(void) {
+    submission_book_delivery d = sample_delivery_with_fee(1, 1, 1);
+    submission_book_bundle joined = sample_delivery(1, 2, 1).bundle;
+    expect("open", submission_book_open(book, LEN, 5, 1), 0);
+    expect("queue", queue_delivery(book, LEN, &d), 0);
+    drain(1, 0);
+    expect_fee("open", 1, SUBMISSION_BOOK_RESOLUTION_UNRESOLVED, 0, false);
+    finalize(5, SUBMISSION_BOOK_SOURCE_FAILED, NULL);
+    expect("acknowledge", submission_book_acknowledge_attempt(book, LEN, 5, answer, ROOM), 0);
+    expect_fee("the base", 1, SUBMISSION_BOOK_RESOLUTION_UNRESOLVED, 0, true);
+    expect("fee readiness", submission_book_queue_fee_readiness(book, LEN), 0);
+    drain(1, 0);
+    finalize(6, SUBMISSION_BOOK_SOURCE_JOINED, &joined);
+    expect_fee("attached", 1, SUBMISSION_BOOK_RESOLUTION_ATTACHED, 9, false);
+    expect_attempts("attached", 1, 6, 0);
+    expect("acknowledge", submission_book_acknowledge_attempt(book, LEN, 6, answer, ROOM), 0);
+    expect_fee("with the fee", 1, SUBMISSION_BOOK_RESOLUTION_ATTACHED, 9, true);
+    expect("begin", replay_begun(100), true);
+    expect("replay", submission_book_collect_rollback_replay_ids(book, LEN, (const uint64_t[]){1}, 1), 0);
+    expect_fee("replayed", 1, SUBMISSION_BOOK_RESOLUTION_ATTACHED, 9, false);
+}
+
+static void test_look_chain(void) {
+    submission_book_delivery d = sample_delivery(1, 1, 1);
+    uint8_t outputs[2 + 74], empty[2] = {0, 0};
+    submission_book_coin coin = output_coin(&d.bundle.spends[0], 0);
+    size_t length = coin_list_bytes(outputs, sizeof outputs, &coin, 1);
+    submission_book_hash input = coin_id_of(&d.bundle.spends[0].coin);
+    expect("open", submission_book_open(book, LEN, 5, 1), 0);
+    expect("queue", queue_delivery(book, LEN, &d), 0);
+    drain(1, 0);
+    expect("landed", submission_book_reconcile_chain_terminality(book, LEN, outputs, length, NULL, 0, 0, NULL, 0), 0);
+    expect("it is", look_at(1).chain, SUBMISSION_BOOK_CHAIN_LANDED);
+    expect_attempts("landed", 1, 0, 5);
+    expect("an input is spent", submission_book_reconcile_chain_terminality(book, LEN, empty, 2, input.bytes, 32, 1, NULL, 0), 0);
+    expect("it is", look_at(1).chain, SUBMISSION_BOOK_CHAIN_INPUT_SPENT);
+    expect("rolled back", submission_book_reconcile_chain_terminality(book, LEN, empty, 2, NULL, 0, 1, (const uint64_t[]){1}, 1), 0);
+    expect("it is", look_at(1).chain, SUBMISSION_BOOK_CHAIN_ACTIVE);
+    expect("clear", submission_book_clear_local_artifacts(book, LEN), 0);
+    expect("gone", look_at(1).present, false);
+}
+
+/* ---- the book in numbers */
+static void test_summary(void) {
+    submission_book_delivery first = sample_delivery(1, 1, 1), second = sample_delivery(2, 1, 1);
+    expect("open", submission_book_open(book, LEN, 5, 1), 0);
+    expect_numbers("opened", 5, 1);
+    expect_counts("opened", 0, 0, 0, 0);
+    expect("no replay", summed().rollback_height.present, false);
+    expect("queue", queue_delivery(book, LEN, &first), 0);
+    expect("queue", queue_delivery(book, LEN, &second), 0);
+    expect_counts("queued", 0, 2, 0, 0);
+    drain(2, 0);
+    expect_numbers("drained", 7, 3);
+    expect_counts("drained", 2, 0, 0, 0);
+    expect("begin", replay_begun(1000), true);
+    expect("a replay", summed().rollback_height.present && summed().rollback_height.value == 1000, true);
+    expect("replay", submission_book_collect_rollback_replay_ids(book, LEN, (const uint64_t[]){1, 2}, 2), 0);
+    expect_counts("replayed", 2, 2, 0, 2);
+    expect("emit", submission_book_emit_retirement(book, LEN, 50), 0);
+    expect_counts("one retired by hand", 2, 2, 1, 2);
+    expect_status("abandon", submission_book_abandon_attempt(book, LEN, 5, answer, ROOM), SUBMISSION_BOOK_STATUS_APPLIED);
+    expect_counts("abandoned", 1, 1, 2, 1);
+    expect_ids("collect", submission_book_drain_retirements(book, LEN, answer, ROOM), 2, (const uint64_t[]){50, 1});
+    expect_counts("collected", 1, 1, 0, 1);
+    expect("finish", submission_book_finish_replay_if_advanced(book, LEN, 1001), 0);
+    expect("over", summed().rollback_height.present, false);
+    expect_counts("over", 1, 1, 0, 0);
+    expect_numbers("no number is given twice", 7, 3);
+}
+
+/* Every part is there: the longest book has both attempts of each submission. */
+static void test_look_longest(void) {
+    static uint8_t archive[ROOM];
+    uint64_t place = 0;
+    expect("read", submission_book_read(book, LEN, archive, longest_archive(archive), &place), 0);
+    expect_numbers("longest", 1000, 1000);
+    expect_counts("longest", 16, 16, 64, 16);
+    expect("its replay", summed().rollback_height.value, 1000);
+    for (uint64_t id = 1; id < 16; id++) {
+        expect_attempts("both", id, 2 * id, 2 * id + 1);
+        expect_fee("its bundle is another than the acknowledged one", id, SUBMISSION_BOOK_RESOLUTION_ATTACHED, 9, false);
+        expect("expiry", look_at(id).expiry.value, 77);
+    }
+    expect("the id 0", look_at(0).present, true);
+    expect("no more", look_at(16).present, false);
+    keep();
+    refused("no book", submission_book_look(book, 7, 1, answer, ROOM), 1);
+    refused("no book", submission_book_summary(book, 7, answer, ROOM), 1);
+}
+
 /* ---- candidates that fail */
 static void test_failures(void) {
     submission_book_delivery misfit = sample_delivery(2, 1, 1), unreadable = sample_delivery(8, 1, 1), stranger = sample_delivery(9, 1, 1);
@@ -395,6 +566,8 @@ static void test_last_token(void) {
     expect("next id", number_at(book + 17), 3);
     expect("two are retained", book[25], 2);
     expect("the first is live", live_attempt(UINT64_MAX - 1).present, true);
+    expect("a look finds its token", look_at(1).live_token.value, UINT64_MAX - 1);
+    expect("the second has none", look_at(2).present && !look_at(2).live_token.present, true);
     drain(0, 0);
     memcpy(before, book, sizeof book);
     expect("the second again", queue_delivery(book, LEN, &second), 0);
@@ -443,6 +616,11 @@ static void test_calls(void) {
     test_attempts();
     test_chain();
     test_replay();
+    test_look_attempts();
+    test_look_fee();
+    test_look_chain();
+    test_look_longest();
+    test_summary();
     test_failures();
     test_arguments();
     test_empty_lists();

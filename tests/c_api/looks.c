@@ -8,7 +8,7 @@
 #include "expect.h"
 #include "sample.h"
 
-enum { ROOM = SUBMISSION_BOOK_ARCHIVE_BYTES, ROUNDS = 50, FILL = 0xa5, NUMBER = 99, LOOKS = 9 };
+enum { ROOM = SUBMISSION_BOOK_ARCHIVE_BYTES, ROUNDS = 50, FILL = 0xa5, NUMBER = 99, LOOKS = 11 };
 
 /* What a call said: its number, its answer in a filled buffer, and the number that it may set. */
 typedef struct {

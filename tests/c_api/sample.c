@@ -303,6 +303,14 @@ static uint8_t call_replay_rollback_height(Lent *l) {
     return submission_book_replay_rollback_height(l->book, l->book_len, l->answer, l->answer_len);
 }
 
+static uint8_t call_look(Lent *l) {
+    return submission_book_look(l->book, l->book_len, 1, l->answer, l->answer_len);
+}
+
+static uint8_t call_summary(Lent *l) {
+    return submission_book_summary(l->book, l->book_len, l->answer, l->answer_len);
+}
+
 const SampleCall sample_calls[CALL_COUNT] = {
     {"open", call_open, true, false, 0},
     {"read", call_read, true, false, 0},
@@ -333,4 +341,6 @@ const SampleCall sample_calls[CALL_COUNT] = {
     {"collect_rollback_replay_ids", call_collect_rollback_replay_ids, false, false, 0},
     {"finish_replay_if_advanced", call_finish_replay_if_advanced, false, false, 0},
     {"replay_rollback_height", call_replay_rollback_height, false, true, SUBMISSION_BOOK_HEIGHT_BYTES},
+    {"look", call_look, false, true, SUBMISSION_BOOK_LOOK_BYTES - 2 * 8}, /* neither an expiry nor a set-aside token */
+    {"summary", call_summary, false, true, SUBMISSION_BOOK_SUMMARY_BYTES},
 };

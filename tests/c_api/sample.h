@@ -21,7 +21,7 @@ typedef struct {
 } SampleCall;
 
 /* all functions but the two without a book */
-enum { CALL_COUNT = 29, ANY = 1 << 20 };
+enum { CALL_COUNT = 31, ANY = 1 << 20 };
 extern const SampleCall sample_calls[CALL_COUNT];
 
 /* A payment of so many spends and outputs; different seeds give different coins. */

@@ -145,6 +145,19 @@ static void test_retirements(void) {
     expect("all ids", answer[0], SUBMISSION_BOOK_RETIREMENTS_LIMIT);
 }
 
+/* Of the longest book, whose submissions have every part. */
+static void test_look_answers(void) {
+    static uint8_t archive[ROOM];
+    uint64_t place = 0;
+    size_t n = SUBMISSION_BOOK_LOOK_BYTES;
+    expect("read", submission_book_read(book, LEN, archive, longest_archive(archive), &place), 0);
+    expect("look, short", submission_book_look(book, LEN, 7, answer, n - 1), 12);
+    expect("look", submission_book_look(book, LEN, 7, answer, n), 0);
+    n = SUBMISSION_BOOK_SUMMARY_BYTES;
+    expect("summary, short", submission_book_summary(book, LEN, answer, n - 1), 12);
+    expect("summary", submission_book_summary(book, LEN, answer, n), 0);
+}
+
 void test_sizes(void) {
     test_argument_sizes();
     test_payments();
@@ -153,4 +166,5 @@ void test_sizes(void) {
     test_lists();
     test_replay();
     test_retirements();
+    test_look_answers();
 }

@@ -283,11 +283,18 @@ fn other_cases(size: Size) -> Vec<Case> {
     room.retirements.truncate(48);
     let mut one_more = whole.clone();
     one_more.retirements.truncate(63);
+    // acknowledged, so that a look takes the fingerprint of the current bundle
+    let mut taken = whole.clone();
+    for entry in &mut taken.retained {
+        entry.acknowledged = entry.live.as_ref().map(|attempt| attempt.drained);
+    }
     vec![
         Case { ids, ..case("retain_submitted", &room) },
         Case { number: 5000, ..case("emit_retirement", &one_more) },
         case("drain_retirements", &whole),
         case("active_ids", &whole),
+        Case { number: size.retained as u64, ..case("look", &taken) },
+        case("summary", &whole),
         Case { number: 700_000, ..case("begin_replay", &whole) },
         Case { number: 800_001, ..case("finish_replay_if_advanced", &whole) },
         case("replay_rollback_height", &whole),

@@ -39,6 +39,7 @@ macro_rules! symbol {
 }
 
 mod inputs;
+mod looks;
 mod port;
 mod stack;
 mod table;

@@ -5,9 +5,9 @@ use std::fs;
 use crate::case::Case;
 use crate::clock::median;
 use crate::inputs::{cases, new_intents, Size, EMPTY, FULL, TYPICAL};
-use crate::port::{self, lent};
+use crate::port::lent;
 use crate::stack;
-use crate::times::{times, Times, ROUNDS};
+use crate::times::{boundary_call, times, Times, ROUNDS};
 
 const SIZES: [Size; 3] = [EMPTY, TYPICAL, FULL];
 /// The goals, in microseconds, times and bytes.
@@ -213,7 +213,7 @@ pub fn drain() -> String {
 
 fn boundary_stack(case: &Case) -> usize {
     stack::on_thread(|| {
-        let mut call = port::call(case);
+        let mut call = boundary_call(case);
         let mut book = lent(&case.book);
         stack::used(&mut || {
             call(&mut book);

@@ -4,6 +4,7 @@ use std::hint::black_box;
 
 use crate::case::Case;
 use crate::clock::{median, now};
+use crate::looks;
 use crate::plain;
 use crate::port::{self, archive, lent};
 
@@ -67,16 +68,22 @@ fn upstream_seconds(_case: &Case, _copies: usize) -> Option<f64> {
 fn rust_seconds(case: &Case, copies: usize) -> Option<f64> {
     match case.call {
         "read" | "write" => Some(plain_seconds(case, copies)),
+        "look" | "summary" => None,
         _ => upstream_seconds(case, copies),
     }
+}
+
+/// The call through the C boundary.
+pub fn boundary_call(case: &Case) -> port::Call {
+    looks::call(case).unwrap_or_else(|| port::call(case))
 }
 
 /// The port must leave the book that the Rust leaves.
 fn check(case: &Case) {
     let mut book = lent(&case.book);
-    assert_eq!(port::call(case)(&mut book), 0, "{} is refused", case.call);
+    assert_eq!(boundary_call(case)(&mut book), 0, "{} is refused", case.call);
     #[cfg(feature = "rust")]
-    if !matches!(case.call, "read" | "write") {
+    if !matches!(case.call, "read" | "write" | "look" | "summary") {
         let left = rust_book::timing::left(case);
         assert!(archive(&book) == left, "{}: the Rust leaves another book", case.call);
     }
@@ -88,7 +95,7 @@ fn copies(case: &Case) -> usize {
 }
 
 /// Calls that make a book, or only look at it.
-const WITHOUT_OWN: [&str; 11] = [
+const WITHOUT_OWN: [&str; 13] = [
     "open",
     "read",
     "write",
@@ -100,6 +107,8 @@ const WITHOUT_OWN: [&str; 11] = [
     "absent_outputs_for_ids",
     "active_ids",
     "replay_rollback_height",
+    "look",
+    "summary",
 ];
 
 fn has_own(call: &str) -> bool {
@@ -110,7 +119,7 @@ pub fn times(case: &Case) -> Times {
     check(case);
     let clock = clock_seconds();
     let copies = copies(case);
-    let mut call = port::call(case);
+    let mut call = boundary_call(case);
     let mut idle = port::idle();
     let filled = lent(&case.book);
     let mut books = vec![filled.clone(); BOOKS];

@@ -1,8 +1,9 @@
-//! Another build of the library against this one, in one run: every call on the typical and the full book.
+//! Another build of the library against this one, in one run: every call on the typical and the full book, but the looks of `looks.rs`.
 
 use crate::case::Case;
 use crate::clock::median;
 use crate::inputs::{cases, FULL, TYPICAL};
+use crate::looks;
 use crate::other;
 use crate::port::{self, archive, lent};
 use crate::table::{figure, row_name};
@@ -42,6 +43,9 @@ pub fn table() -> String {
     );
     let columns = [cases(TYPICAL), cases(FULL)];
     for row in 1..columns[0].len() {
+        if looks::call(&columns[0][row]).is_some() {
+            continue;
+        }
         let name = row_name(&columns[1], row);
         eprintln!("timing {name}");
         out += &format!("| {name} |");

@@ -20,28 +20,6 @@ pub enum SubmissionBroadcastVariant {
     },
 }
 
-/// What became of the fee that a submission asks for.
-#[derive(Debug, Clone, Copy, PartialEq, Eq, Hash)]
-pub enum FeeResolution {
-    /// A fee is asked for and not attached yet.
-    Unresolved,
-    /// No fee is asked for.
-    NotRequested,
-    /// The fee is in the current bundle.
-    Attached,
-}
-
-/// What the chain has shown of a submission.
-#[derive(Debug, Clone, Copy, PartialEq, Eq, Hash)]
-pub enum SubmissionChainTerminality {
-    /// It is not settled.
-    Active,
-    /// A coin that it spends was seen spent, and none that it makes was seen.
-    InputSpent,
-    /// A coin that its base bundle makes was seen.
-    Landed,
-}
-
 /// A retained submission.
 #[derive(Debug, Clone, PartialEq, Eq, Hash)]
 pub struct SubmittedTx {
@@ -161,18 +139,10 @@ fn submitted(reader: &mut Reader, seen: &mut Seen) -> Read<SubmittedTx> {
         intent_fingerprint: reader.hash()?,
         base_bundle: reader.bundle(Runs::Readable)?,
         current_variant: current_variant(reader)?,
-        fee_resolution: reader.kind(&[
-            FeeResolution::Unresolved,
-            FeeResolution::NotRequested,
-            FeeResolution::Attached,
-        ])?,
+        fee_resolution: reader.fee_resolution()?,
         fee_intent: reader.fee_intent()?,
         acknowledged_variant_fingerprint: reader.optional(Reader::hash)?,
-        chain_terminality: reader.kind(&[
-            SubmissionChainTerminality::Active,
-            SubmissionChainTerminality::InputSpent,
-            SubmissionChainTerminality::Landed,
-        ])?,
+        chain_terminality: reader.chain_terminality()?,
         expiry: reader.height()?,
     })
 }

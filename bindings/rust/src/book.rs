@@ -128,6 +128,30 @@ impl SubmissionBook {
         archive
     }
 
+    /// The book in numbers.
+    ///
+    /// ```
+    /// use submission_book::*;
+    ///
+    /// let mut book = SubmissionBook::open(Token(5), SubmissionId(1));
+    /// let fee = SubmissionFeeIntent::NoFeeConfigured;
+    /// book.queue(&PendingDelivery::protocol(SpendBundle::default(), None, fee))?;
+    /// assert_eq!(book.summary().pending_count, 1);
+    ///
+    /// book.drain()?;
+    /// let summary = book.summary();
+    /// assert_eq!((summary.submitted_count, summary.pending_count), (1, 0));
+    /// assert_eq!(summary.next_delivery_attempt_token, Token(6));
+    /// # Ok::<(), Refusal>(())
+    /// ```
+    pub fn summary(&self) -> BookSummary {
+        never_refused(answered(
+            ffi::SUMMARY_BYTES,
+            |answer| ffi::submission_book_summary(&self.bytes, answer),
+            |answer| answer.summary(),
+        ))
+    }
+
     /// Removes everything: submissions (each is retired), queue and replay epoch. The two numbers
     /// go on.
     ///
@@ -424,6 +448,31 @@ impl SubmissionBook {
             ffi::IDS_BYTES,
             |answer| ffi::submission_book_active_ids(&self.bytes, answer),
             |answer| answer.ids(),
+        ))
+    }
+
+    /// What the submission of this id holds; `None` where it is not retained.
+    ///
+    /// ```
+    /// use submission_book::*;
+    ///
+    /// let mut book = SubmissionBook::open(Token(5), SubmissionId(1));
+    /// let fee = SubmissionFeeIntent::NoFeeConfigured;
+    /// book.queue(&PendingDelivery::protocol(SpendBundle::default(), None, fee))?;
+    /// assert_eq!(book.look(SubmissionId(1)), None);
+    ///
+    /// book.drain()?;
+    /// let look = book.look(SubmissionId(1)).unwrap();
+    /// assert_eq!(look.active_attempt_token, Some(Token(5)));
+    /// assert_eq!(look.chain_terminality, SubmissionChainTerminality::Active);
+    /// assert!(!look.acknowledged);
+    /// # Ok::<(), Refusal>(())
+    /// ```
+    pub fn look(&self, id: SubmissionId) -> Option<SubmissionLook> {
+        never_refused(answered(
+            ffi::LOOK_BYTES,
+            |answer| ffi::submission_book_look(&self.bytes, id.0, answer),
+            |answer| answer.look(),
         ))
     }
 

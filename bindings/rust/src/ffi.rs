@@ -31,6 +31,10 @@ pub const FLAG_BYTES: usize = 1;
 pub const INPUT_COINS_BYTES: usize = 4_738;
 /// The longest list of absent outputs.
 pub const ABSENT_OUTPUTS_BYTES: usize = 18_946;
+/// The longest look at a submission, with its mark.
+pub const LOOK_BYTES: usize = 39;
+/// The longest summary.
+pub const SUMMARY_BYTES: usize = 57;
 
 /// A SHA-256.
 pub const DIGEST_BYTES: usize = 32;
@@ -105,6 +109,7 @@ functions! {
     fn submission_book_open(book: &mut [u8], next_token: u64, next_id: u64);
     fn submission_book_read(book: &mut [u8], archive: &[u8], place: &mut u64);
     fn submission_book_write(book: &[u8], archive: &mut [u8], length: &mut u64);
+    fn submission_book_summary(book: &[u8], answer: &mut [u8]);
 
     fn submission_book_queue(book: &mut [u8], delivery: &[u8]);
     fn submission_book_queue_rebroadcast_epoch(book: &mut [u8], ids: &[u64], trigger: u8);
@@ -122,6 +127,7 @@ functions! {
 
     fn submission_book_retain_submitted(book: &mut [u8], removed: &[u64], answer: &mut [u8]);
     fn submission_book_active_ids(book: &[u8], answer: &mut [u8]);
+    fn submission_book_look(book: &[u8], id: u64, answer: &mut [u8]);
     fn submission_book_drain_retirements(book: &mut [u8], answer: &mut [u8]);
     fn submission_book_emit_retirement(book: &mut [u8], id: u64);
     fn submission_book_clear_local_artifacts(book: &mut [u8]);

@@ -38,6 +38,7 @@
 //! // Here the wallet broadcasts the bundle. Then:
 //! assert_eq!(book.acknowledge_attempt(token)?, SubmissionAttemptStatus::Applied);
 //! assert_eq!(book.active_ids(), [SubmissionId(1)]);
+//! assert!(book.look(SubmissionId(1)).expect("it is retained").acknowledged);
 //!
 //! // What is to be kept is the archive.
 //! assert_eq!(SubmissionBook::from_archive(&book.to_archive())?, book);
@@ -83,9 +84,7 @@ mod submission;
 mod version;
 mod wire;
 
-pub use archive::{
-    Archive, FeeResolution, SubmissionBroadcastVariant, SubmissionChainTerminality, SubmittedTx,
-};
+pub use archive::{Archive, SubmissionBroadcastVariant, SubmittedTx};
 pub use book::SubmissionBook;
 pub use coin::{sha256, CoinID, CoinString, Hash32, PuzzleHash};
 pub use refusal::Refusal;

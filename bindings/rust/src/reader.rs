@@ -112,6 +112,62 @@ impl<'a> Reader<'a> {
         self.optional(|reader| reader.number().map(Height))
     }
 
+    /// A count of eight bytes, at most `most`.
+    fn count(&mut self, most: usize) -> Read<usize> {
+        let start = self.here();
+        let count = usize::try_from(self.number()?).map_err(|_| start)?;
+        if count <= most {
+            return Ok(count);
+        }
+        Err(start)
+    }
+
+    fn token(&mut self) -> Read<Token> {
+        self.number().map(Token)
+    }
+
+    pub fn fee_resolution(&mut self) -> Read<FeeResolution> {
+        self.kind(&[
+            FeeResolution::Unresolved,
+            FeeResolution::NotRequested,
+            FeeResolution::Attached,
+        ])
+    }
+
+    pub fn chain_terminality(&mut self) -> Read<SubmissionChainTerminality> {
+        self.kind(&[
+            SubmissionChainTerminality::Active,
+            SubmissionChainTerminality::InputSpent,
+            SubmissionChainTerminality::Landed,
+        ])
+    }
+
+    pub fn look(&mut self) -> Read<Option<SubmissionLook>> {
+        self.optional(|reader| {
+            Ok(SubmissionLook {
+                chain_terminality: reader.chain_terminality()?,
+                acknowledged: reader.flag()?,
+                fee_resolution: reader.fee_resolution()?,
+                applied_fee: reader.number()?,
+                expiry: reader.height()?,
+                active_attempt_token: reader.optional(Self::token)?,
+                completed_attempt_token: reader.optional(Self::token)?,
+            })
+        })
+    }
+
+    pub fn summary(&mut self) -> Read<BookSummary> {
+        Ok(BookSummary {
+            next_delivery_attempt_token: self.token()?,
+            next_submission_id: self.id()?,
+            submitted_count: self.count(16)?,
+            pending_count: self.count(16)?,
+            retired_count: self.count(64)?,
+            replayed_count: self.count(16)?,
+            rollback_height: self.height()?,
+        })
+    }
+
     pub fn status(&mut self) -> Read<SubmissionAttemptStatus> {
         self.kind(&[SubmissionAttemptStatus::Applied, SubmissionAttemptStatus::Stale])
     }
@@ -134,7 +190,7 @@ impl<'a> Reader<'a> {
     }
 
     pub fn optional_attempt(&mut self) -> Read<Option<DeliveryAttempt>> {
-        self.optional(|reader| reader.attempt(|reader| reader.number().map(Token)))
+        self.optional(|reader| reader.attempt(Self::token))
     }
 
     fn coin(&mut self) -> Read<CoinString> {
@@ -225,8 +281,8 @@ impl<'a> Reader<'a> {
     fn drained(&mut self) -> Read<DrainedSubmission> {
         Ok(DrainedSubmission {
             id: self.id()?,
-            attempt_token: self.number().map(Token)?,
-            predecessor_attempt_token: self.optional(|reader| reader.number().map(Token))?,
+            attempt_token: self.token()?,
+            predecessor_attempt_token: self.optional(Self::token)?,
             relationship: self.kind(&[
                 SubmissionAttemptRelationship::Initial,
                 SubmissionAttemptRelationship::Exact,
@@ -301,6 +357,66 @@ mod tests {
         assert_eq!(Reader::new(&drain).drain(), Err(Broken(drain.len() as u64 - 1)));
         drain[18] = 4;
         assert_eq!(Reader::new(&drain).drain(), Err(Broken(18)), "relationship");
+    }
+
+    /// Mark, chain, acknowledged, fee resolution, applied fee, and three optional numbers.
+    fn look_answer() -> Vec<u8> {
+        let optional = |number: u8| [&[1][..], &[0; 7], &[number]].concat();
+        let fee = [&[1, 2, 1, 2][..], &[0; 7], &[25]].concat();
+        [fee, optional(77), optional(6), optional(5)].concat()
+    }
+
+    #[test]
+    fn a_look_is_read_whole_or_not() {
+        let whole = look_answer();
+        let look = SubmissionLook {
+            chain_terminality: SubmissionChainTerminality::Landed,
+            acknowledged: true,
+            fee_resolution: FeeResolution::Attached,
+            applied_fee: 25,
+            expiry: Some(Height(77)),
+            active_attempt_token: Some(Token(6)),
+            completed_attempt_token: Some(Token(5)),
+        };
+        assert_eq!(whole.len(), crate::ffi::LOOK_BYTES);
+        assert_eq!(Reader::new(&whole).look(), Ok(Some(look)));
+        assert_eq!(Reader::new(&[0]).look(), Ok(None));
+        for length in 0..whole.len() {
+            assert!(Reader::new(&whole[..length]).look().is_err());
+        }
+        for (at, most) in [(0, 1), (1, 2), (2, 1), (3, 2), (12, 1), (21, 1), (30, 1)] {
+            let mut broken = whole.clone();
+            broken[at] = most + 1;
+            assert_eq!(Reader::new(&broken).look(), Err(Broken(at as u64)));
+        }
+    }
+
+    #[test]
+    fn a_summary_is_read_whole_or_not() {
+        let numbers: [u64; 6] = [9, 4, 16, 15, 64, 14];
+        let numbers: Vec<u8> = numbers.iter().flat_map(|number| number.to_be_bytes()).collect();
+        let whole = [&numbers[..], &[1], &[0; 7], &[100]].concat();
+        let summary = BookSummary {
+            next_delivery_attempt_token: Token(9),
+            next_submission_id: SubmissionId(4),
+            submitted_count: 16,
+            pending_count: 15,
+            retired_count: 64,
+            replayed_count: 14,
+            rollback_height: Some(Height(100)),
+        };
+        assert_eq!(whole.len(), crate::ffi::SUMMARY_BYTES);
+        assert_eq!(Reader::new(&whole).summary(), Ok(summary));
+        for length in 0..whole.len() {
+            assert!(Reader::new(&whole[..length]).summary().is_err());
+        }
+        for (place, most) in [(16, 16), (24, 16), (32, 64), (40, 16)] {
+            for (at, byte) in [(place + 7, most + 1), (place, 1)] {
+                let mut broken = whole.clone();
+                broken[at] = byte;
+                assert_eq!(Reader::new(&broken).summary(), Err(Broken(place as u64)));
+            }
+        }
     }
 
     #[test]

@@ -292,3 +292,63 @@ pub enum SubmissionAttemptStatus {
     /// The attempt is no longer live; nothing was done.
     Stale,
 }
+
+/// What became of the fee that a submission asks for.
+#[derive(Debug, Clone, Copy, PartialEq, Eq, Hash)]
+pub enum FeeResolution {
+    /// A fee is asked for and not attached yet.
+    Unresolved,
+    /// No fee is asked for.
+    NotRequested,
+    /// The fee is in the current bundle.
+    Attached,
+}
+
+/// What the chain has shown of a submission.
+#[derive(Debug, Clone, Copy, PartialEq, Eq, Hash)]
+pub enum SubmissionChainTerminality {
+    /// It is not settled.
+    Active,
+    /// A coin that it spends was seen spent, and none that it makes was seen.
+    InputSpent,
+    /// A coin that its base bundle makes was seen.
+    Landed,
+}
+
+/// What a retained submission holds beside its bundles.
+#[derive(Debug, Clone, Copy, PartialEq, Eq, Hash)]
+pub struct SubmissionLook {
+    /// What the chain has shown.
+    pub chain_terminality: SubmissionChainTerminality,
+    /// Whether the current bundle is acknowledged.
+    pub acknowledged: bool,
+    /// What became of the fee.
+    pub fee_resolution: FeeResolution,
+    /// The fee in the current bundle; 0 where that is the base bundle.
+    pub applied_fee: u64,
+    /// The height at which it can no longer be included.
+    pub expiry: Option<Height>,
+    /// The token of the live attempt.
+    pub active_attempt_token: Option<Token>,
+    /// The token of the attempt that is set aside.
+    pub completed_attempt_token: Option<Token>,
+}
+
+/// A book in numbers.
+#[derive(Debug, Clone, Copy, PartialEq, Eq, Hash)]
+pub struct BookSummary {
+    /// The token that is issued next.
+    pub next_delivery_attempt_token: Token,
+    /// The id of the next new submission.
+    pub next_submission_id: SubmissionId,
+    /// How many submissions are retained, at most 16.
+    pub submitted_count: usize,
+    /// How many deliveries are queued, at most 16.
+    pub pending_count: usize,
+    /// How many retirements wait to be collected, at most 64.
+    pub retired_count: usize,
+    /// How many submissions the running replay has offered again, at most 16.
+    pub replayed_count: usize,
+    /// The height of the running replay.
+    pub rollback_height: Option<Height>,
+}

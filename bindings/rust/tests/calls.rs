@@ -67,8 +67,12 @@ fn looks(book: &SubmissionBook) -> String {
         .collect();
     let rolled_back = book.causally_rolled_back_ids(&[made(10)], &[coin_id(&coin(10))]);
     let absent = book.absent_outputs_for_ids(&book.active_ids(), &[made(10)]);
-    let height = book.replay_rollback_height();
-    format!("{coins:?} {attempts:?} {rolled_back:?} {absent:?} {height:?} {:?}", book.to_archive())
+    let numbers = (book.replay_rollback_height(), book.summary());
+    let submissions: Vec<_> = ids(0..4).into_iter().map(|id| book.look(id)).collect();
+    let archive = book.to_archive();
+    format!(
+        "{coins:?} {attempts:?} {rolled_back:?} {absent:?} {numbers:?} {submissions:?} {archive:?}"
+    )
 }
 
 #[test]
@@ -208,6 +212,11 @@ fn the_largest_book() {
     assert_eq!(book.active_ids(), ids(0..16));
     assert_eq!(book.replay_rollback_height(), Some(Height(200)));
     assert_eq!(book.attempt(Token(30)).unwrap().token, Token(30));
+    let look = book.look(SubmissionId(15)).unwrap();
+    assert_eq!(look.active_attempt_token, Some(Token(30)));
+    assert_eq!(look.completed_attempt_token, Some(Token(31)));
+    assert_eq!((look.applied_fee, look.expiry), (9, Some(Height(77))));
+    assert_eq!(book.summary().retired_count, 64);
     let inputs = book.reconciliation_input_coins(&[]).unwrap();
     assert_eq!(inputs.len(), 64);
     let fits = book.relinquish_completed_attempt(Token(31));
@@ -522,6 +531,111 @@ fn landed_and_input_spent() {
     assert_eq!(book.active_ids(), []);
 }
 
+/// The two tokens that a look at submission 1 shows.
+fn attempts(book: &SubmissionBook) -> (Option<Token>, Option<Token>) {
+    let look = book.look(SubmissionId(1)).unwrap();
+    (look.active_attempt_token, look.completed_attempt_token)
+}
+
+#[test]
+fn a_look_at_each_state_of_an_attempt() {
+    let mut book = book();
+    let expiry = Some(Height(77));
+    book.queue(&PendingDelivery::protocol(deposit(10), expiry, NO_FEE)).unwrap();
+    assert_eq!(book.look(SubmissionId(1)), None);
+    book.drain().unwrap();
+    let drained = SubmissionLook {
+        chain_terminality: SubmissionChainTerminality::Active,
+        acknowledged: false,
+        fee_resolution: FeeResolution::NotRequested,
+        applied_fee: 0,
+        expiry,
+        active_attempt_token: Some(Token(5)),
+        completed_attempt_token: None,
+    };
+    assert_eq!(book.look(SubmissionId(1)), Some(drained));
+    assert_eq!(book.look(SubmissionId(2)), None);
+    book.stop_attempt(Token(5)).unwrap();
+    assert_eq!(attempts(&book), (None, Some(Token(5))));
+    book.queue_rebroadcast_epoch(&ids([1]), DeliveryTrigger::FreshChain).unwrap();
+    book.drain().unwrap();
+    assert_eq!(attempts(&book), (Some(Token(6)), None));
+    book.finalize_attempt(Token(6), &NOT_REQUESTED).unwrap();
+    book.acknowledge_attempt(Token(6)).unwrap();
+    assert_eq!(attempts(&book), (None, Some(Token(6))));
+    assert!(book.look(SubmissionId(1)).unwrap().acknowledged);
+    book.retain_submitted(&ids([1])).unwrap();
+    assert_eq!(book.look(SubmissionId(1)), None);
+}
+
+#[test]
+fn a_look_at_the_fee() {
+    let fee = |book: &SubmissionBook| {
+        let look = book.look(SubmissionId(1)).unwrap();
+        (look.fee_resolution, look.applied_fee, look.acknowledged)
+    };
+    let mut book = acknowledged_book(attach(7));
+    assert_eq!(fee(&book), (FeeResolution::Unresolved, 0, true));
+    book.queue_fee_readiness().unwrap();
+    book.drain().unwrap();
+    // the bundle with the fee is another one than that which was acknowledged
+    book.finalize_attempt(Token(6), &SubmissionFeeSource::Joined(deposit(30))).unwrap();
+    assert_eq!(fee(&book), (FeeResolution::Attached, 7, false));
+    book.acknowledge_attempt(Token(6)).unwrap();
+    assert_eq!(fee(&book), (FeeResolution::Attached, 7, true));
+    book.collect_rollback_replay_ids(&ids([1])).unwrap();
+    assert_eq!(fee(&book), (FeeResolution::Attached, 7, false));
+}
+
+#[test]
+fn a_look_at_what_the_chain_has_shown() {
+    use SubmissionChainTerminality::*;
+    let chain = |book: &SubmissionBook| book.look(SubmissionId(1)).unwrap().chain_terminality;
+    let mut book = drained_book(NO_FEE);
+    assert_eq!(chain(&book), Active);
+    book.reconcile_chain_terminality(&[made(10)], &[], false, &[]).unwrap();
+    assert_eq!(chain(&book), Landed);
+    book.reconcile_chain_terminality(&[], &[coin_id(&coin(10))], true, &[]).unwrap();
+    assert_eq!(chain(&book), InputSpent);
+    book.reconcile_chain_terminality(&[], &[], true, &ids([1])).unwrap();
+    assert_eq!(chain(&book), Active);
+}
+
+#[test]
+fn the_summary_behind_calls() {
+    let mut book = book();
+    let counts = |book: &SubmissionBook| {
+        let all = book.summary();
+        [all.submitted_count, all.pending_count, all.retired_count, all.replayed_count]
+    };
+    let opened = BookSummary {
+        next_delivery_attempt_token: Token(5),
+        next_submission_id: SubmissionId(1),
+        submitted_count: 0,
+        pending_count: 0,
+        retired_count: 0,
+        replayed_count: 0,
+        rollback_height: None,
+    };
+    assert_eq!(book.summary(), opened);
+    (1..3).for_each(|n| queue(&mut book, 10 * n, NO_FEE));
+    assert_eq!(counts(&book), [0, 2, 0, 0]);
+    book.drain().unwrap();
+    assert_eq!(counts(&book), [2, 0, 0, 0]);
+    book.begin_replay(Height(100));
+    book.collect_rollback_replay_ids(&ids([1, 2])).unwrap();
+    assert_eq!(counts(&book), [2, 2, 0, 2]);
+    assert_eq!(book.summary().rollback_height, Some(Height(100)));
+    book.abandon_attempt(Token(5)).unwrap();
+    assert_eq!(counts(&book), [1, 1, 1, 1]);
+    book.drain_retirements();
+    book.finish_replay_if_advanced(Height(101));
+    let numbers = (book.summary().next_delivery_attempt_token, book.summary().next_submission_id);
+    assert_eq!(counts(&book), [1, 1, 0, 0]);
+    assert_eq!(numbers, (Token(7), SubmissionId(3)));
+    assert_eq!(book.summary().rollback_height, None);
+}
+
 #[test]
 fn lists_at_their_limits_are_taken() {
     let mut book = drained_book(NO_FEE);
@@ -544,6 +658,8 @@ fn looking_leaves_the_book() {
     book.active_ids();
     book.attempt(Token(5));
     book.replay_rollback_height();
+    book.look(SubmissionId(1)).unwrap();
+    book.summary();
     book.fee_intent_for_attempt(Token(5)).unwrap();
     book.causally_rolled_back_ids(&[made(10)], &[coin_id(&coin(10))]).unwrap();
     book.reconciliation_input_coins(&[made(10)]).unwrap();

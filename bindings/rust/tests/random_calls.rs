@@ -202,6 +202,10 @@ impl Trial {
     fn look(&mut self) -> Result<(), Refusal> {
         let token = self.token();
         let (book, generator) = (&self.book, &mut self.generator);
+        let id = generator.id(self.first_id);
+        let live = book.look(id).is_some_and(|look| look.active_attempt_token == Some(token));
+        assert!(!live || book.attempt(token).is_some());
+        assert_eq!(book.summary().next_delivery_attempt_token, Token(self.next_token));
         let fee_intent = book.fee_intent_for_attempt(token)?;
         assert_eq!(fee_intent.is_some(), book.attempt(token).is_some());
         let absent = generator.coins();

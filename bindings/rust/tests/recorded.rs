@@ -265,6 +265,35 @@ fn finalized_form(finalized: FinalizedSubmission) -> Vec<u8> {
     .concat()
 }
 
+fn look_form(look: SubmissionLook) -> Vec<u8> {
+    let marks =
+        vec![look.chain_terminality as u8, look.acknowledged.into(), look.fee_resolution as u8];
+    [
+        marks,
+        number_form(look.applied_fee),
+        optional_form(look.expiry, |height| number_form(height.0)),
+        optional_form(look.active_attempt_token, |token| number_form(token.0)),
+        optional_form(look.completed_attempt_token, |token| number_form(token.0)),
+    ]
+    .concat()
+}
+
+fn summary_form(summary: BookSummary) -> Vec<u8> {
+    let counts = [
+        summary.submitted_count,
+        summary.pending_count,
+        summary.retired_count,
+        summary.replayed_count,
+    ];
+    [
+        number_form(summary.next_delivery_attempt_token.0),
+        number_form(summary.next_submission_id.0),
+        counts.into_iter().flat_map(|count| number_form(count as u64)).collect(),
+        optional_form(summary.rollback_height, |height| number_form(height.0)),
+    ]
+    .concat()
+}
+
 fn drained_form(drained: &DrainedSubmission) -> Vec<u8> {
     [
         number_form(drained.id.0),
@@ -484,6 +513,11 @@ impl Player {
             0x0c..=0x1a => self.epoch_call(opcode, script)?,
             0x1c => self.read_call(script)?,
             0x1d => Ok(vec![1]),
+            0x1e => {
+                let id = SubmissionId(script.number()?);
+                Ok(optional_form(self.book.look(id), look_form))
+            }
+            0x1f => Ok(summary_form(self.book.summary())),
             _ => return None,
         };
         match answer {
@@ -537,7 +571,7 @@ fn lists() -> Vec<(String, Vec<u8>, Vec<u8>)> {
 #[test]
 fn the_recorded_lists() {
     let lists = lists();
-    assert!(lists.len() >= 27, "{} lists", lists.len());
+    assert!(lists.len() >= 29, "{} lists", lists.len());
     for (name, script, output) in lists {
         let player = play(&script);
         let same = player.out.iter().zip(&output).take_while(|(a, b)| a == b).count();
@@ -547,12 +581,13 @@ fn the_recorded_lists() {
 
 #[test]
 fn the_recorded_lists_have_every_call_and_refusal() {
-    let (_, script, _) = lists().into_iter().find(|(name, _, _)| name == "all").unwrap();
-    let player = play(&script);
-    for opcode in 0x01..=0x1d {
-        assert!(player.accepted.contains(&opcode), "{opcode:02x} was never accepted");
+    let players: Vec<Player> = lists().iter().map(|(_, script, _)| play(script)).collect();
+    for opcode in 0x01..=0x1f {
+        let accepted = players.iter().any(|player| player.accepted.contains(&opcode));
+        assert!(accepted, "{opcode:02x} was never accepted");
     }
     for number in 2..=13 {
-        assert!(player.refused.contains(&number), "{number} was never answered");
+        let refused = players.iter().any(|player| player.refused.contains(&number));
+        assert!(refused, "{number} was never answered");
     }
 }

@@ -1,4 +1,4 @@
--- The functions of the library, with their arguments as C hands them over, and their contracts: 27 calls on a lent book (`Did`), opening
+-- The functions of the library, with their arguments as C hands them over, and their contracts: 29 calls on a lent book (`Did`), opening
 -- (`OpenDid`), reading an archive (`ReadDid`), and two without a book (`Sha256Did`, `CoinIdDid`).
 use Prim.Native.Nat.{ℕ}
 use mathlib.Core.Bool.{_&&_}
@@ -20,6 +20,7 @@ use Rattle.rules.specs.Calls.DrainRetirements.{drainRetirements}
 use Rattle.rules.specs.Calls.EmitRetirement.{emitRetirement}
 use Rattle.rules.specs.Calls.FeeIntentForAttempt.{feeIntentForAttempt}
 use Rattle.rules.specs.Calls.FinalizeAttempt.{finalizeAttempt}
+use Rattle.rules.specs.Calls.Look.{lookAt}
 use Rattle.rules.specs.Calls.Queue.{queue}
 use Rattle.rules.specs.Calls.QueueFeeReadiness.{queueFeeReadiness}
 use Rattle.rules.specs.Calls.QueueRebroadcastEpoch.{queueRebroadcastEpoch}
@@ -31,12 +32,13 @@ use Rattle.rules.specs.Calls.Replay.{beginReplay, finishReplayIfAdvanced, repla
 use Rattle.rules.specs.Calls.RestoreRuntime.{restoreRuntime}
 use Rattle.rules.specs.Calls.RetainSubmitted.{retainSubmitted}
 use Rattle.rules.specs.Calls.StopAttempt.{stopAttempt}
+use Rattle.rules.specs.Calls.Summary.{summary}
 use Rattle.rules.specs.Doors.{idsOk}
 use Rattle.rules.specs.Opened.{opened}
 use Rattle.c_answer.specs.Answer.{GivesAnswer, digestIn, coinIdIn}
 use Rattle.c_boundary.specs.Held.{heldIn}
 use Rattle.c_boundary.specs.Settle.{written, boundary, Gives, GivesBook}
-use Rattle.c_boundary.specs.Forms.{noForm, statusForm, flagForm, heightForm, idsForm, attemptForm, feeIntentForm, finalForm, drainForm, bytesForm}
+use Rattle.c_boundary.specs.Forms.{noForm, statusForm, flagForm, heightForm, idsForm, attemptForm, lookForm, summaryForm, feeIntentForm, finalForm, drainForm, bytesForm}
 use Rattle.c_boundary.specs.Arguments.{given, listed, byteAs, bytesAs, flagIn}
 use Rattle.c_api.specs.Laws.{sourceIn, joinedIn}
 use Rattle.c_api.specs.Quiet.{GivesBytes, lengthOf}
@@ -54,6 +56,8 @@ pub data CCall : Type 0 where
   FinalizeAttempt : (token source : ℕ) → (joined answer : List ℕ) → CCall
   RetainSubmitted : (removed answer : List ℕ) → CCall
   ActiveIds DrainRetirements ReplayRollbackHeight : (answer : List ℕ) → CCall
+  Look : (id : ℕ) → (answer : List ℕ) → CCall
+  Summary : (answer : List ℕ) → CCall
   EmitRetirement FinishReplayIfAdvanced : ℕ → CCall
   ClearLocalArtifacts RestoreRuntime : CCall
   ReconcileChainTerminality : (observed spent : List ℕ) → (reorg : ℕ) → (back : List ℕ) → CCall
@@ -129,6 +133,8 @@ pub data Did (d : List ℕ) : CCall → Returned → Type 0 where
   retirements-did : {a : List ℕ} {n : ℕ} {d′ a′ : List ℕ} → Gives (boundary idsForm drainRetirements d a) n d′ a′ → Did d (DrainRetirements a) (answered n d′ a′)
   height-did : {a : List ℕ} {n : ℕ} {a′ : List ℕ} → Gives (boundary heightForm replayRollbackHeight d a) n d a′
       → Did d (ReplayRollbackHeight a) (answered n d a′)
+  look-did : {a : List ℕ} (id : ℕ) {n : ℕ} {a′ : List ℕ} → Gives (boundary lookForm (lookAt id) d a) n d a′ → Did d (Look id a) (answered n d a′)
+  summary-did : {a : List ℕ} {n : ℕ} {a′ : List ℕ} → Gives (boundary summaryForm summary d a) n d a′ → Did d (Summary a) (answered n d a′)
   emit-did : (id : ℕ) {n : ℕ} {d′ : List ℕ} → GivesBook (boundary noForm (emitRetirement id) d []) n d′ → Did d (EmitRetirement id) (back n d′)
   finish-did : (height : ℕ) {n : ℕ} {d′ : List ℕ} → GivesBook (boundary noForm (finishReplayIfAdvanced (record { 0 = height })) d []) n d′
       → Did d (FinishReplayIfAdvanced height) (back n d′)

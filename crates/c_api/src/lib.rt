@@ -6,6 +6,7 @@ mod coins;
 mod digest;
 mod drain_call;
 mod epoch;
+mod looks;
 mod queue;
 mod retained;
 mod whole;

@@ -15,7 +15,7 @@ use Rattle.codec_forms.specs.Puts.{Puts, Size, puts-overlay}
 use Rattle.archive_bundle_form.specs.Forms.{encodeBundle, encodeHeight, encodeFeeIntent}
 use Rattle.archive_form.specs.Encode.{encodeHash, encodeAttempt, encodeSlot, goalNumber}
 use Rattle.codec_append.specs.Fits.{Fits}
-use Rattle.codec_answers.specs.Forms.{flagNumber, statusNumber, dispositionNumber, encodeIds, encodeFinal, encodeDrained}
+use Rattle.codec_answers.specs.Forms.{flagNumber, statusNumber, dispositionNumber, encodeIds, encodeLook, encodeSummary, encodeFinal, encodeDrained}
 use Rattle.codec_answers.specs.Drain.{encodeFailure, encodeSubmissions, encodeFailures}
 use Rattle.part_drain_answers.specs.DrainReply.{drainReply}
 use Rattle.part_drain_answers.specs.declared.DrainReply.{DrainReply}
@@ -27,10 +27,12 @@ use Rattle.book.specs.declared.OptionalHash.{OptionalHash}
 use Rattle.book.specs.declared.DeliveryAttempt.{DeliveryAttempt}
 use Rattle.book.specs.declared.OptionalAttempt.{OptionalAttempt}
 use Rattle.book.specs.declared.OptionalHeight.the-variants.{NoHeight}
+use Rattle.book_answers.specs.declared.BookSummary.{BookSummary}
 use Rattle.book_answers.specs.declared.DrainedSubmission.{DrainedSubmission}
+use Rattle.book_answers.specs.declared.SubmissionLook.{SubmissionLook}
 use Rattle.rules.specs.Rule.{Rule, Outcome, ended, undone, stopped}
 use Rattle.rules.specs.Steps.{runBook}
-use Rattle.part_replies.specs.Reply.{valueOf, doneReply, statusReply, idsReply, flagReply, heightReply, attemptReply, feeIntentReply, finalizeReply, isSome, orElse, attemptIn}
+use Rattle.part_replies.specs.Reply.{valueOf, doneReply, statusReply, idsReply, flagReply, heightReply, attemptReply, lookReply, summaryReply, feeIntentReply, finalizeReply, isSome, orElse, attemptIn}
 use Rattle.book_answers.specs.declared.SubmissionAttemptStatus.the-variants.{Stale}
 use Rattle.book_answers.specs.declared.FinalizedSubmission.{FinalizedSubmission}
 use Rattle.part_replies.specs.declared.CallAnswer.{CallAnswer}
@@ -40,14 +42,16 @@ use Rattle.part_replies.specs.declared.IdsReply.{IdsReply}
 use Rattle.part_replies.specs.declared.FlagReply.{FlagReply}
 use Rattle.part_replies.specs.declared.HeightReply.{HeightReply}
 use Rattle.part_replies.specs.declared.AttemptReply.{AttemptReply}
+use Rattle.part_replies.specs.declared.LookReply.{LookReply}
+use Rattle.part_replies.specs.declared.SummaryReply.{SummaryReply}
 use Rattle.part_replies.specs.declared.FeeIntentReply.{FeeIntentReply}
 use Rattle.part_replies.specs.declared.FinalizeReply.{FinalizeReply}
 use Rattle.c_boundary.specs.Held.{heldIn, Holding}
 use Rattle.c_answer.specs.Answer.{GivesAnswer, answer-as}
 use Rattle.c_boundary.specs.Settle.{Left, Form, refusal, boundary, Gives, GivesBook, gives-as, gives-book-as, finish, Tells, boundary-reply, boundary-absent}
-use Rattle.rules.specs.Call.{Value, noValue, failures, finalized, feeIntentIs, statusIs, idsAre, flag, heightIs, attemptIs, written}
+use Rattle.rules.specs.Call.{Value, noValue, failures, finalized, feeIntentIs, statusIs, idsAre, flag, heightIs, attemptIs, lookIs, summaryIs, written}
 use Rattle.rules.specs.Calls.{nothing}
-use Rattle.book_answers.specs.Zero.{zeroDrained, zeroFailure, zeroFinal}
+use Rattle.book_answers.specs.Zero.{zeroDrained, zeroFailure, zeroFinal, zeroLook, zeroSummary}
 use Rattle.book.specs.declared.OptionalHeight.{OptionalHeight}
 use Rattle.book.specs.declared.SubmissionFeeIntent.{SubmissionFeeIntent}
 use Rattle.book_answers.specs.declared.SubmissionAttemptStatus.{SubmissionAttemptStatus}
@@ -78,6 +82,14 @@ unfoldable pub attemptForm : Form (Option DeliveryAttempt)
 unfolding encodeSlot
 attemptForm xs v = encodeSlot (attemptIn v)
 
+unfoldable pub lookForm : Form (Option SubmissionLook)
+unfolding encOpt encodeLook
+lookForm xs v = encOpt (isSome v) (encodeLook (orElse zeroLook v))
+
+unfoldable pub summaryForm : Form BookSummary
+unfolding encodeSummary
+summaryForm xs v = encodeSummary v
+
 unfoldable pub feeIntentForm : Form (Option SubmissionFeeIntent)
 unfolding encOpt encodeFeeIntent
 feeIntentForm xs v = encOpt (isSome v) (encodeFeeIntent (orElse zeroFeeIntent v))
@@ -106,6 +118,8 @@ valueForm xs (idsAre is) = idsForm xs is
 valueForm xs (flag t) = flagForm xs t
 valueForm xs (heightIs h) = heightForm xs h
 valueForm xs (attemptIs a) = attemptForm xs a
+valueForm xs (lookIs l) = lookForm xs l
+valueForm xs (summaryIs s) = summaryForm xs s
 valueForm xs (written s) = bytesForm xs s
 
 -- how the answers of one type stand among the values, and in which form
@@ -131,6 +145,12 @@ asHeight = record { value = heightIs; form = heightForm; same = λ xs v. refl }
 
 abbrev pub asAttempt : ToldAs (Option DeliveryAttempt)
 asAttempt = record { value = attemptIs; form = attemptForm; same = λ xs v. refl }
+
+abbrev pub asLook : ToldAs (Option SubmissionLook)
+asLook = record { value = lookIs; form = lookForm; same = λ xs v. refl }
+
+abbrev pub asSummary : ToldAs BookSummary
+asSummary = record { value = summaryIs; form = summaryForm; same = λ xs v. refl }
 
 abbrev pub asFeeIntent : ToldAs (Option SubmissionFeeIntent)
 asFeeIntent = record { value = feeIntentIs; form = feeIntentForm; same = λ xs v. refl }
@@ -196,6 +216,18 @@ tells-attempt (ended m xs v) = refl
 tells-attempt (undone k) = tt
 tells-attempt (stopped m xs k) = tt
 
+tells-look : (o : Outcome Book (Option SubmissionLook)) → Tells lookForm o (encOpt (isSome (valueOf none o)) (encodeLook (orElse zeroLook (valueOf none o))))
+unfolding lookForm
+tells-look (ended m xs v) = refl
+tells-look (undone k) = tt
+tells-look (stopped m xs k) = tt
+
+tells-summary : (o : Outcome Book BookSummary) → Tells summaryForm o (encodeSummary (valueOf zeroSummary o))
+unfolding summaryForm
+tells-summary (ended m xs v) = refl
+tells-summary (undone k) = tt
+tells-summary (stopped m xs k) = tt
+
 tells-fee-intent : (o : Outcome Book (Option SubmissionFeeIntent)) → Tells feeIntentForm o (encOpt (isSome (valueOf none o)) (encodeFeeIntent (orElse zeroFeeIntent (valueOf none o))))
 unfolding feeIntentForm
 tells-fee-intent (ended m xs v) = refl
@@ -246,12 +278,23 @@ module _ (d a : List ℕ) (b : BookData) (h : Holding d b) where
   attempt-looked rule q r e g =
       boundary-looked attemptForm d a b h rule q _ (tells-attempt (runBook rule (view b))) (answer-as (ap (λ (x : AttemptReply). toldBy (x .answer) (encodeSlot (x .attempt)) a) e) g)
 
+  pub look-looked : (rule : Rule (Option SubmissionLook)) → Looks rule → {n : ℕ} {a′ : List ℕ} (r : LookReply) → r ≡ lookReply b (runBook rule (view b))
+      → GivesAnswer (toldBy (r .answer) (encOpt (r .present) (encodeLook (r .look))) a) n a′ → Gives (boundary lookForm rule d a) n d a′
+  look-looked rule q r e g =
+      boundary-looked lookForm d a b h rule q _ (tells-look (runBook rule (view b))) (answer-as (ap (λ (x : LookReply). toldBy (x .answer) (encOpt (x .present) (encodeLook (x .look))) a) e) g)
+
+  pub summary-looked : (rule : Rule BookSummary) → Looks rule → {n : ℕ} {a′ : List ℕ} (r : SummaryReply) → r ≡ summaryReply b (runBook rule (view b))
+      → GivesAnswer (toldBy (r .answer) (encodeSummary (r .summary)) a) n a′ → Gives (boundary summaryForm rule d a) n d a′
+  summary-looked rule q r e g =
+      boundary-looked summaryForm d a b h rule q _ (tells-summary (runBook rule (view b))) (answer-as (ap (λ (x : SummaryReply). toldBy (x .answer) (encodeSummary (x .summary)) a) e) g)
+
   pub fee-intent-looked : (rule : Rule (Option SubmissionFeeIntent)) → Looks rule → {n : ℕ} {a′ : List ℕ} (r : FeeIntentReply) → r ≡ feeIntentReply b (runBook rule (view b))
       → GivesAnswer (toldBy (r .answer) (encOpt (r .present) (encodeFeeIntent (r .«fee_intent»))) a) n a′ → Gives (boundary feeIntentForm rule d a) n d a′
   fee-intent-looked rule q r e g =
       boundary-looked feeIntentForm d a b h rule q _ (tells-fee-intent (runBook rule (view b))) (answer-as (ap (λ (x : FeeIntentReply). toldBy (x .answer) (encOpt (x .present) (encodeFeeIntent (x .«fee_intent»))) a) e) g)
 
-pub done-given : (d : List ℕ) (b : BookData) (h : Holding d b) (rule : Rule (Unit {0})) {n : ℕ} {d′ : List ℕ} (r : DoneReply) → r ≡ doneReply b (runBook rule (view b)) → GivesBook (finish (r .answer) (r .book) [] d []) n d′ → GivesBook (boundary noForm rule d []) n d′
+pub done-given : (d : List ℕ) (b : BookData) (h : Holding d b) (rule : Rule (Unit {0})) {n : ℕ} {d′ : List ℕ} (r : DoneReply)
+    → r ≡ doneReply b (runBook rule (view b)) → GivesBook (finish (r .answer) (r .book) [] d []) n d′ → GivesBook (boundary noForm rule d []) n d′
 done-given d b h rule r e g =
     gives-book-as (ap (λ (x : DoneReply). finish (x .answer) (x .book) [] d []) e ∙ boundary-reply noForm d [] b h rule [] (tells-none (runBook rule (view b)))) g
 

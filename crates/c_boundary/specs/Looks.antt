@@ -22,9 +22,11 @@ use Rattle.rules.specs.Calls.Attempt.{attempt}
 use Rattle.rules.specs.Calls.CausallyRolledBackIds.{causallyRolledBackIds}
 use Rattle.rules.specs.Calls.Common.{Found, live, aside, gone, neverIssued, find, byLive, withLive, writing}
 use Rattle.rules.specs.Calls.FeeIntentForAttempt.{feeIntentForAttempt}
+use Rattle.rules.specs.Calls.Look.{lookAt}
 use Rattle.rules.specs.Calls.ReconciliationInputCoins.{inputCoinsToReconcile, reconciliationInputCoins}
 use Rattle.rules.specs.Calls.RelinquishCompletedAttempt.{relinquishBy, relinquishCompletedAttempt}
 use Rattle.rules.specs.Calls.Replay.{replayRollbackHeight}
+use Rattle.rules.specs.Calls.Summary.{summary}
 use Rattle.rules.specs.Calls.WriteArchive.{writeArchive}
 use Rattle.rules.specs.CoinLists.{encodeCoins}
 use Rattle.rules.specs.Doors.{idsOk}
@@ -105,6 +107,14 @@ looks-active-ids = λ b. tt
 pub looks-height : Looks replayRollbackHeight
 unfolding replayRollbackHeight
 looks-height = λ b. tt
+
+pub looks-look : (i : ℕ) → Looks (lookAt i)
+unfolding lookAt
+looks-look i = λ b. tt
+
+pub looks-summary : Looks summary
+unfolding summary
+looks-summary = λ b. tt
 
 pub looks-rolled-back : (absent inputs : List ℕ) → Looks (causallyRolledBackIds absent inputs)
 unfolding causallyRolledBackIds

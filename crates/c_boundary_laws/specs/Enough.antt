@@ -2,7 +2,7 @@
 -- answers the number that its rules say, and never 12 for want of room.
 use Prim.Native.Nat.{ℕ, zero, suc, _+_, _-_, _*_, _≤_}
 use mathlib.Core.Path.{_≡_, refl, ap, _∙_}
-use mathlib.Core.Bool.{Bool, true}
+use mathlib.Core.Bool.{Bool, true, false}
 use mathlib.Core.List.{List, [], _∷_, _++_, map}
 use mathlib.Core.Option.{Option, none, some}
 use native.Mathlib.Nat.{suc-mul}
@@ -30,14 +30,18 @@ use Rattle.rules.specs.Call.{Call, Value, stageOf, retainedId}
 use Rattle.rules.specs.Rule.{Rule, Outcome, ended, undone, stopped, left}
 use Rattle.rules.specs.Steps.{runBook}
 use Rattle.codec_answers.specs.Forms.{statusNumber, flagNumber, encodeDrained}
+use Rattle.codec_answers.specs.Looks.{look-most, summary-most}
 use Rattle.codec_answers.specs.Drain.{stageNumber, encodeFailure, drained-most, failure-most}
 use Rattle.rules_answers.specs.Said.{TypedFinal, TypedDrained}
 use Rattle.c_boundary.specs.Held.{bookBytes, heldIn}
 use Rattle.c_boundary.specs.Settle.{Left, Form, settled, ruled, boundary, written-fits, layout-length}
-use Rattle.c_boundary.specs.Forms.{statusForm, flagForm, heightForm, idsForm, attemptForm, feeIntentForm, finalForm, drainForm, ids-most, slot-most, fee-intent-most, final-most}
+use Rattle.c_boundary.specs.Forms.{statusForm, flagForm, heightForm, idsForm, attemptForm, lookForm, summaryForm, feeIntentForm, finalForm, drainForm, ids-most, slot-most, fee-intent-most, final-most}
 use Rattle.book.specs.declared.OptionalId.the-variants.{Of}
 use Rattle.book.specs.declared.OptionalHeight.{OptionalHeight}
+use Rattle.book_answers.specs.Zero.{zeroLook}
+use Rattle.book_answers.specs.declared.BookSummary.{BookSummary}
 use Rattle.book_answers.specs.declared.SubmissionAttemptStatus.{SubmissionAttemptStatus}
+use Rattle.book_answers.specs.declared.SubmissionLook.{SubmissionLook}
 use Rattle.book_answers.specs.declared.SubmissionDrainFailure.{SubmissionDrainFailure}
 use Rattle.book_answers.specs.declared.FinalizedSubmission.{FinalizedSubmission}
 use Rattle.book_answers.specs.declared.DrainedSubmission.{DrainedSubmission}
@@ -109,6 +113,15 @@ module _ (xs : List DrainedSubmission) where
   unfolding attemptForm noAttempt
   attempt-enough none t = slot-most noAttempt refl refl
   attempt-enough (some a) t = slot-most (record { present = true; attempt = a }) (t .drained .long) (t .finalized .long)
+
+  pub look-enough : (o : Option SubmissionLook) → length (lookForm xs o) ≤ 39
+  unfolding lookForm
+  look-enough none = look-most false zeroLook
+  look-enough (some l) = look-most true l
+
+  pub summary-enough : (v : BookSummary) → length (summaryForm xs v) ≤ 57
+  unfolding summaryForm
+  summary-enough v = summary-most v
 
   pub fee-intent-enough : (o : Option SubmissionFeeIntent) → OnSome TypedFeeIntent o → length (feeIntentForm xs o) ≤ 42
   unfolding feeIntentForm encOpt

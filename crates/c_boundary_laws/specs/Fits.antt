@@ -61,8 +61,24 @@ use Rattle.rules_answers.specs.Said.{
 use Rattle.rules_answers.specs.Coins.{inputs-size, outputs-size}
 use Rattle.c_boundary.specs.Held.{heldIn}
 use Rattle.c_boundary.specs.Settle.{Form, boundary}
-use Rattle.c_boundary.specs.Forms.{noForm, idsForm, attemptForm, feeIntentForm, finalForm, drainForm, bytesForm, valueForm, ToldAs, asNothing, asStatus, asIds, asFlag, asHeight, asAttempt, asFeeIntent, asFinal, asDrained, asBytes}
-use Rattle.c_boundary_laws.specs.Enough.{AnswerFits, numberBy, book-length, enough, typed-call-enough, status-enough, flag-enough, height-enough, ids-enough, attempt-enough, fee-intent-enough, final-enough, drain-enough}
+use Rattle.c_boundary.specs.Forms.{noForm, idsForm, attemptForm, feeIntentForm, finalForm, drainForm, bytesForm, valueForm, ToldAs, asNothing, asStatus, asIds, asFlag, asHeight, asAttempt, asLook, asSummary, asFeeIntent, asFinal, asDrained, asBytes}
+use Rattle.c_boundary_laws.specs.Enough.{
+  AnswerFits,
+  numberBy,
+  book-length,
+  enough,
+  typed-call-enough,
+  status-enough,
+  flag-enough,
+  height-enough,
+  ids-enough,
+  attempt-enough,
+  look-enough,
+  summary-enough,
+  fee-intent-enough,
+  final-enough,
+  drain-enough,
+}
 use Rattle.book.specs.declared.DeliveryAttempt.{DeliveryAttempt}
 use Rattle.book.specs.declared.SubmissionFeeIntent.{SubmissionFeeIntent}
 use Rattle.book_answers.specs.declared.SubmissionDrainFailure.{SubmissionDrainFailure}
@@ -90,6 +106,8 @@ use Rattle.rules.specs.Calls.CollectRollbackReplayIds.{collectRollbackReplayIds
 use Rattle.rules.specs.Calls.ClearLocalArtifacts.{clearLocalArtifacts}
 use Rattle.rules.specs.Calls.RestoreRuntime.{restoreRuntime}
 use Rattle.rules.specs.Calls.Attempt.{attempt}
+use Rattle.rules.specs.Calls.Look.{lookAt}
+use Rattle.rules.specs.Calls.Summary.{summary}
 use Rattle.rules.specs.Calls.WriteArchive.{writeArchive}
 use Rattle.book.specs.Refusals as refusals
 
@@ -228,6 +246,8 @@ module _ (m : Book) (s : SoundBook m) (w : Within m) where
   fits Call.ClearLocalArtifacts t r = always Call.ClearLocalArtifacts refl asNothing clearLocalArtifacts refl silent
   fits Call.RestoreRuntime t r = always Call.RestoreRuntime refl asNothing restoreRuntime refl silent
   fits (Call.Attempt k) t r = saying (Call.Attempt k) refl asAttempt (attempt k) refl AttemptSays attempt-fits (attempt-says m w k)
+  fits (Call.Look i) t r = always (Call.Look i) refl asLook (lookAt i) refl look-enough
+  fits Call.Summary t r = always Call.Summary refl asSummary summary refl summary-enough
   fits (Call.WriteArchive room) t r =
       mapped-fitting asBytes 57694 (writeArchive encodeModel room) m
       (unfold run in written-fits m room 57694 (encodeModel m) r (omega (arith, book-length m, enough m (typed-model m w s))))

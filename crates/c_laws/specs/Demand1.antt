@@ -1,4 +1,4 @@
--- Demand 1 for all 31 functions of the C library, on any input: with 0 the lent memory holds just the new book and the answer, and the old
+-- Demand 1 for all 33 functions of the C library, on any input: with 0 the lent memory holds just the new book and the answer, and the old
 -- bytes behind them; with any other number its old bytes, but that a drain out of tokens (11) leaves the book as far as it came, and
 -- reading what is no archive (13) sets the place. A call that only looks leaves the book's bytes with every number.
 use Prim.Native.Nat.{ℕ, _≤_}
@@ -48,6 +48,8 @@ use Rattle.c_api.specs.Functions.{
   attempt-did,
   active-ids-did,
   height-did,
+  look-did,
+  summary-did,
   rolled-back-did,
   input-coins-did,
   absent-outputs-did,
@@ -59,7 +61,7 @@ use Rattle.c_boundary.specs.Forms.{valueForm}
 use Rattle.book_answers.specs.declared.DrainedSubmission.{DrainedSubmission}
 use Rattle.book.specs.Refusals as refusals
 
--- the functions: 27 calls on a lent book, opening, reading an archive, and two without a book
+-- the functions: 29 calls on a lent book, opening, reading an archive, and two without a book
 pub data Function : Type 0 where
   OnBook : CCall → Function
   Open : (token id : ℕ) → Function
@@ -211,6 +213,8 @@ pub data Looking : CCall → Type 0 where
   relinquish-looks : (token : ℕ) (answer : List ℕ) → Looking (CCall.RelinquishCompletedAttempt token answer)
   active-ids-look : (answer : List ℕ) → Looking (CCall.ActiveIds answer)
   height-looks : (answer : List ℕ) → Looking (CCall.ReplayRollbackHeight answer)
+  look-looks : (id : ℕ) (answer : List ℕ) → Looking (CCall.Look id answer)
+  summary-looks : (answer : List ℕ) → Looking (CCall.Summary answer)
   rolled-back-look : (absent inputs answer : List ℕ) → Looking (CCall.CausallyRolledBackIds absent inputs answer)
   input-coins-look : (outputs answer : List ℕ) (count : ℕ) → Looking (CCall.ReconciliationInputCoins outputs answer count)
   absent-outputs-look : (ids absent answer : List ℕ) (count : ℕ) → Looking (CCall.AbsentOutputsForIds ids absent answer count)
@@ -223,6 +227,8 @@ looking-leaves d (fee-intent-looks t a) (fee-intent-did u g) = refl
 looking-leaves d (relinquish-looks t a) (relinquish-did u g) = refl
 looking-leaves d (active-ids-look a) (active-ids-did g) = refl
 looking-leaves d (height-looks a) (height-did g) = refl
+looking-leaves d (look-looks i a) (look-did j g) = refl
+looking-leaves d (summary-looks a) (summary-did g) = refl
 looking-leaves d (rolled-back-look x i a) (rolled-back-did y j g) = refl
 looking-leaves d (input-coins-look o a k) (input-coins-did p b j g) = refl
 looking-leaves d (absent-outputs-look is o a k) (absent-outputs-did js p b j g) = refl

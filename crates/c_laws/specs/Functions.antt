@@ -30,6 +30,8 @@ use Rattle.c_api.specs.Functions.{
   ActiveIds,
   DrainRetirements,
   ReplayRollbackHeight,
+  Look,
+  Summary,
   EmitRetirement,
   FinishReplayIfAdvanced,
   ClearLocalArtifacts,
@@ -68,6 +70,8 @@ lent (RetainSubmitted removed answer) = lending answer 0
 lent (ActiveIds answer) = lending answer 0
 lent (DrainRetirements answer) = lending answer 0
 lent (ReplayRollbackHeight answer) = lending answer 0
+lent (Look id answer) = lending answer 0
+lent (Summary answer) = lending answer 0
 lent (EmitRetirement id) = lending [] 0
 lent (FinishReplayIfAdvanced height) = lending [] 0
 lent ClearLocalArtifacts = lending [] 0
@@ -115,6 +119,8 @@ callOf (RetainSubmitted removed answer) = asks (Call.RetainSubmitted removed)
 callOf (ActiveIds answer) = asks Call.ActiveIds
 callOf (DrainRetirements answer) = asks Call.DrainRetirements
 callOf (ReplayRollbackHeight answer) = asks Call.ReplayRollbackHeight
+callOf (Look id answer) = asks (Call.Look id)
+callOf (Summary answer) = asks Call.Summary
 callOf (EmitRetirement id) = asks (Call.EmitRetirement id)
 callOf (FinishReplayIfAdvanced height) = asks (Call.FinishReplayIfAdvanced (record { 0 = height }))
 callOf ClearLocalArtifacts = asks Call.ClearLocalArtifacts
@@ -152,6 +158,8 @@ TypedC (RetainSubmitted removed answer) = Unit {0}
 TypedC (ActiveIds answer) = Unit {0}
 TypedC (DrainRetirements answer) = Unit {0}
 TypedC (ReplayRollbackHeight answer) = Unit {0}
+TypedC (Look id answer) = Unit {0}
+TypedC (Summary answer) = Unit {0}
 TypedC (EmitRetirement id) = U64 id
 TypedC (FinishReplayIfAdvanced height) = Unit {0}
 TypedC ClearLocalArtifacts = Unit {0}

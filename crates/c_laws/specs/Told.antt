@@ -28,7 +28,7 @@ use Rattle.rules.specs.Rule.{Rule, done, undo, Outcome, ended, undone, stopped,
 use Rattle.rules.specs.Steps.{runBook, onBook}
 use Rattle.c_boundary.specs.Held.{heldIn}
 use Rattle.c_boundary.specs.Settle.{Left, Form, refusal, settled, ruled, boundary, written-fits, Gives, GivesBook, settled-mapped, boundary-mapped}
-use Rattle.c_boundary.specs.Forms.{noForm, bytesForm, valueForm, ToldAs, asNothing, asStatus, asIds, asFlag, asHeight, asAttempt, asFeeIntent, asFinal, asDrained}
+use Rattle.c_boundary.specs.Forms.{noForm, bytesForm, valueForm, ToldAs, asNothing, asStatus, asIds, asFlag, asHeight, asAttempt, asLook, asSummary, asFeeIntent, asFinal, asDrained}
 use Rattle.c_boundary.specs.Arguments.{given, listed, byteAs, bytesAs, flagIn}
 use Rattle.rules_answers.specs.Kind.{Kind, kindOf, asksRoom}
 use Rattle.c_boundary_laws.specs.Lent.{Holds, Wrote, wrote, short, written-as}
@@ -56,6 +56,8 @@ use Rattle.c_api.specs.Functions.{
   active-ids-did,
   retirements-did,
   height-did,
+  look-did,
+  summary-did,
   emit-did,
   finish-did,
   clear-did,
@@ -326,6 +328,8 @@ module _ (d : List ℕ) where
   did-told (active-ids-did {a} g) y = gives-told d (CCall.ActiveIds a) asIds refl _ refl y g
   did-told (retirements-did {a} g) y = gives-told d (CCall.DrainRetirements a) asIds refl _ refl y g
   did-told (height-did {a} g) y = gives-told d (CCall.ReplayRollbackHeight a) asHeight refl _ refl y g
+  did-told (look-did {a} i g) y = gives-told d (CCall.Look i a) asLook refl _ refl y g
+  did-told (summary-did {a} g) y = gives-told d (CCall.Summary a) asSummary refl _ refl y g
   did-told (emit-did i g) y = back-told (CCall.EmitRetirement i) refl refl _ refl y g
   did-told (finish-did i g) y = back-told (CCall.FinishReplayIfAdvanced i) refl refl _ refl y g
   did-told (clear-did g) y = back-told CCall.ClearLocalArtifacts refl refl _ refl y g

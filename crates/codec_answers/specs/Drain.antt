@@ -42,7 +42,7 @@ unfolding be encMany encodeFailure
 encodeFailures n a = be 1 (min n 16) ++ encMany encodeFailure (take n a)
 
 -- ---- lengths
-token-most : (t : OptionalToken) → length (encodeToken t) ≤ 9
+pub token-most : (t : OptionalToken) → length (encodeToken t) ≤ 9
 unfolding encodeToken
 token-most NoToken = omega (arith, be-length 1 0)
 token-most (Of t) = omega (arith, length-append (be 1 1) (be 8 (t .0)), be-length 1 1, be-length 8 (t .0))

@@ -7,11 +7,13 @@ use Rattle.book.specs.Model.{Book}
 use Rattle.book.specs.declared.DeliveryAttempt.{DeliveryAttempt}
 use Rattle.book.specs.declared.OptionalHeight.{OptionalHeight}
 use Rattle.book.specs.declared.SubmissionFeeIntent.{SubmissionFeeIntent}
+use Rattle.book_answers.specs.declared.BookSummary.{BookSummary}
 use Rattle.book_answers.specs.declared.FinalizedSubmission.{FinalizedSubmission}
 use Rattle.book_answers.specs.declared.SubmissionAttemptStatus.{SubmissionAttemptStatus}
 use Rattle.book_answers.specs.declared.SubmissionDrainFailure.{SubmissionDrainFailure}
+use Rattle.book_answers.specs.declared.SubmissionLook.{SubmissionLook}
 use Rattle.rules.specs.Rule.{Rule, Outcome}
-use Rattle.part_replies.specs.Reply.{outcomeOf, doneReply, statusReply, idsReply, flagReply, heightReply, attemptReply, feeIntentReply, finalizeReply, writtenReply}
+use Rattle.part_replies.specs.Reply.{outcomeOf, doneReply, statusReply, idsReply, flagReply, heightReply, attemptReply, lookReply, summaryReply, feeIntentReply, finalizeReply, writtenReply}
 use Rattle.part_replies.specs.declared.DoneReply.{DoneReply}
 use Rattle.submission.specs.declared.DoneAnswer.{DoneAnswer}
 use Rattle.part_replies.specs.declared.StatusReply.{StatusReply}
@@ -24,6 +26,10 @@ use Rattle.part_replies.specs.declared.HeightReply.{HeightReply}
 use Rattle.submission.specs.declared.HeightAnswer.{HeightAnswer}
 use Rattle.part_replies.specs.declared.AttemptReply.{AttemptReply}
 use Rattle.submission.specs.declared.AttemptAnswer.{AttemptAnswer}
+use Rattle.part_replies.specs.declared.LookReply.{LookReply}
+use Rattle.submission.specs.declared.LookAnswer.{LookAnswer}
+use Rattle.part_replies.specs.declared.SummaryReply.{SummaryReply}
+use Rattle.submission.specs.declared.SummaryAnswer.{SummaryAnswer}
 use Rattle.part_replies.specs.declared.FeeIntentReply.{FeeIntentReply}
 use Rattle.submission.specs.declared.FeeIntentAnswer.{FeeIntentAnswer}
 use Rattle.part_replies.specs.declared.FinalizeReply.{FinalizeReply}
@@ -54,6 +60,12 @@ heightFrom r = record { answer = r .answer; height = r .height; book = bookOf (r
 
 abbrev pub attemptFrom : AttemptReply → AttemptAnswer
 attemptFrom r = record { answer = r .answer; attempt = r .attempt; book = bookOf (r .book) }
+
+abbrev pub lookFrom : LookReply → LookAnswer
+lookFrom r = record { answer = r .answer; present = r .present; look = r .look; book = bookOf (r .book) }
+
+abbrev pub summaryFrom : SummaryReply → SummaryAnswer
+summaryFrom r = record { answer = r .answer; summary = r .summary; book = bookOf (r .book) }
 
 abbrev pub feeIntentFrom : FeeIntentReply → FeeIntentAnswer
 feeIntentFrom r = record { answer = r .answer; present = r .present; «fee_intent» = r .«fee_intent»; book = bookOf (r .book) }
@@ -86,6 +98,12 @@ heightGiven s o = heightFrom (heightReply (s .parts) o)
 abbrev pub attemptGiven : SubmissionBook → Outcome Book (Option DeliveryAttempt) → AttemptAnswer
 attemptGiven s o = attemptFrom (attemptReply (s .parts) o)
 
+abbrev pub lookGiven : SubmissionBook → Outcome Book (Option SubmissionLook) → LookAnswer
+lookGiven s o = lookFrom (lookReply (s .parts) o)
+
+abbrev pub summaryGiven : SubmissionBook → Outcome Book BookSummary → SummaryAnswer
+summaryGiven s o = summaryFrom (summaryReply (s .parts) o)
+
 abbrev pub feeIntentGiven : SubmissionBook → Outcome Book (Option SubmissionFeeIntent) → FeeIntentAnswer
 feeIntentGiven s o = feeIntentFrom (feeIntentReply (s .parts) o)
 
@@ -116,6 +134,12 @@ heightAnswer s r = heightGiven s (outcomeOf (s .parts) r)
 
 abbrev pub attemptAnswer : SubmissionBook → Rule (Option DeliveryAttempt) → AttemptAnswer
 attemptAnswer s r = attemptGiven s (outcomeOf (s .parts) r)
+
+abbrev pub lookAnswer : SubmissionBook → Rule (Option SubmissionLook) → LookAnswer
+lookAnswer s r = lookGiven s (outcomeOf (s .parts) r)
+
+abbrev pub summaryAnswer : SubmissionBook → Rule BookSummary → SummaryAnswer
+summaryAnswer s r = summaryGiven s (outcomeOf (s .parts) r)
 
 abbrev pub feeIntentAnswer : SubmissionBook → Rule (Option SubmissionFeeIntent) → FeeIntentAnswer
 feeIntentAnswer s r = feeIntentGiven s (outcomeOf (s .parts) r)

@@ -7,7 +7,7 @@ use Rattle.book.specs.Model.{Book, view, back}
 use Rattle.book.specs.Sound.{soundb}
 use Rattle.archive_form.specs.Encode.{encodeModel}
 use Rattle.rules.specs.Books.{callBook, answerBook, bookAfter, answersBook}
-use Rattle.rules.specs.Call.{Call, Value, failures, finalized, feeIntentIs, statusIs, idsAre, flag, heightIs, attemptIs, written}
+use Rattle.rules.specs.Call.{Call, Value, failures, finalized, feeIntentIs, statusIs, idsAre, flag, heightIs, attemptIs, lookIs, summaryIs, written}
 use Rattle.rules.specs.Calls.{rules, nothing}
 use Rattle.rules.specs.Calls.AbandonAttempt.{abandonAttempt}
 use Rattle.rules.specs.Calls.AbsentOutputsForIds.{absentOutputsForIds}
@@ -22,6 +22,7 @@ use Rattle.rules.specs.Calls.DrainRetirements.{drainRetirements}
 use Rattle.rules.specs.Calls.EmitRetirement.{emitRetirement}
 use Rattle.rules.specs.Calls.FeeIntentForAttempt.{feeIntentForAttempt}
 use Rattle.rules.specs.Calls.FinalizeAttempt.{finalizeAttempt}
+use Rattle.rules.specs.Calls.Look.{lookAt}
 use Rattle.rules.specs.Calls.Queue.{queue}
 use Rattle.rules.specs.Calls.QueueFeeReadiness.{queueFeeReadiness}
 use Rattle.rules.specs.Calls.QueueRebroadcastEpoch.{queueRebroadcastEpoch}
@@ -33,6 +34,7 @@ use Rattle.rules.specs.Calls.Replay.{beginReplay, finishReplayIfAdvanced, repla
 use Rattle.rules.specs.Calls.RestoreRuntime.{restoreRuntime}
 use Rattle.rules.specs.Calls.RetainSubmitted.{retainSubmitted}
 use Rattle.rules.specs.Calls.StopAttempt.{stopAttempt}
+use Rattle.rules.specs.Calls.Summary.{summary}
 use Rattle.rules.specs.Calls.WriteArchive.{writeArchive}
 use Rattle.rules.specs.Opened.{opened}
 use Rattle.rules.specs.Rule.{Rule, _<$>_, Outcome, ended, undone, stopped, mapped, run-map, Answer, answered, left}
@@ -42,9 +44,9 @@ use Rattle.rules_ledger.specs.Theorem.{Accounted, ledger-theorem}
 use Rattle.part_replies.specs.Reply.{outcomeOf, bookLeft}
 use Rattle.part_sound_laws.specs.Holds.{Holds, holds-view, holds-soundb}
 use Rattle.submission.specs.declared.SubmissionBook.{SubmissionBook}
-use Rattle.submission.specs.Answers.{doneAnswer, statusAnswer, idsAnswer, flagAnswer, heightAnswer, attemptAnswer, feeIntentAnswer, finalizeAnswer, writtenAnswer, drainAnswer}
+use Rattle.submission.specs.Answers.{doneAnswer, statusAnswer, idsAnswer, flagAnswer, heightAnswer, attemptAnswer, lookAnswer, summaryAnswer, feeIntentAnswer, finalizeAnswer, writtenAnswer, drainAnswer}
 use Rattle.submission.specs.Book.{bookOf, outcome, next}
-use Rattle.submission.specs.Door.{sound-open, door-open}
+use Rattle.part_door.specs.Door.{sound-open, door-open}
 use Rattle.book.specs.Refusals as refusals
 
 -- a method answers by the rules r of its call c, whose answer `rules` makes into a value: it comes to what the call comes to in a list
@@ -94,6 +96,8 @@ answeredBook s (Call.CollectRollbackReplayIds is) = doneAnswer s (collectRollbac
 answeredBook s Call.ClearLocalArtifacts = doneAnswer s clearLocalArtifacts .book
 answeredBook s Call.RestoreRuntime = doneAnswer s restoreRuntime .book
 answeredBook s (Call.Attempt t) = attemptAnswer s (attempt t) .book
+answeredBook s (Call.Look i) = lookAnswer s (lookAt i) .book
+answeredBook s Call.Summary = summaryAnswer s summary .book
 answeredBook s (Call.WriteArchive room) = writtenAnswer s (writeArchive encodeModel room) .book
 
 -- it is `next` of the method's call
@@ -125,6 +129,8 @@ answered-next s (Call.CollectRollbackReplayIds is) = book-is-next s (Call.Collec
 answered-next s Call.ClearLocalArtifacts = book-is-next s Call.ClearLocalArtifacts nothing clearLocalArtifacts refl
 answered-next s Call.RestoreRuntime = book-is-next s Call.RestoreRuntime nothing restoreRuntime refl
 answered-next s (Call.Attempt t) = book-is-next s (Call.Attempt t) attemptIs (attempt t) refl
+answered-next s (Call.Look i) = book-is-next s (Call.Look i) lookIs (lookAt i) refl
+answered-next s Call.Summary = book-is-next s Call.Summary summaryIs summary refl
 answered-next s (Call.WriteArchive room) = book-is-next s (Call.WriteArchive room) written (writeArchive encodeModel room) refl
 
 -- the book of the program after a list of calls, each made by its method on the book that the last one left

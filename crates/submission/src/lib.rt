@@ -18,6 +18,7 @@ ghost use Rattle.rules.specs.Calls.DrainRetirements.{drainRetirements};
 ghost use Rattle.rules.specs.Calls.EmitRetirement.{emitRetirement};
 ghost use Rattle.rules.specs.Calls.FeeIntentForAttempt.{feeIntentForAttempt};
 ghost use Rattle.rules.specs.Calls.FinalizeAttempt.{finalizeAttempt};
+ghost use Rattle.rules.specs.Calls.Look.{lookAt};
 ghost use Rattle.rules.specs.Calls.Queue.{queue};
 ghost use Rattle.rules.specs.Calls.QueueFeeReadiness.{queueFeeReadiness};
 ghost use Rattle.rules.specs.Calls.QueueRebroadcastEpoch.{queueRebroadcastEpoch};
@@ -29,11 +30,12 @@ ghost use Rattle.rules.specs.Calls.Replay.{beginReplay, finishReplayIfAdvanced,
 ghost use Rattle.rules.specs.Calls.RestoreRuntime.{restoreRuntime};
 ghost use Rattle.rules.specs.Calls.RetainSubmitted.{retainSubmitted};
 ghost use Rattle.rules.specs.Calls.StopAttempt.{stopAttempt};
+ghost use Rattle.rules.specs.Calls.Summary.{summary};
 ghost use Rattle.rules.specs.Calls.WriteArchive.{writeArchive};
 ghost use Rattle.rules.specs.Opened.{opened};
 ghost use Rattle.submission.specs.Book.{bookOf, bufferAfter};
-ghost use Rattle.submission.specs.Door.{doorNumber};
-ghost use Rattle.submission.specs.Answers.{doneAnswer, statusAnswer, idsAnswer, flagAnswer, heightAnswer, attemptAnswer, feeIntentAnswer, finalizeAnswer, writtenAnswer, drainAnswer, doneFrom, statusFrom, idsFrom, flagFrom, heightFrom, attemptFrom, feeIntentFrom, finalizeFrom, writtenFrom, drainFrom};
+ghost use Rattle.submission.specs.Answers.{doneAnswer, statusAnswer, idsAnswer, flagAnswer, heightAnswer, attemptAnswer, lookAnswer, summaryAnswer, feeIntentAnswer, finalizeAnswer, writtenAnswer, drainAnswer};
+ghost use Rattle.submission.specs.Answers.{doneFrom, statusFrom, idsFrom, flagFrom, heightFrom, attemptFrom, lookFrom, summaryFrom, feeIntentFrom, finalizeFrom, writtenFrom, drainFrom};
 use crate::refused::attempt_refused;
 use crate::refused::done_refused;
 use crate::refused::drain_refused;
@@ -42,7 +44,9 @@ use crate::refused::finalize_refused;
 use crate::refused::flag_refused;
 use crate::refused::height_refused;
 use crate::refused::ids_refused;
+use crate::refused::look_refused;
 use crate::refused::status_refused;
+use crate::refused::summary_refused;
 use crate::refused::written_refused;
 use book::BookData;
 use book::DeliveryTrigger;
@@ -56,12 +60,14 @@ use book::SubmissionDeliveryGoal;
 use book::SubmissionFeeIntent;
 use book::SubmissionId;
 use book::Token;
+use book_answers::BookSummary;
 use book_answers::DrainedSubmission;
 use book_answers::FinalizedSubmission;
 use book_answers::SubmissionAttemptStatus;
 use book_answers::SubmissionDrainFailure;
 use book_answers::SubmissionFeeSource;
-use book_sound::is_sound;
+use book_answers::SubmissionLook;
+use part_door::door;
 use part_drain_answers::DrainReply;
 use part_replies::AttemptReply;
 use part_replies::CallAnswer;
@@ -71,7 +77,9 @@ use part_replies::FinalizeReply;
 use part_replies::FlagReply;
 use part_replies::HeightReply;
 use part_replies::IdsReply;
+use part_replies::LookReply;
 use part_replies::StatusReply;
+use part_replies::SummaryReply;
 use part_replies::WrittenReply;
 
 pub struct SubmissionBook {
@@ -110,6 +118,19 @@ pub struct HeightAnswer {
 pub struct AttemptAnswer {
     pub answer: CallAnswer,
     pub attempt: OptionalAttempt,
+    pub book: SubmissionBook,
+}
+
+pub struct LookAnswer {
+    pub answer: CallAnswer,
+    pub present: bool,
+    pub look: SubmissionLook,
+    pub book: SubmissionBook,
+}
+
+pub struct SummaryAnswer {
+    pub answer: CallAnswer,
+    pub summary: BookSummary,
     pub book: SubmissionBook,
 }
 
@@ -216,6 +237,35 @@ fn attempt_answer(r: AttemptReply) -> AttemptAnswer
     }
 }
 
+fn look_answer(r: LookReply) -> LookAnswer
+    ensures { λ r₁. ⌜ r₁ ≡ lookFrom r ⌝ }
+{
+    let answer = r.answer;
+    let look = r.look;
+    let parts = r.book;
+    let book = SubmissionBook { parts };
+    LookAnswer {
+        answer,
+        present: r.present,
+        look,
+        book,
+    }
+}
+
+fn summary_answer(r: SummaryReply) -> SummaryAnswer
+    ensures { λ r₁. ⌜ r₁ ≡ summaryFrom r ⌝ }
+{
+    let answer = r.answer;
+    let summary = r.summary;
+    let parts = r.book;
+    let book = SubmissionBook { parts };
+    SummaryAnswer {
+        answer,
+        summary,
+        book,
+    }
+}
+
 fn fee_intent_answer(r: FeeIntentReply) -> FeeIntentAnswer
     ensures { λ r₁. ⌜ r₁ ≡ feeIntentFrom r ⌝ }
 {
@@ -275,17 +325,6 @@ fn drain_answer(r: DrainReply) -> DrainAnswer
         failures,
         book,
     }
-}
-
-// The door of every call: the number by which the book is refused, or 0.
-fn door(b: BookData) -> u8
-    ensures { λ r. ⌜ r ≡ doorNumber b ⌝ }
-{
-    let sound = is_sound(b);
-    if !sound {
-        return 1;
-    }
-    0
 }
 
 impl SubmissionBook {
@@ -449,6 +488,28 @@ impl SubmissionBook {
         }
         let r = call_attempt::attempt_sound(self.parts, token);
         attempt_answer(r)
+    }
+
+    pub fn look(self, id: SubmissionId) -> LookAnswer
+        ensures { λ r. ⌜ r ≡ lookAnswer self (lookAt (id .0)) ⌝ }
+    {
+        let refusal = door(self.parts);
+        if refusal != 0 {
+            return look_refused(self, refusal);
+        }
+        let r = call_look::look_sound(self.parts, id);
+        look_answer(r)
+    }
+
+    pub fn summary(self) -> SummaryAnswer
+        ensures { λ r. ⌜ r ≡ summaryAnswer self summary ⌝ }
+    {
+        let refusal = door(self.parts);
+        if refusal != 0 {
+            return summary_refused(self, refusal);
+        }
+        let r = call_summary::summary_sound(self.parts);
+        summary_answer(r)
     }
 
     pub fn retain_submitted(self, ids: &[u64]) -> IdsAnswer

@@ -1,7 +1,7 @@
 // What a call that is refused at the door answers, one function a kind of answer: the number, nothing beside it, the book as it was.
 ghost use mathlib.Core.Path.{_≡_};
 ghost use Rattle.rules.specs.Rule.{undone};
-ghost use Rattle.submission.specs.Answers.{doneGiven, statusGiven, idsGiven, flagGiven, heightGiven, attemptGiven, feeIntentGiven, finalizeGiven, writtenGiven, drainGiven};
+ghost use Rattle.submission.specs.Answers.{doneGiven, statusGiven, idsGiven, flagGiven, heightGiven, attemptGiven, lookGiven, summaryGiven, feeIntentGiven, finalizeGiven, writtenGiven, drainGiven};
 use crate::AttemptAnswer;
 use crate::DoneAnswer;
 use crate::DrainAnswer;
@@ -10,17 +10,21 @@ use crate::FinalizeAnswer;
 use crate::FlagAnswer;
 use crate::HeightAnswer;
 use crate::IdsAnswer;
+use crate::LookAnswer;
 use crate::StatusAnswer;
 use crate::SubmissionBook;
+use crate::SummaryAnswer;
 use crate::WrittenAnswer;
 use book::Ids64;
 use book::OptionalAttempt;
 use book::OptionalHeight;
 use book::SubmissionFeeIntent;
+use book_answers::BookSummary;
 use book_answers::DrainedSubmission;
 use book_answers::FinalizedSubmission;
 use book_answers::SubmissionAttemptStatus;
 use book_answers::SubmissionDrainFailure;
+use book_answers::SubmissionLook;
 use part_replies::CallAnswer;
 
 pub fn done_refused(book: SubmissionBook, n: u8) -> DoneAnswer
@@ -82,6 +86,27 @@ pub fn attempt_refused(book: SubmissionBook, n: u8) -> AttemptAnswer
     AttemptAnswer {
         answer: CallAnswer::Refused(n),
         attempt: OptionalAttempt::zero(),
+        book,
+    }
+}
+
+pub fn look_refused(book: SubmissionBook, n: u8) -> LookAnswer
+    ensures { λ r. ⌜ r ≡ lookGiven book (undone n) ⌝ }
+{
+    LookAnswer {
+        answer: CallAnswer::Refused(n),
+        present: false,
+        look: SubmissionLook::zero(),
+        book,
+    }
+}
+
+pub fn summary_refused(book: SubmissionBook, n: u8) -> SummaryAnswer
+    ensures { λ r. ⌜ r ≡ summaryGiven book (undone n) ⌝ }
+{
+    SummaryAnswer {
+        answer: CallAnswer::Refused(n),
+        summary: BookSummary::zero(),
         book,
     }
 }

@@ -6,6 +6,7 @@ mod drain_ops;
 mod frame;
 mod id_ops;
 mod input;
+mod look_ops;
 mod status_ops;
 mod value_ops;
 
@@ -45,6 +46,7 @@ fn play_call(s: &[u8], at: usize, b: SubmissionBook) -> Step {
         0x0c | 0x0e | 0x10 | 0x15 => id_ops::play(code, s, from, b),
         0x0f | 0x16 | 0x1b => buffer_ops::play(code, s, from, b),
         0x1c | 0x1d => archive_ops::play(code, s, from, b),
+        0x1e | 0x1f => look_ops::play(code, s, from, b),
         _ => broken(b),
     }
 }

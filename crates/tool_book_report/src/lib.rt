@@ -15,7 +15,7 @@ use tool_book_text::entry::append_delivery;
 use tool_book_text::entry::append_ids;
 use tool_book_text::entry::append_submission;
 use tool_book_text::entry::append_tokens;
-use tool_book_text::words::append_height;
+use tool_bundle_text::words::append_height;
 use tool_payments::Payment;
 use tool_payments::payments::queued_payment;
 use tool_payments::text::append_payment;

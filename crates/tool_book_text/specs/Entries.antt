@@ -17,10 +17,10 @@ use Rattle.book.specs.declared.SubmittedEntry.{SubmittedEntry}
 use Rattle.book.specs.declared.SubmittedTx.{SubmittedTx}
 use Rattle.book.specs.declared.PendingSubmissionIntent.{PendingSubmissionIntent}
 use Rattle.book.specs.declared.PendingDelivery.{PendingDelivery}
-use Rattle.tool_book_text.specs.Words.{goalText, triggerText, chainText, resolutionText, feeIntentText, heightText, idText}
+use Rattle.tool_bundle_text.specs.Words.{goalText, triggerText, chainText, resolutionText, feeIntentText, heightText, idText}
 use Rattle.tool_book_text.specs.declared.Fingerprints.{Fingerprints}
 use Rattle.tool_book_text.specs.Checked.{fingerprintsOf, checkedText, checkedOptional, checkedIntent}
-use Rattle.tool_book_text.specs.Bundles.{bundleText, variantText}
+use Rattle.tool_bundle_text.specs.Bundles.{bundleText, variantText}
 
 unfoldable pub attemptText : List ℕ → Fingerprints → DeliveryAttempt → List ℕ
 unfolding numberLine goalText checkedText checkedOptional

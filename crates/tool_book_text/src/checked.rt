@@ -3,7 +3,6 @@ ghost use mathlib.Core.Path.{_≡_};
 ghost use Rattle.codec_append.specs.Fits.{Fits};
 ghost use Rattle.tool_book_text.specs.Checked.{fingerprintsOf, intentAgrees, agreementText, checkedText, checkedOptional, intentAgreement, checkedIntent};
 use crate::Fingerprints;
-use crate::words::append_hash_part;
 use archive_fingerprints::intent_fingerprint;
 use archive_fingerprints::variant_fingerprint;
 use base_lists::same32;
@@ -11,6 +10,7 @@ use book::OptionalHash;
 use book::SubmittedEntry;
 use codec_append::append_bytes;
 use part_submitted::fingerprint::current_variant_fingerprint;
+use tool_bundle_text::words::append_hash_part;
 
 // Those of base bundle and current variant.
 pub fn fingerprints_of(e: SubmittedEntry) -> Fingerprints

@@ -1,11 +1,10 @@
 -- The digits of a number, written from the last to the first.
-use mathlib.Core.Path.{_≡_, refl, sym, ap, _∙_, subst}
-use mathlib.Core.Bool.{Bool, true, false, cond}
+use mathlib.Core.Path.{_≡_, sym, ap, _∙_, subst}
+use mathlib.Core.Bool.{Bool, cond}
 use mathlib.Core.List.{List, [], _∷_, _++_, append-assoc, append-nil}
-use Prim.Native.Nat.{ℕ, zero, suc, _+_, _-_, _*_, _/_, _%_, _^_, _≤_, _<_}
+use Prim.Native.Nat.{ℕ, zero, suc, _+_, _-_, _/_, _%_, _^_, _≤_, _<_}
 use native.Mathlib.Omega.{arith}
 use native.Mathlib.Nat.{pow-suc, div-lt-iff-lt-mul, zero-lt-suc}
-use native.Mathlib.Numerals.{add-one}
 use lib.ListN.{length, take, drop, set, length-set, length-drop, drop-of-length-le}
 use lib.Seq.{set-split, drop-at, length-take-le, take-all}
 use borrow.Author.Tests.{lt-ltb, le-ltb}

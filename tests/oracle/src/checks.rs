@@ -36,6 +36,8 @@ pub fn broken_claim(
             (!empty).then_some("a drain refused 11 empties the queue")
         }
         (Call::StopAttempt { .. }, Ok(Answer::Applied(true))) => stop_claim(before, after),
+        (Call::Look { id }, outcome) => look_claim(before, *id, outcome, after),
+        (Call::Summary, outcome) => summary_claim(before, outcome, after),
         (Call::QueueRebroadcastEpoch { ids, trigger }, _) if door::enter(call).is_ok() => {
             by_single_ids(before, ids, *trigger, outcome, after)
         }
@@ -156,6 +158,37 @@ fn stop_claim(before: &Book, after: &Book) -> Option<&'static str> {
         }
     }
     (restored != *before || changed != 1).then_some("stopping changes the two slots alone")
+}
+
+/// A look tells what the archive has of the id, and changes nothing.
+fn look_claim(before: &Book, id: u64, outcome: &Outcome, after: &Book) -> Option<&'static str> {
+    let entry = before.retained.iter().find(|entry| entry.id == id);
+    let look = entry.map(|entry| Look {
+        chain: entry.chain,
+        acknowledged: entry.acknowledged == Some(current(entry)),
+        mark: entry.mark,
+        applied_fee: entry.fee.as_ref().map_or(0, |(_, applied)| *applied),
+        expiry: entry.expiry,
+        live: entry.live.as_ref().map(|attempt| attempt.token),
+        set_aside: entry.set_aside.as_ref().map(|attempt| attempt.token),
+    });
+    let told = *outcome == Ok(Answer::Look(look)) && before == after;
+    (!told).then_some("a look tells what the book holds")
+}
+
+/// A summary counts what the archive has, and changes nothing.
+fn summary_claim(before: &Book, outcome: &Outcome, after: &Book) -> Option<&'static str> {
+    let summary = Summary {
+        next_token: before.next_token,
+        next_id: before.next_id,
+        retained: before.retained.len() as u64,
+        queued: before.queue.len() as u64,
+        retirements: before.retirements.len() as u64,
+        replayed: before.replayed.len() as u64,
+        rollback: before.rollback,
+    };
+    let told = *outcome == Ok(Answer::Summary(summary)) && before == after;
+    (!told).then_some("a summary counts what the book holds")
 }
 
 /// A rebroadcast is its ids one by one.

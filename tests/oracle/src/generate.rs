@@ -16,21 +16,21 @@ use crate::rng::Rng;
 use calls::Weights;
 use pool::Pool;
 
-//                          1  2  3  4  5  6  7  8  9  a  b  c  d  e  f 10 11 12 13 14 15 16 17 18 19 1a 1b 1c 1d
+//                          1  2  3  4  5  6  7  8  9  a  b  c  d  e  f 10 11 12 13 14 15 16 17 18 19 1a 1b 1c 1d 1e 1f
 #[rustfmt::skip]
-const EVERYTHING: Weights = [9, 3, 2, 3, 8, 7, 3, 5, 3, 2, 3, 2, 2, 1, 3, 1, 2, 2, 1, 5, 3, 3, 3, 1, 1, 2, 2, 2, 1];
+const EVERYTHING: Weights = [9, 3, 2, 3, 8, 7, 3, 5, 3, 2, 3, 2, 2, 1, 3, 1, 2, 2, 1, 5, 3, 3, 3, 1, 1, 2, 2, 2, 1, 3, 2];
 #[rustfmt::skip]
-const DELIVERY: Weights = [12, 3, 2, 4, 12, 9, 2, 8, 4, 1, 2, 1, 0, 1, 0, 0, 0, 0, 0, 1, 0, 0, 0, 0, 1, 1, 0, 0, 0];
+const DELIVERY: Weights = [12, 3, 2, 4, 12, 9, 2, 8, 4, 1, 2, 1, 0, 1, 0, 0, 0, 0, 0, 1, 0, 0, 0, 0, 1, 1, 0, 0, 0, 2, 1];
 #[rustfmt::skip]
-const CHAIN: Weights = [5, 3, 0, 1, 5, 2, 0, 2, 1, 0, 1, 1, 1, 2, 4, 1, 3, 3, 1, 9, 6, 5, 6, 0, 0, 0, 0, 0, 0];
+const CHAIN: Weights = [5, 3, 0, 1, 5, 2, 0, 2, 1, 0, 1, 1, 1, 2, 4, 1, 3, 3, 1, 9, 6, 5, 6, 0, 0, 0, 0, 0, 0, 2, 1];
 #[rustfmt::skip]
-const FEES: Weights = [8, 3, 6, 5, 11, 14, 6, 9, 4, 1, 2, 0, 0, 0, 0, 0, 0, 0, 0, 1, 0, 0, 1, 0, 1, 1, 0, 0, 0];
+const FEES: Weights = [8, 3, 6, 5, 11, 14, 6, 9, 4, 1, 2, 0, 0, 0, 0, 0, 0, 0, 0, 1, 0, 0, 1, 0, 1, 1, 0, 0, 0, 3, 0];
 #[rustfmt::skip]
-const LIMITS: Weights = [9, 4, 4, 8, 6, 2, 0, 2, 1, 4, 0, 4, 3, 1, 0, 0, 0, 0, 0, 6, 0, 0, 5, 2, 1, 0, 1, 0, 0];
+const LIMITS: Weights = [9, 4, 4, 8, 6, 2, 0, 2, 1, 4, 0, 4, 3, 1, 0, 0, 0, 0, 0, 6, 0, 0, 5, 2, 1, 0, 1, 0, 0, 1, 1];
 #[rustfmt::skip]
-const DOORS: Weights = [7, 3, 0, 2, 1, 7, 0, 0, 0, 0, 0, 2, 0, 0, 5, 0, 0, 0, 0, 8, 6, 6, 3, 0, 0, 0, 1, 0, 0];
+const DOORS: Weights = [7, 3, 0, 2, 1, 7, 0, 0, 0, 0, 0, 2, 0, 0, 5, 0, 0, 0, 0, 8, 6, 6, 3, 0, 0, 0, 1, 0, 0, 0, 0];
 #[rustfmt::skip]
-const ARCHIVES: Weights = [3, 0, 0, 0, 2, 1, 0, 0, 0, 0, 0, 0, 1, 0, 0, 0, 1, 0, 0, 0, 0, 0, 1, 0, 0, 0, 5, 16, 1];
+const ARCHIVES: Weights = [3, 0, 0, 0, 2, 1, 0, 0, 0, 0, 0, 0, 1, 0, 0, 0, 1, 0, 0, 0, 0, 0, 1, 0, 0, 0, 5, 16, 1, 2, 1];
 
 pub const SCENARIOS: u64 = 13;
 
@@ -146,7 +146,7 @@ fn begin_full(maker: &mut Maker, rng: &mut Rng, pool: &Pool) {
 /// What ends a run early: a call cut short, an unknown opcode, a length that is too great.
 fn tail(rng: &mut Rng, script: &Script) -> Vec<u8> {
     match rng.below(4) {
-        0 => vec![*rng.pick(&[0x00, 0x1e, 0x20, 0xff])],
+        0 => vec![*rng.pick(&[0x00, 0x20, 0x80, 0xff])],
         1 => vec![0x1b, 0, 1, 0, 1],
         2 => vec![0x1c, 0, 1, 0, 1, 2, 3],
         _ => {

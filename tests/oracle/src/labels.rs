@@ -156,6 +156,14 @@ fn accepted(rows: &mut Rows, call: &Call, before: &Book, answer: &Answer, after:
             Some(attempt) if attempt.finalised.is_some() => "finalised",
             Some(_) => "not finalised",
         }),
+        Answer::Look(look) => look_rows(rows, look.as_ref()),
+        Answer::Summary(summary) => {
+            rows.either(summary.retained > 0, "some retained", "none retained");
+            rows.either(summary.queued > 0, "some queued", "none queued");
+            rows.either(summary.retirements > 0, "some retired", "none retired");
+            rows.either(summary.replayed > 0, "some replayed", "none replayed");
+            rows.either(summary.rollback.is_some(), "a height", "no height");
+        }
         Answer::Written(bytes) => {
             let room = call.buffer().expect("a lent buffer");
             rows.either(room == bytes.len(), "exact room", "room to spare");
@@ -165,6 +173,31 @@ fn accepted(rows: &mut Rows, call: &Call, before: &Book, answer: &Answer, after:
         Answer::Nothing => {}
     }
     call_rows(rows, call, before, after);
+}
+
+fn look_rows(rows: &mut Rows, look: Option<&Look>) {
+    let Some(look) = look else {
+        return rows.add("not retained");
+    };
+    rows.add(match look.chain {
+        ACTIVE => "Active",
+        INPUT_SPENT => "InputSpent",
+        _ => "Landed",
+    });
+    rows.either(look.acknowledged, "acknowledged", "not acknowledged");
+    rows.add(match look.mark {
+        UNRESOLVED => "fee unresolved",
+        NOT_REQUESTED => "no fee requested",
+        _ => "fee attached",
+    });
+    rows.either(look.applied_fee > 0, "a fee applied", "no fee applied");
+    rows.either(look.expiry.is_some(), "an expiry", "no expiry");
+    rows.add(match (look.live, look.set_aside) {
+        (None, None) => "no attempt",
+        (Some(_), None) => "live",
+        (None, Some(_)) => "set aside",
+        (Some(_), Some(_)) => "both slots filled",
+    });
 }
 
 /// Words of the Rust's failure messages, and the misses of paper 01's plan that they stand for.
@@ -398,6 +431,14 @@ fn call_rows(rows: &mut Rows, call: &Call, before: &Book, after: &Book) {
             rows.either(outputs.is_empty(), "no coins", "coins");
             let repeats = (1..outputs.len()).any(|at| outputs[..at].contains(&outputs[at]));
             rows.add_if(repeats, "a coin twice");
+        }
+        Call::Look { id } => {
+            let entry = before.retained.iter().find(|entry| entry.id == *id);
+            let stale = entry.is_some_and(|entry| {
+                let look = Judge::of(before).look(*id).expect("retained");
+                entry.acknowledged.is_some() && !look.acknowledged
+            });
+            rows.add_if(stale, "another variant acknowledged");
         }
         Call::CausallyRolledBackIds { absent, .. } => {
             let coins = door::coin_list(absent).expect("accepted");

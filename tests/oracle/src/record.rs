@@ -168,7 +168,7 @@ pub fn record(seed: u64, bounds: &Bounds, folder: &Path) {
     }
     let scripts: Vec<Script> = chosen.into_iter().map(|candidate| candidate.script).collect();
     let mut all = Script::joined(&scripts);
-    all.tail = vec![0x1e];
+    all.tail = vec![0x20];
     bytes += write(folder, "all", &all);
     for (opcode, row) in table.missing() {
         println!("not recorded: {opcode:02x} {row}");

@@ -5,7 +5,7 @@ use std::fs;
 use std::path::Path;
 
 use rust_book::archive;
-use rust_book::call::{Answer, Call, Outcome};
+use rust_book::call::{Answer, Call, Outcome, BUNDLE_CELLS};
 use rust_book::judge::{expected_outputs, intent_fingerprint};
 use rust_book::model::*;
 use rust_book::play::play;
@@ -29,6 +29,7 @@ pub fn run() {
     tokens();
     drains();
     chain();
+    looks();
     limits();
     largest_archive();
     truncated_archives();
@@ -201,6 +202,39 @@ fn chain() {
         assert_eq!(book.retirements, [1]);
         assert!(book.retained[0].live.is_none() && book.retained[0].set_aside.is_some());
     }
+}
+
+/// A look at a submission in each state, and the summaries beside.
+fn looks() {
+    let mut book = Book::open(5, 1);
+    let look = |book: &mut Book| match make(book, &Call::Look { id: 1 }) {
+        Ok(Answer::Look(look)) => look,
+        other => panic!("the look was refused: {other:?}"),
+    };
+    let counts = |book: &mut Book| match make(book, &Call::Summary) {
+        Ok(Answer::Summary(all)) => [all.retained, all.queued, all.retirements, all.replayed],
+        other => panic!("the summary was refused: {other:?}"),
+    };
+    make(&mut book, &queue_call(&intent(7))).expect("accepted");
+    assert_eq!((look(&mut book), counts(&mut book)), (None, [0, 1, 0, 0]));
+    drain(&mut book);
+    let mut expected = Look {
+        chain: ACTIVE,
+        acknowledged: false,
+        mark: NOT_REQUESTED,
+        applied_fee: 0,
+        expiry: Some(7),
+        live: Some(5),
+        set_aside: None,
+    };
+    assert_eq!(look(&mut book).as_ref(), Some(&expected));
+    let finalise = Call::FinalizeAttempt { token: 5, source: 0, bundle: vec![0; BUNDLE_CELLS] };
+    make(&mut book, &finalise).expect("accepted");
+    make(&mut book, &Call::AcknowledgeAttempt { token: 5 }).expect("accepted");
+    (expected.acknowledged, expected.live, expected.set_aside) = (true, None, Some(5));
+    assert_eq!(look(&mut book), Some(expected));
+    make(&mut book, &Call::RetainSubmitted { ids: vec![1] }).expect("accepted");
+    assert_eq!((look(&mut book), counts(&mut book)), (None, [0, 0, 1, 0]));
 }
 
 fn limits() {

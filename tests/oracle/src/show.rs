@@ -163,7 +163,7 @@ pub fn call(call: &Call) -> String {
         Call::RetainSubmitted { ids } | Call::CollectRollbackReplayIds { ids } => {
             format!("{ids:?}")
         }
-        Call::EmitRetirement { id } => format!("id {id}"),
+        Call::EmitRetirement { id } | Call::Look { id } => format!("id {id}"),
         Call::BeginReplay { height } | Call::FinishReplayIfAdvanced { height } => {
             format!("height {height}")
         }
@@ -267,6 +267,11 @@ fn put_answer(call: &Call, reader: &mut Reader, text: &mut String) -> Result<(),
             0 => "none".to_string(),
             _ => attempt(&reader.attempt()?),
         },
+        Call::Look { .. } => match reader.up_to(1, "mark")? {
+            0 => "none".to_string(),
+            _ => look(reader)?,
+        },
+        Call::Summary => summary(reader)?,
         Call::ReconciliationInputCoins { .. }
         | Call::AbsentOutputsForIds { .. }
         | Call::WriteArchive { .. } => {
@@ -277,6 +282,32 @@ fn put_answer(call: &Call, reader: &mut Reader, text: &mut String) -> Result<(),
     };
     text.push_str(&format!(": {answer}"));
     Ok(())
+}
+
+fn look(reader: &mut Reader) -> Result<String, Broken> {
+    Ok(format!(
+        "chain {}, acknowledged {}, mark {}, applied {}, expiry {}, live {}, set aside {}",
+        reader.up_to(2, "chain")?,
+        reader.up_to(1, "acknowledged")?,
+        reader.up_to(2, "mark")?,
+        reader.number("applied fee")?,
+        optional(reader.optional_number("mark", "expiry")?),
+        optional(reader.optional_number("mark", "live token")?),
+        optional(reader.optional_number("mark", "set-aside token")?)
+    ))
+}
+
+fn summary(reader: &mut Reader) -> Result<String, Broken> {
+    Ok(format!(
+        "next token {}, next id {}, retained {}, queued {}, retirements {}, replayed {}, rollback height {}",
+        reader.number("next token")?,
+        reader.number("next id")?,
+        reader.number("retained")?,
+        reader.number("queued")?,
+        reader.number("retirements")?,
+        reader.number("replayed")?,
+        optional(reader.optional_number("mark", "height")?)
+    ))
 }
 
 fn put_drained(reader: &mut Reader, text: &mut String) -> Result<(), Broken> {

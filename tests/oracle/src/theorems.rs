@@ -40,17 +40,17 @@ pub struct Bounds {
 const LONGEST_ARGUMENT: usize = 250;
 const MOST_IDS_WRITTEN: usize = 12;
 
-//                         1  2  3  4  5  6  7  8  9  a  b  c  d  e  f 10 11 12 13 14 15 16 17 18 19 1a 1b 1c 1d
+//                         1  2  3  4  5  6  7  8  9  a  b  c  d  e  f 10 11 12 13 14 15 16 17 18 19 1a 1b 1c 1d 1e 1f
 #[rustfmt::skip]
-const PLAIN: Weights    = [7, 4, 3, 4, 4, 5, 3, 4, 3, 3, 3, 3, 3, 2, 3, 2, 3, 3, 2, 4, 3, 3, 4, 1, 1, 2, 1, 0, 0];
+const PLAIN: Weights    = [7, 4, 3, 4, 4, 5, 3, 4, 3, 3, 3, 3, 3, 2, 3, 2, 3, 3, 2, 4, 3, 3, 4, 1, 1, 2, 1, 0, 0, 3, 2];
 #[rustfmt::skip]
-const DELIVERY: Weights = [9, 3, 2, 3, 7, 7, 2, 6, 3, 2, 3, 1, 1, 1, 1, 1, 1, 1, 1, 1, 0, 0, 2, 1, 1, 2, 1, 0, 0];
+const DELIVERY: Weights = [9, 3, 2, 3, 7, 7, 2, 6, 3, 2, 3, 1, 1, 1, 1, 1, 1, 1, 1, 1, 0, 0, 2, 1, 1, 2, 1, 0, 0, 2, 1];
 #[rustfmt::skip]
-const CHAIN: Weights    = [1, 1, 1, 1, 0, 1, 1, 1, 1, 1, 1, 1, 1, 1, 5, 1, 2, 2, 1, 7, 6, 5, 4, 1, 1, 1, 1, 0, 0];
+const CHAIN: Weights    = [1, 1, 1, 1, 0, 1, 1, 1, 1, 1, 1, 1, 1, 1, 5, 1, 2, 2, 1, 7, 6, 5, 4, 1, 1, 1, 1, 0, 0, 2, 1];
 #[rustfmt::skip]
-const DOORS: Weights    = [6, 2, 1, 1, 1, 4, 1, 1, 1, 1, 1, 2, 1, 1, 4, 1, 1, 1, 1, 6, 5, 5, 2, 0, 1, 1, 2, 0, 0];
+const DOORS: Weights    = [6, 2, 1, 1, 1, 4, 1, 1, 1, 1, 1, 2, 1, 1, 4, 1, 1, 1, 1, 6, 5, 5, 2, 0, 1, 1, 2, 0, 0, 1, 1];
 #[rustfmt::skip]
-const LIMITS: Weights   = [3, 4, 3, 4, 2, 1, 1, 1, 1, 3, 1, 3, 3, 1, 1, 1, 1, 1, 1, 5, 1, 1, 4, 2, 1, 1, 1, 0, 0];
+const LIMITS: Weights   = [3, 4, 3, 4, 2, 1, 1, 1, 1, 3, 1, 3, 3, 1, 1, 1, 1, 1, 1, 5, 1, 1, 4, 2, 1, 1, 1, 0, 0, 1, 1];
 
 /// Empty bundles, and spends of short coins with at most one output but for the last.
 fn pool() -> Pool {
@@ -201,6 +201,9 @@ fn cost(call: &Call, before: &Book) -> usize {
         Call::AcknowledgeAttempt { token } => {
             before.with_live(*token).map_or(0, |entry| 2 * current(entry))
         }
+        Call::Look { id } => {
+            before.retained.iter().find(|entry| entry.id == *id).map_or(0, acknowledged)
+        }
         Call::QueueRebroadcastEpoch { .. }
         | Call::QueueFeeReadiness
         | Call::CollectRollbackReplayIds { .. } => before.retained.iter().map(acknowledged).sum(),
@@ -307,7 +310,7 @@ fn learn(names: &mut Names, script: &Script) {
 }
 
 /// Modules, and what a list may take from them: names, or the whole `as` a short name.
-const USES: [(&str, &str); 22] = [
+const USES: [(&str, &str); 23] = [
     ("mathlib.Core.Bool", "true false"),
     ("mathlib.Core.List", "List [] _∷_ _++_"),
     ("mathlib.Core.Option", "none some"),
@@ -333,8 +336,9 @@ const USES: [(&str, &str); 22] = [
     ("Rattle.book_answers.specs.declared.SubmissionFeeSource.the-variants", "as source"),
     (
         "Rattle.rules.specs.Call",
-        "Call Value noValue failures finalized feeIntentIs statusIs idsAre flag heightIs attemptIs written",
+        "Call Value noValue failures finalized feeIntentIs statusIs idsAre flag heightIs attemptIs lookIs summaryIs written",
     ),
+    ("Rattle.rules.specs.Examples.Pieces", "tokenBy"),
     ("Rattle.rules.specs.Rule", "Answer answer refused"),
 ];
 

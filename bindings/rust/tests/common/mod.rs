@@ -74,6 +74,44 @@ pub fn next_token(archive: &[u8]) -> u64 {
     u64::from_be_bytes(archive[1..9].try_into().unwrap())
 }
 
+/// The archive form of a bundle, cut out of an archive that has it alone in the queue: 20 bytes
+/// stand in front of it, and expiry, fee intent, trigger, goal and three empty counts behind it.
+fn bundle_form(bundle: &SpendBundle) -> Vec<u8> {
+    let mut holder = Archive::read(&book().to_archive()).unwrap();
+    holder.pending_deliveries.push(PendingDelivery::protocol(bundle.clone(), None, NO_FEE));
+    let form = holder.to_bytes();
+    form[20..form.len() - 7].to_vec()
+}
+
+/// What a look must say of a submission of the archive.
+fn look_of(tx: &SubmittedTx) -> SubmissionLook {
+    let fingerprint = Hash32(plain_sha256(&bundle_form(tx.current_bundle())));
+    SubmissionLook {
+        chain_terminality: tx.chain_terminality,
+        acknowledged: tx.acknowledged_variant_fingerprint == Some(fingerprint),
+        fee_resolution: tx.fee_resolution,
+        applied_fee: match tx.current_variant {
+            SubmissionBroadcastVariant::Base => 0,
+            SubmissionBroadcastVariant::FeeBearing { applied_fee, .. } => applied_fee,
+        },
+        expiry: tx.expiry,
+        active_attempt_token: tx.active_attempt.map(|attempt| attempt.token),
+        completed_attempt_token: tx.completed_attempt.map(|attempt| attempt.token),
+    }
+}
+
+fn summary_of(archive: &Archive) -> BookSummary {
+    BookSummary {
+        next_delivery_attempt_token: archive.next_delivery_attempt_token,
+        next_submission_id: archive.next_submission_id,
+        submitted_count: archive.submitted.len(),
+        pending_count: archive.pending_deliveries.len(),
+        retired_count: archive.retired_submission_ids.len(),
+        replayed_count: archive.replayed_submission_ids.len(),
+        rollback_height: archive.rollback_height,
+    }
+}
+
 /// The archive of a book as plain values, which must say what the book's own calls say.
 pub fn archive_of(book: &SubmissionBook) -> Archive {
     let bytes = book.to_archive();
@@ -83,9 +121,11 @@ pub fn archive_of(book: &SubmissionBook) -> Archive {
     let active: Vec<_> = archive.submitted.iter().filter(active).map(|tx| tx.id).collect();
     assert_eq!(book.active_ids(), active);
     assert_eq!(book.replay_rollback_height(), archive.rollback_height);
+    assert_eq!(book.summary(), summary_of(&archive));
     let mut copy = book.clone();
     assert_eq!(copy.drain_retirements(), archive.retired_submission_ids);
     for tx in &archive.submitted {
+        assert_eq!(book.look(tx.id), Some(look_of(tx)));
         for attempt in tx.active_attempt.iter() {
             assert_eq!(book.attempt(attempt.token), Some(*attempt));
         }

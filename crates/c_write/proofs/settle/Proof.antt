@@ -5,10 +5,15 @@ use Rattle.c_write.proofs.settle.Statement.{statement}
 use Rattle.c_write.proofs.settle.Tie as tie
 
 returns : tie.Need-returns
-returns c = gives-done (c .before .before .before .before .before .before .before .before .before .before .before .before .args .next) (c .before .before .before .before .before .before .before .before .before .before .before .before .args .l .now) (c .before .before .before .before .before .before .before .before .before .before .before .before .args .book .now) (c .before .before .before .before .before .before .before .before .before .before .before .before .args .answer .now) (c .before .before .before .before .before .before .before .enum-told .given .1) (c .before .before .before .before .put-both .ensures)
+returns c =
+    let start = c .before .before .before .before .before .before .before .before .before .before .before .before in
+    gives-done (start .args .next) (start .args .l .now) (start .args .book .now) (start .args .answer .now) (c .before .before .before .before .before .before .before .enum-told .given .1) (c .before .before .before .before .put-both .ensures)
 
 returns-2 : tie.Need-returns-2
-returns-2 c = gives-refused (c .before .before .before .before .before .before .before .before .before .before .before .before .before .before .args .next) (c .before .before .before .before .before .before .before .before .before .before .before .before .before .before .args .l .now) (c .before .before .before .before .before .before .before .before .before .before .before .before .before .before .args .book .now) (c .before .before .before .before .before .before .before .before .before .before .before .before .before .before .args .answer .now) (c .before .before .before .before .before .before .before .before .before .said .given .1) (c .before .before .before .before .put-both2 .ensures)
+returns-2 c =
+    let start = c .before .before .before .before .before .before .before .before .before .before .before .before .before .before in
+    gives-refused (start .args .next) (start .args .l .now) (start .args .book .now) (start .args .answer .now) (c .before .before .before .before .before .before .before .before .before .said .given .1)
+    (c .before .before .before .before .put-both2 .ensures)
 
 pub settle-spec : {M : Type 1} → statement M
 settle-spec =

@@ -1,15 +1,9 @@
 -- Both counts are at most `i`, and `i` at most 16, so no addition overflows and every read is within the array.
 use borrow.Author.Needs.{needs}
 use native.Mathlib.Omega.{arith}
-use mathlib.Core.Path.{_≡_, refl, sym, ap, _∙_, subst}
-use mathlib.Core.List.{List, [], _∷_, _++_}
-use Prim.Native.Nat.{ℕ, zero, suc, _+_, _-_, _*_, _/_, _%_, _^_, _≤_, _<_}
-use lib.ListN.{length, getD, take, drop, set}
+use Prim.Native.Nat.{_-_, _≤_}
 use Rattle.tool_book_report.proofs.count_slots.Statement.{statement}
 use Rattle.tool_book_report.proofs.count_slots.Tie as tie
-use Rattle.tool_book_report.proofs.count_slots.Reads as reads
-use Rattle.tool_book_report.proofs.count_slots.Lts as lts
-use Rattle.tool_book_report.proofs.one_if.Reads as one-if-reads
 
 abbrev Inv-loop : tie.InvT-loop
 Inv-loop n a k live₀ set-aside₀ i₀ live set-aside i = (k ≤ 16) × (i ≤ k) × (live ≤ i) × (set-aside ≤ i)

@@ -1,7 +1,7 @@
 -- The capped count is at most 16 and `i` stays within it, so each submission read lies in the array.
 use borrow.Author.Needs.{needs}
 use native.Mathlib.Omega.{arith}
-use Prim.Native.Nat.{ℕ, _-_, _≤_}
+use Prim.Native.Nat.{_-_, _≤_}
 use Rattle.tool_book_report.proofs.show_retained_payments.Statement.{statement}
 use Rattle.tool_book_report.proofs.show_retained_payments.Tie as tie
 

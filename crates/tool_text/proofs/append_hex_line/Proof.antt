@@ -1,22 +1,16 @@
 -- Three parts written one behind the other make the line: the label, the hex digits and the line end.
 use Rattle.codec_append.specs.Fits.{fits-join}
 use Rattle.tool_text.specs.Numbers.{hexLine}
-use native.Mathlib.Omega.{arith}
-use mathlib.Core.Path.{_≡_, refl, sym, ap, _∙_, subst}
-use mathlib.Core.List.{List, [], _∷_, _++_}
-use Prim.Native.Nat.{ℕ, zero, suc, _+_, _-_, _*_, _/_, _%_, _^_, _≤_, _<_}
-use lib.ListN.{length, getD, take, drop, set}
+use Prim.Native.Nat.{_-_}
 use borrow.Author.Needs.{needs}
 use Rattle.tool_text.proofs.append_hex_line.Statement.{statement}
 use Rattle.tool_text.proofs.append_hex_line.Tie as tie
-use Rattle.tool_text.proofs.append_hex_line.Reads as reads
-use Rattle.tool_text.proofs.append_hex_line.Lts as lts
-use Rattle.codec_append.proofs.append_bytes.Reads as append-bytes-reads
-use Rattle.tool_text.proofs.append_hex.Reads as append-hex-reads
 
 returns : tie.Need-returns
 unfolding hexLine
-returns c = fits-join (fits-join (c .before .before .before .before .before .before .before .before .before .before .before .append-bytes .ensures) (c .before .before .before .before .before .before .before .append-hex .ensures)) (c .before .before .append-bytes2 .ensures)
+returns c =
+    fits-join (fits-join (c .before .before .before .before .before .before .before .before .before .before .before .append-bytes .ensures) (c .before .before .before .before .before .before .before .append-hex .ensures))
+    (c .before .before .append-bytes2 .ensures)
 
 pub append-hex-line-spec : {M : Type 1} → statement M
 append-hex-line-spec =

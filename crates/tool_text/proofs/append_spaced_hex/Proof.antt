@@ -5,15 +5,11 @@ use Rattle.tool_text.specs.Numbers.{spacedByte, spacedHex}
 use lib.Seq.{take-length}
 use borrow.Author.Needs.{needs}
 use native.Mathlib.Omega.{arith}
-use mathlib.Core.Path.{_≡_, refl, sym, ap, _∙_, subst}
-use mathlib.Core.List.{List, [], _∷_, _++_}
-use Prim.Native.Nat.{ℕ, zero, suc, _+_, _-_, _*_, _/_, _%_, _^_, _≤_, _<_}
-use lib.ListN.{length, getD, take, drop, set}
+use mathlib.Core.Path.{_≡_, refl, ap, _∙_}
+use Prim.Native.Nat.{ℕ, _-_, _≤_}
+use lib.ListN.{length, take}
 use Rattle.tool_text.proofs.append_spaced_hex.Statement.{statement}
 use Rattle.tool_text.proofs.append_spaced_hex.Tie as tie
-use Rattle.tool_text.proofs.append_spaced_hex.Reads as reads
-use Rattle.tool_text.proofs.append_spaced_hex.Lts as lts
-use Rattle.tool_text.proofs.append_spaced_byte.Reads as append-spaced-byte-reads
 
 abbrev Inv-loop : tie.InvT-loop
 Inv-loop out₀ at src e₀ i₀ out e i = Fits (encMany spacedByte (take i src)) at out₀ out e × (i ≤ length src) × (length out ≡ length out₀)
@@ -25,14 +21,23 @@ loop-holds : tie.Need-loop-holds Inv-loop μ-loop
 loop-holds c = (each-start spacedByte (c .before .before .args .src .now) (c .before .before .args .at) (c .before .before .args .out .now), omega arith, refl)
 
 loop-again : tie.Need-loop-again Inv-loop μ-loop
-loop-again c = (each-more 0 spacedByte (c .before .before .before .before .before .before .before .before .before .args .src .now) (c .before .before .before .before .before .before .loop .i) (c .before .before .before .before .before .loop-test .taken) (c .before .before .before .before .before .before .loop .inv .0) (c .before .before .append-spaced-byte .ensures), omega arith, search needs)
+loop-again c =
+    let turn = c .before .before .before .before .before .before in (
+      each-more 0 spacedByte (c .before .before .before .before .before .before .before .before .before .args .src .now) (turn .loop .i) (c .before .before .before .before .before .loop-test .taken)
+          (turn .loop .inv .0) (c .before .before .append-spaced-byte .ensures),
+      omega arith,
+      search needs,
+    )
 
 same-length : tie.Need-same-length Inv-loop μ-loop
 same-length c = c .before .loop .inv .2
 
 returns : tie.Need-returns Inv-loop μ-loop
 unfolding spacedHex
-returns c = let w : c .before .loop .i ≡ length (c .before .before .before .before .args .src .now) = omega arith in fits-as (ap (λ (k : ℕ). encMany spacedByte (take k (c .before .before .before .before .args .src .now))) w ∙ ap (encMany spacedByte) (take-length (c .before .before .before .before .args .src .now))) (c .before .loop .inv .0)
+returns c =
+    let start = c .before .before .before .before in
+    let w : c .before .loop .i ≡ length (start .args .src .now) = omega arith in fits-as (ap (λ (k : ℕ). encMany spacedByte (take k (start .args .src .now))) w ∙ ap (encMany spacedByte) (take-length
+    (start .args .src .now))) (c .before .loop .inv .0)
 
 pub append-spaced-hex-spec : {M : Type 1} → statement M
 append-spaced-hex-spec =

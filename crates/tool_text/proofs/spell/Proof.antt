@@ -3,14 +3,9 @@ use Rattle.tool_text.proofs.Decimal.{Spelt, spelt-start, spelt-next, sp
 use lib.ListN.{length-set}
 use borrow.Author.Needs.{needs}
 use native.Mathlib.Omega.{arith}
-use mathlib.Core.Path.{_≡_, refl, sym, ap, _∙_, subst}
-use mathlib.Core.List.{List, [], _∷_, _++_}
-use Prim.Native.Nat.{ℕ, zero, suc, _+_, _-_, _*_, _/_, _%_, _^_, _≤_, _<_}
-use lib.ListN.{length, getD, take, drop, set}
+use Prim.Native.Nat.{_-_}
 use Rattle.tool_text.proofs.spell.Statement.{statement}
 use Rattle.tool_text.proofs.spell.Tie as tie
-use Rattle.tool_text.proofs.spell.Reads as reads
-use Rattle.tool_text.proofs.spell.Lts as lts
 
 abbrev Inv-loop : tie.InvT-loop
 Inv-loop n a₀ i₀ rest₀ a i rest = Spelt n i rest a
@@ -52,7 +47,12 @@ element-write-a-2 : tie.Need-element-write-a-2 Inv-loop μ-loop
 element-write-a-2 c = omega (arith, c .before .loop .inv .some, c .before .loop .inv .most, c .before .loop .inv .long)
 
 returns : tie.Need-returns Inv-loop μ-loop
-returns c = (omega (arith, c .before .loop .inv .most), simp length-set (c .before .loop .inv .long), spelt-last (c .before .before .args .n) (c .before .loop .i) (c .before .loop .rest) (c .before .loop .a) (c .loop-test .left) (c .before .loop .inv))
+returns c = (
+  omega (arith, c .before .loop .inv .most),
+  simp length-set (c .before .loop .inv .long),
+  spelt-last (c .before .before .args .n) (c .before .loop .i) (c .before .loop .rest) (c .before .loop .a)
+      (c .loop-test .left) (c .before .loop .inv),
+)
 
 pub spell-spec : {M : Type 1} → statement M
 spell-spec =

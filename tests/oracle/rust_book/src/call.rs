@@ -103,6 +103,10 @@ pub enum Call {
         bytes: Vec<u8>,
     },
     Sound,
+    Look {
+        id: u64,
+    },
+    Summary,
 }
 
 impl Call {
@@ -137,6 +141,8 @@ impl Call {
             Call::WriteArchive { .. } => 0x1b,
             Call::ReadArchive { .. } => 0x1c,
             Call::Sound => 0x1d,
+            Call::Look { .. } => 0x1e,
+            Call::Summary => 0x1f,
         }
     }
 
@@ -152,7 +158,7 @@ impl Call {
 }
 
 /// The names of the calls by opcode.
-pub const NAMES: [(u8, &str); 29] = [
+pub const NAMES: [(u8, &str); 31] = [
     (0x01, "queue"),
     (0x02, "queue_rebroadcast_epoch"),
     (0x03, "queue_fee_readiness"),
@@ -182,6 +188,8 @@ pub const NAMES: [(u8, &str); 29] = [
     (0x1b, "write archive"),
     (0x1c, "read archive"),
     (0x1d, "sound?"),
+    (0x1e, "look"),
+    (0x1f, "summary"),
 ];
 
 pub fn name(opcode: u8) -> &'static str {
@@ -202,6 +210,8 @@ pub enum Answer {
     Flag(bool),
     Height(Option<u64>),
     Attempt(Option<Attempt>),
+    Look(Option<Look>),
+    Summary(Summary),
     /// The bytes to be written into the lent buffer.
     Written(Vec<u8>),
 }

@@ -186,3 +186,30 @@ pub struct Finalised {
     pub fingerprint: Digest,
     pub should_broadcast: bool,
 }
+
+/// What a look shows of a retained submission.
+#[derive(Clone, Debug, PartialEq, Eq)]
+pub struct Look {
+    pub chain: u8,
+    /// Whether the current variant is acknowledged.
+    pub acknowledged: bool,
+    pub mark: u8,
+    pub applied_fee: u64,
+    pub expiry: Option<u64>,
+    /// The tokens of the two slots.
+    pub live: Option<u64>,
+    pub set_aside: Option<u64>,
+}
+
+/// A book in numbers.
+#[derive(Clone, Debug, PartialEq, Eq)]
+pub struct Summary {
+    pub next_token: u64,
+    pub next_id: u64,
+    /// How many are in the book's lists.
+    pub retained: u64,
+    pub queued: u64,
+    pub retirements: u64,
+    pub replayed: u64,
+    pub rollback: Option<u64>,
+}

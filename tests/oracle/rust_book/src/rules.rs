@@ -171,6 +171,8 @@ fn plain_call(book: &Book, call: &Call) -> Result<(Book, Answer), u8> {
                 .map(with(Answer::Applied))
         }
         Call::Attempt { token } => asked(book, |judge| Ok(Answer::Attempt(judge.attempt(*token)))),
+        Call::Look { id } => asked(book, |judge| Ok(Answer::Look(judge.look(*id)))),
+        Call::Summary => asked(book, |judge| Ok(Answer::Summary(judge.summary()))),
         Call::EmitRetirement { id } => {
             changed(book, |judge| Ok(judge.emit_retirement(*id))).map(nothing)
         }

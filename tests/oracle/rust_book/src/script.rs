@@ -2,7 +2,7 @@
 
 use crate::archive;
 use crate::call::{Answer, Call, OptionalCell, Outcome, BUNDLE_CELLS, FEE_CELLS};
-use crate::model::{Book, Drained, Finalised};
+use crate::model::{Book, Drained, Finalised, Look, Summary};
 use crate::sha256::sha256;
 
 pub const LONGEST_BYTES: u32 = 65_536;
@@ -164,6 +164,8 @@ impl Input<'_> {
             0x1b => Call::WriteArchive { buffer: self.length()? },
             0x1c => Call::ReadArchive { bytes: self.bytes()? },
             0x1d => Call::Sound,
+            0x1e => Call::Look { id: self.number()? },
+            0x1f => Call::Summary,
             _ => return None,
         })
     }
@@ -221,7 +223,7 @@ pub fn write_call(out: &mut Vec<u8>, call: &Call) {
         | Call::AbandonAttempt { token }
         | Call::RelinquishCompletedAttempt { token }
         | Call::Attempt { token } => put_number(out, *token),
-        Call::EmitRetirement { id } => put_number(out, *id),
+        Call::EmitRetirement { id } | Call::Look { id } => put_number(out, *id),
         Call::BeginReplay { height } | Call::FinishReplayIfAdvanced { height } => {
             put_number(out, *height);
         }
@@ -256,7 +258,8 @@ pub fn write_call(out: &mut Vec<u8>, call: &Call) {
         | Call::ReplayRollbackHeight
         | Call::ClearLocalArtifacts
         | Call::RestoreRuntime
-        | Call::Sound => {}
+        | Call::Sound
+        | Call::Summary => {}
     }
 }
 
@@ -310,6 +313,13 @@ fn put_answer(out: &mut Vec<u8>, answer: &Answer) {
                 archive::write_attempt(out, attempt);
             }
         }
+        Answer::Look(look) => {
+            out.push(u8::from(look.is_some()));
+            if let Some(look) = look {
+                put_look(out, look);
+            }
+        }
+        Answer::Summary(summary) => put_summary(out, summary),
         Answer::Written(bytes) => {
             let length = u32::try_from(bytes.len()).expect("a 4-byte length");
             out.extend_from_slice(&length.to_be_bytes());
@@ -345,4 +355,20 @@ fn put_finalised(out: &mut Vec<u8>, finalised: &Finalised) {
     out.push(finalised.disposition);
     out.extend_from_slice(&finalised.fingerprint);
     out.push(u8::from(finalised.should_broadcast));
+}
+
+fn put_look(out: &mut Vec<u8>, look: &Look) {
+    out.extend_from_slice(&[look.chain, u8::from(look.acknowledged), look.mark]);
+    put_number(out, look.applied_fee);
+    for number in [look.expiry, look.live, look.set_aside] {
+        archive::write_optional_number(out, number);
+    }
+}
+
+fn put_summary(out: &mut Vec<u8>, summary: &Summary) {
+    let counts = [summary.retained, summary.queued, summary.retirements, summary.replayed];
+    put_number(out, summary.next_token);
+    put_number(out, summary.next_id);
+    counts.iter().for_each(|count| put_number(out, *count));
+    archive::write_optional_number(out, summary.rollback);
 }

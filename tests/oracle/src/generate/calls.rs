@@ -14,7 +14,7 @@ use super::pool::{digest, intent_of, matching_intent, Pool, EXPIRIES, HEIGHTS};
 use crate::rng::Rng;
 
 /// The number of opcodes; opcode `n` has weight `weights[n - 1]`.
-pub const OPCODES: usize = 29;
+pub const OPCODES: usize = 31;
 pub type Weights = [usize; OPCODES];
 
 pub fn call(rng: &mut Rng, pool: &Pool, book: &Book, weights: &Weights) -> Call {
@@ -67,6 +67,8 @@ pub fn call(rng: &mut Rng, pool: &Pool, book: &Book, weights: &Weights) -> Call 
         0x1b if rng.chance(1) => Call::WriteArchive { buffer: LONGEST_BYTES },
         0x1b => Call::WriteArchive { buffer: room(rng, archive::write(book).len()) },
         0x1c => read_archive(rng, pool, book),
+        0x1e => Call::Look { id: id(rng, book) },
+        0x1f => Call::Summary,
         _ => Call::Sound,
     }
 }
@@ -76,7 +78,7 @@ fn worth_while(opcode: u8, book: &Book) -> bool {
     match opcode {
         0x05 => !book.queue.is_empty(),
         0x06..=0x0b | 0x19 | 0x1a => book.slots().next().is_some(),
-        0x02..=0x04 | 0x0c | 0x0f | 0x10 | 0x14..=0x18 => !book.retained.is_empty(),
+        0x02..=0x04 | 0x0c | 0x0f | 0x10 | 0x14..=0x18 | 0x1e => !book.retained.is_empty(),
         0x0e => !book.retirements.is_empty(),
         _ => true,
     }

@@ -82,6 +82,39 @@ fn flag(flag: bool) -> &'static str {
     }
 }
 
+fn token(token: Option<u64>) -> String {
+    format!("tokenBy {}", option(token.map(|token| token.to_string())))
+}
+
+fn look(look: &Look) -> String {
+    format!(
+        "(record {{ expiry = {}; «active_attempt_token» = {}; «completed_attempt_token» = {}; \
+         «applied_fee» = {}; «fee_resolution» = {}; «chain_terminality» = {}; acknowledged = {} }})",
+        height(look.expiry),
+        token(look.live),
+        token(look.set_aside),
+        look.applied_fee,
+        RESOLUTIONS[usize::from(look.mark)],
+        CHAIN[usize::from(look.chain)],
+        flag(look.acknowledged),
+    )
+}
+
+fn summary(summary: &Summary) -> String {
+    format!(
+        "(record {{ «next_delivery_attempt_token» = record {{ 0 = {} }}; \
+         «next_submission_id» = record {{ 0 = {} }}; «submitted_count» = {}; «pending_count» = {}; \
+         «retired_count» = {}; «replayed_count» = {}; «rollback_height» = {} }})",
+        summary.next_token,
+        summary.next_id,
+        summary.retained,
+        summary.queued,
+        summary.retirements,
+        summary.replayed,
+        height(summary.rollback),
+    )
+}
+
 impl Names {
     /// Gives the digest a name.
     pub fn learn(&mut self, digest: &Digest) {
@@ -358,6 +391,8 @@ impl Names {
             Call::ClearLocalArtifacts => "ClearLocalArtifacts".to_string(),
             Call::RestoreRuntime => "RestoreRuntime".to_string(),
             Call::Attempt { token } => format!("Attempt {token}"),
+            Call::Look { id } => format!("Look {id}"),
+            Call::Summary => "Summary".to_string(),
             Call::WriteArchive { buffer } => format!("WriteArchive {buffer}"),
             Call::ReadArchive { .. } | Call::Sound => return None,
         };
@@ -422,6 +457,8 @@ impl Names {
                     option(attempt.as_ref().map(|attempt| self.attempt(attempt)))
                 )
             }
+            Answer::Look(value) => format!("(lookIs {})", option(value.as_ref().map(look))),
+            Answer::Summary(value) => format!("(summaryIs {})", summary(value)),
             Answer::Written(bytes) => format!("(written {})", self.bytes(bytes)),
         }
     }

@@ -2,7 +2,8 @@
 use borrow.Author.Needs.{needs}
 use mathlib.Core.Path.{sym, ap, _∙_}
 use Rattle.submission.specs.Answers.{writtenFrom}
-use Rattle.submission.specs.Door.{open-sound, written-refused, written-passed}
+use Rattle.part_door.specs.Door.{open-sound}
+use Rattle.submission.specs.Door.{written-refused, written-passed}
 use Rattle.submission.proofs.SubmissionBook.reconciliation_input_coins.Statement.{statement}
 use Rattle.submission.proofs.SubmissionBook.reconciliation_input_coins.Tie as tie
 

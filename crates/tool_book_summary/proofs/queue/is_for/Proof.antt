@@ -1,7 +1,7 @@
 -- By the id of the queue entry, as `forBy` goes.
 use Rattle.tool_book_summary.specs.Queue.{forBy, isFor}
 use Rattle.rules.specs.Parts.{intentOf}
-use mathlib.Core.Path.{_≡_, refl, sym, ap, _∙_}
+use mathlib.Core.Path.{sym, ap, _∙_}
 use borrow.Author.Needs.{needs}
 use Rattle.tool_book_summary.proofs.queue.is_for.Statement.{statement}
 use Rattle.tool_book_summary.proofs.queue.is_for.Tie as tie

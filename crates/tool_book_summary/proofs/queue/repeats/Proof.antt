@@ -1,15 +1,14 @@
 -- What was found and what is left say what the queue from the place on says.
 use Rattle.tool_book_summary.specs.Queue.{sameNew}
 use Rattle.tool_book_summary.specs.Laws.{found-turn, found-done}
-use mathlib.Core.Bool.{Bool, true, false, cond, _||_}
+use mathlib.Core.Bool.{_||_}
 use mathlib.Core.List.{List}
-use Rattle.book.specs.declared.SubmittedTx.{SubmittedTx}
 use Rattle.book.specs.declared.PendingDelivery.{PendingDelivery}
-use mathlib.Core.Path.{_≡_, refl, sym, ap, _∙_}
-use Prim.Native.Nat.{ℕ, _+_, _-_, _≤_, _<_}
+use mathlib.Core.Path.{_≡_, refl, ap, _∙_}
+use Prim.Native.Nat.{_-_, _≤_}
 use native.Mathlib.Omega.{arith}
 use lib.ListN.{length, take, drop}
-use Rattle.base_lists.specs.Lists.{anyb, foldl, flatMap}
+use Rattle.base_lists.specs.Lists.{anyb}
 use Rattle.base_lists.specs.Laws.{counted-step, counted-end, take-cut}
 use borrow.Author.Needs.{needs}
 use Rattle.tool_book_summary.proofs.queue.repeats.Statement.{statement}

@@ -2,7 +2,7 @@
 use Rattle.tool_payments.specs.Counts.{addPayment}
 use Rattle.tool_payments.specs.Payments.{queuedPayment}
 use mathlib.Core.Bool.{Bool, cond}
-use mathlib.Core.Path.{_≡_, refl, sym, ap, _∙_}
+use mathlib.Core.Path.{sym, ap, _∙_}
 use borrow.Author.Needs.{needs}
 use Rattle.tool_book_summary.proofs.tally.add_new.Statement.{statement}
 use Rattle.tool_book_summary.proofs.tally.add_new.Tie as tie

@@ -1,11 +1,10 @@
 -- What is counted and the queue that is left make the whole.
-use Rattle.tool_book_summary.specs.Tally.{addNew, addQueued}
+use Rattle.tool_book_summary.specs.Tally.{addQueued}
 use Rattle.tool_book_summary.specs.Laws.{queued-turn, queued-done}
-use mathlib.Core.Path.{_≡_, refl, sym, ap, _∙_}
-use Prim.Native.Nat.{ℕ, _+_, _-_, _≤_, _<_}
+use mathlib.Core.Path.{_≡_, refl, ap, _∙_}
+use Prim.Native.Nat.{_-_, _≤_}
 use native.Mathlib.Omega.{arith}
 use lib.ListN.{length, take, drop}
-use Rattle.base_lists.specs.Lists.{anyb, foldl, flatMap}
 use Rattle.base_lists.specs.Laws.{counted-step, counted-end, take-cut}
 use borrow.Author.Needs.{needs}
 use Rattle.tool_book_summary.proofs.tally.add_queued.Statement.{statement}

@@ -2,11 +2,11 @@
 use Rattle.tool_payments.specs.Counts.{addPayment}
 use Rattle.tool_book_summary.specs.Tally.{addRetained}
 use Rattle.base_lists.specs.Laws.{fold-turn, fold-done}
-use mathlib.Core.Path.{_≡_, refl, sym, ap, _∙_}
-use Prim.Native.Nat.{ℕ, _+_, _-_, _≤_, _<_}
+use mathlib.Core.Path.{_≡_, refl, ap, _∙_}
+use Prim.Native.Nat.{_-_, _≤_}
 use native.Mathlib.Omega.{arith}
 use lib.ListN.{length, take, drop}
-use Rattle.base_lists.specs.Lists.{anyb, foldl, flatMap}
+use Rattle.base_lists.specs.Lists.{foldl}
 use Rattle.base_lists.specs.Laws.{counted-step, counted-end, take-cut}
 use borrow.Author.Needs.{needs}
 use Rattle.tool_book_summary.proofs.tally.add_retained.Statement.{statement}

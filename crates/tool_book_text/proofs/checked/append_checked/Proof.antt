@@ -1,7 +1,7 @@
 -- Label and hash, then the text of the two comparisons.
-use Rattle.codec_append.specs.Fits.{Fits, fits-join, fits-as}
+use Rattle.codec_append.specs.Fits.{fits-join, fits-as}
 use Rattle.tool_book_text.specs.Checked.{checkedText, agreement-by}
-use mathlib.Core.Path.{_≡_, refl, sym, ap, _∙_}
+use mathlib.Core.Path.{sym}
 use borrow.Author.Needs.{needs}
 use Rattle.tool_book_text.proofs.checked.append_checked.Statement.{statement}
 use Rattle.tool_book_text.proofs.checked.append_checked.Tie as tie

@@ -1,5 +1,5 @@
 -- By the mark: the word no, or what `append_checked` promises.
-use Rattle.codec_append.specs.Fits.{Fits, fits-join, fits-as}
+use Rattle.codec_append.specs.Fits.{fits-join, fits-as}
 use Rattle.tool_book_text.specs.Checked.{checkedText, checkedOptional, checked-no, checked-yes}
 use Rattle.tool_text.specs.Ascii.{ascii}
 use borrow.Author.Needs.{needs}

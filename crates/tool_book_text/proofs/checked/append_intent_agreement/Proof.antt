@@ -1,5 +1,5 @@
 -- One text for each answer of the test.
-use Rattle.codec_append.specs.Fits.{Fits, fits-join, fits-as}
+use Rattle.codec_append.specs.Fits.{fits-as}
 use Rattle.tool_book_text.specs.Checked.{intent-agreement-by}
 use borrow.Author.Needs.{needs}
 use Rattle.tool_book_text.proofs.checked.append_intent_agreement.Statement.{statement}

@@ -1,5 +1,5 @@
 -- Intent fingerprint, base bundle, fee bundle and facts follow one another.
-use Rattle.codec_append.specs.Fits.{Fits, fits-join, fits-as}
+use Rattle.codec_append.specs.Fits.{fits-join}
 use Rattle.tool_book_text.specs.Entries.{entryText}
 use borrow.Author.Needs.{needs}
 use Rattle.tool_book_text.proofs.entry.append_entry.Statement.{statement}

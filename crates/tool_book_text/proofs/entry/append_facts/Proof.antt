@@ -1,5 +1,5 @@
 -- Fee state, fee intent, acknowledged hash, chain state and expiry follow one another, and `fits-join` makes them one text.
-use Rattle.codec_append.specs.Fits.{Fits, fits-join, fits-as}
+use Rattle.codec_append.specs.Fits.{fits-join}
 use Rattle.tool_book_text.specs.Entries.{factsText}
 use borrow.Author.Needs.{needs}
 use Rattle.tool_book_text.proofs.entry.append_facts.Statement.{statement}

@@ -1,25 +1,19 @@
 -- Label, the word none where the list is empty, the ids and the line's end follow one another (`fits-join`).
-use Rattle.codec_append.specs.Fits.{Fits, fits-join, fits-as, fits-none, each-start, each-more}
-use Rattle.tool_book_text.specs.Entries.{attemptText, slotOr, slotText, slotsText, factsText, entryText, headingText, submissionText, deliveryText, tokenOr, tokenText, tokensText, idAfterSpace, noneOf, idsText, slot-no, slot-yes, token-no, token-yes, none-empty, none-some}
-use Rattle.tool_book_text.specs.Bundles.{outputText, runText, spendText, bundleText, variantOr, variantText, variant-no, variant-yes, run-no, run-yes}
-use Rattle.tool_book_text.specs.Coins.{amountFrom, amountOf, isCoin, partsText, coinOr, coinOrBytes, coinText, parentOf, puzzleOf, amount-turn, amount-done, coin-short, coin-long, coin-room}
-use native.Mathlib.Omega.{arith}
-use mathlib.Core.Path.{_≡_, refl, sym, ap, _∙_, subst}
-use mathlib.Core.List.{List, [], _∷_, _++_}
-use Prim.Native.Nat.{ℕ, zero, suc, _+_, _-_, _*_, _/_, _%_, _^_, _≤_, _<_}
-use lib.ListN.{length, getD, take, drop, set}
+use Rattle.codec_append.specs.Fits.{fits-join}
+use Rattle.tool_book_text.specs.Entries.{idsText}
+use Prim.Native.Nat.{_-_}
 use borrow.Author.Needs.{needs}
 use Rattle.tool_book_text.proofs.entry.append_ids.Statement.{statement}
 use Rattle.tool_book_text.proofs.entry.append_ids.Tie as tie
-use Rattle.tool_book_text.proofs.entry.append_ids.Reads as reads
-use Rattle.tool_book_text.proofs.entry.append_ids.Lts as lts
-use Rattle.codec_append.proofs.append_bytes.Reads as append-bytes-reads
-use Rattle.tool_book_text.proofs.entry.append_none.Reads as append-none-reads
-use Rattle.tool_book_text.proofs.entry.append_numbers.Reads as append-numbers-reads
 
 returns : tie.Need-returns
 unfolding idsText
-returns c = fits-join (fits-join (fits-join (c .before .before .before .before .before .before .before .before .before .before .before .before .before .before .before .append-bytes .ensures) (c .before .before .before .before .before .before .before .before .before .before .before .append-none .ensures)) (c .before .before .before .before .before .before .before .append-numbers .ensures)) (c .before .before .append-bytes2 .ensures)
+returns c =
+    let step1 = c .before .before in
+    let step2 = step1 .before .before .before .before .before in
+    let step3 = step2 .before .before .before .before in
+    let step4 = step3 .before .before .before .before in
+    fits-join (fits-join (fits-join (step4 .append-bytes .ensures) (step3 .append-none .ensures)) (step2 .append-numbers .ensures)) (step1 .append-bytes2 .ensures)
 
 pub append-ids-spec : {M : Type 1} → statement M
 append-ids-spec =

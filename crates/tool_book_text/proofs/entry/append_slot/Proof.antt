@@ -1,5 +1,5 @@
 -- By the mark: an absent attempt is the label with the word none behind it, a present one what `append_attempt` promises.
-use Rattle.codec_append.specs.Fits.{Fits, fits-join, fits-as}
+use Rattle.codec_append.specs.Fits.{fits-join, fits-as}
 use Rattle.tool_book_text.specs.Entries.{attemptText, slotText, slot-no, slot-yes}
 use borrow.Author.Needs.{needs}
 use Rattle.tool_book_text.proofs.entry.append_slot.Statement.{statement}

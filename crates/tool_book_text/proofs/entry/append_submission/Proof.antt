@@ -1,8 +1,8 @@
 -- Heading, id, slots and entry follow one another; the fingerprints are those of the entry.
-use Rattle.codec_append.specs.Fits.{Fits, fits-join, fits-as}
+use Rattle.codec_append.specs.Fits.{fits-join, fits-as}
 use Rattle.tool_book_text.specs.Entries.{slotsText, entryText, submissionText}
 use Rattle.tool_book_text.specs.declared.Fingerprints.{Fingerprints}
-use mathlib.Core.Path.{_≡_, refl, sym, ap, _∙_}
+use mathlib.Core.Path.{ap}
 use borrow.Author.Needs.{needs}
 use Rattle.tool_book_text.proofs.entry.append_submission.Statement.{statement}
 use Rattle.tool_book_text.proofs.entry.append_submission.Tie as tie

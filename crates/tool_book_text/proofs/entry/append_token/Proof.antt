@@ -1,29 +1,30 @@
 -- By the mark: an absent token appends nothing (`fits-none`), a present one a word, its number and the line of its fate.
-use Rattle.codec_append.specs.Fits.{Fits, fits-join, fits-as, fits-none, each-start, each-more}
-use Rattle.tool_book_text.specs.Entries.{attemptText, slotOr, slotText, slotsText, factsText, entryText, headingText, submissionText, deliveryText, tokenOr, tokenText, tokensText, idAfterSpace, noneOf, idsText, slot-no, slot-yes, token-no, token-yes, none-empty, none-some}
+use Rattle.codec_append.specs.Fits.{fits-join, fits-as, fits-none}
+use Rattle.tool_book_text.specs.Entries.{tokenText, token-no, token-yes}
 use Rattle.tool_text.specs.Ascii.{ascii}
-use Rattle.tool_text.specs.Numbers.{decimal, numberLine, hexLine}
-use native.Mathlib.Omega.{arith}
-use mathlib.Core.Path.{_≡_, refl, sym, ap, _∙_, subst}
-use mathlib.Core.List.{List, [], _∷_, _++_}
-use Prim.Native.Nat.{ℕ, zero, suc, _+_, _-_, _*_, _/_, _%_, _^_, _≤_, _<_}
-use lib.ListN.{length, getD, take, drop, set}
+use Rattle.tool_text.specs.Numbers.{decimal, numberLine}
+use mathlib.Core.List.{_++_}
+use Prim.Native.Nat.{_+_, _-_}
 use borrow.Author.Needs.{needs}
 use Rattle.tool_book_text.proofs.entry.append_token.Statement.{statement}
 use Rattle.tool_book_text.proofs.entry.append_token.Tie as tie
-use Rattle.tool_book_text.proofs.entry.append_token.Reads as reads
-use Rattle.tool_book_text.proofs.entry.append_token.Lts as lts
-use Rattle.codec_append.proofs.append_bytes.Reads as append-bytes-reads
-use Rattle.tool_text.proofs.append_decimal.Reads as append-decimal-reads
-use Rattle.tool_text.proofs.append_number_line.Reads as append-number-line-reads
 
 returns : tie.Need-returns
 unfolding tokenText
-returns c = fits-as (token-no (c .before .before .before .args .s .present) (ascii "  token " ++ decimal (c .before .before .before .args .s .attempt .token .0) ++ numberLine (c .before .before .before .args .fate .now) (c .before .before .before .args .id)) (c .if1 .taken)) (fits-none _ _)
+returns c =
+    let start = c .before .before .before in
+    fits-as (token-no (start .args .s .present) (ascii "  token " ++ decimal (start .args .s .attempt .token .0) ++ numberLine (start .args .fate .now) (start .args .id)) (c .if1 .taken)) (fits-none _ _)
 
 returns-2 : tie.Need-returns-2
 unfolding tokenText
-returns-2 c = fits-as (token-yes (c .before .before .before .before .before .before .before .before .before .before .before .before .before .before .before .before .args .s .present) (ascii "  token " ++ decimal (c .before .before .before .before .before .before .before .before .before .before .before .before .before .before .before .before .args .s .attempt .token .0) ++ numberLine (c .before .before .before .before .before .before .before .before .before .before .before .before .before .before .before .before .args .fate .now) (c .before .before .before .before .before .before .before .before .before .before .before .before .before .before .before .before .args .id)) (c .before .before .before .before .before .before .before .before .before .before .before .before .before .if1 .left)) (fits-join (fits-join (c .before .before .before .before .before .before .before .before .before .before .append-bytes .ensures) (c .before .before .before .before .before .before .append-decimal .ensures)) (c .before .before .append-number-line .ensures))
+returns-2 c =
+    let step1 = c .before .before in
+    let step2 = step1 .before .before .before .before in
+    let step3 = step2 .before .before .before .before in
+    let step4 = step3 .before .before .before in
+    let start = step4 .before .before .before in
+    fits-as (token-yes (start .args .s .present) (ascii "  token " ++ decimal (start .args .s .attempt .token .0) ++ numberLine (start .args .fate .now) (start .args .id)) (step4 .if1 .left))
+    (fits-join (fits-join (step3 .append-bytes .ensures) (step2 .append-decimal .ensures)) (step1 .append-number-line .ensures))
 
 pub append-token-spec : {M : Type 1} → statement M
 append-token-spec =

@@ -252,6 +252,24 @@ impl Judge {
     pub fn attempt(&self, token: u64) -> Option<model::Attempt> {
         self.0.attempt(token).map(plain::attempt)
     }
+
+    /// The Rust has no such query: it is read off the submission, with the Rust's own methods.
+    pub fn look(&self, id: u64) -> Option<model::Look> {
+        let tx = access::submitted(&self.0).iter().find(|tx| tx.id == id)?;
+        Some(model::Look {
+            chain: plain::chain(tx.chain_terminality),
+            acknowledged: tx.current_variant_acknowledged().expect("encoding never fails"),
+            mark: plain::durable(&tx.fee_intent).0,
+            applied_fee: tx.current_applied_fee(),
+            expiry: tx.expiry,
+            live: tx.active_attempt.as_ref().map(|attempt| attempt.token),
+            set_aside: tx.completed_attempt.as_ref().map(|attempt| attempt.token),
+        })
+    }
+
+    pub fn summary(&self) -> model::Summary {
+        access::summary(&self.0)
+    }
 }
 
 /// Why the Rust would not restore the book, or none. No call depends on it.

@@ -148,7 +148,7 @@ fn to_durable(mark: u8, intent: SubmissionFeeIntent) -> DurableFeeIntent {
     DurableFeeIntent::Resolved { intent, resolution }
 }
 
-fn durable(intent: &DurableFeeIntent) -> (u8, model::FeeIntent) {
+pub(super) fn durable(intent: &DurableFeeIntent) -> (u8, model::FeeIntent) {
     match intent {
         DurableFeeIntent::Unresolved(intent) => (model::UNRESOLVED, fee_intent(intent)),
         DurableFeeIntent::Resolved { intent, resolution } => match resolution {
@@ -167,7 +167,7 @@ fn to_chain(chain: u8) -> SubmissionChainTerminality {
     }
 }
 
-fn chain(chain: SubmissionChainTerminality) -> u8 {
+pub(super) fn chain(chain: SubmissionChainTerminality) -> u8 {
     match chain {
         SubmissionChainTerminality::Active => model::ACTIVE,
         SubmissionChainTerminality::InputSpent => model::INPUT_SPENT,

@@ -1,5 +1,8 @@
 //! Building and taking apart a `SubmissionBook`, whose fields are private to the module above.
 
+use crate::model::Summary;
+use crate::transaction_manager::replay::access::rising_ids;
+
 use super::{PendingDelivery, ReplayEpoch, SubmissionBook, SubmittedTx};
 
 /// Everything that a book holds.
@@ -31,6 +34,24 @@ pub(in crate::transaction_manager) fn take_apart(book: SubmissionBook) -> Parts 
         submitted: book.submitted,
         retired: book.retired_submission_ids,
         next_id: book.next_submission_id,
+    }
+}
+
+/// The submissions that a book retains.
+pub(in crate::transaction_manager) fn submitted(book: &SubmissionBook) -> &[SubmittedTx] {
+    &book.submitted
+}
+
+/// A book in numbers: the Rust has no such query, so that they are read off its fields.
+pub(in crate::transaction_manager) fn summary(book: &SubmissionBook) -> Summary {
+    Summary {
+        next_token: book.next_delivery_attempt_token,
+        next_id: book.next_submission_id,
+        retained: book.submitted.len() as u64,
+        queued: book.pending_deliveries.len() as u64,
+        retirements: book.retired_submission_ids.len() as u64,
+        replayed: rising_ids(&book.replay_epoch).len() as u64,
+        rollback: book.replay_rollback_height(),
     }
 }
 

@@ -1,0 +1,3 @@
+pub mod Words
+pub mod Coins
+pub mod Bundles
