@@ -1,6 +1,6 @@
 #!/usr/bin/env bash
 # The C example, the C tests and the C part of the library under AddressSanitizer and UndefinedBehaviorSanitizer, with the proved part that `make lib`
-# has written; then the same tests under valgrind, where it is at hand, but for one place (tests/c_api/valgrind.supp). Ends with an error on any report. CC names the compiler (cc),
+# has written; then the same tests under valgrind, where it is at hand. Ends with an error on any report. CC names the compiler (cc),
 # LIBRARY another library, OUT the folder of what is made.
 set -euo pipefail
 cd "$(dirname "$0")/../.."
@@ -22,6 +22,6 @@ tail -n 1 "$out/kitchen.txt"
 echo "sanitizers: no report"
 if command -v valgrind >/dev/null; then
     "${CC:-cc}" "${warnings[@]}" -gdwarf-4 -O1 "${tests[@]}" "${shared[@]}" "$library" -o "$out/plain"
-    valgrind --quiet --error-exitcode=1 --suppressions=tests/c_api/valgrind.supp "$out/plain"
+    valgrind --quiet --error-exitcode=1 "$out/plain"
     echo "valgrind: no report"
 fi

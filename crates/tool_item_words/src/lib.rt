@@ -94,6 +94,25 @@ fn append_byte_rule(out: &mut [u8], at: usize, item: Item) -> usize {
     }
 }
 
+// What a height, a queue entry's id or an id of a list must be.
+fn append_late_number_rule(out: &mut [u8], at: usize, item: Item) -> usize {
+    match item {
+        Item::Expiry => append_bytes(out, at, b"the expiry height must be a number"),
+        Item::QueueId => append_bytes(out, at, b"the id must be a number"),
+        Item::RetiredId => append_bytes(
+            out,
+            at,
+            b"the retired id must be a number that is not listed before",
+        ),
+        Item::RollbackHeight => append_bytes(out, at, b"the rollback height must be a number"),
+        _ => append_bytes(
+            out,
+            at,
+            b"the replayed id must be a number above the one before, and the id of a retained submission",
+        ),
+    }
+}
+
 // What a number must be.
 fn append_number_rule(out: &mut [u8], at: usize, item: Item) -> usize {
     match item {
@@ -112,19 +131,7 @@ fn append_number_rule(out: &mut [u8], at: usize, item: Item) -> usize {
         Item::Amount => append_bytes(out, at, b"the amount must be a number"),
         Item::AppliedFee => append_bytes(out, at, b"the applied fee must be a number"),
         Item::FeeAmount => append_bytes(out, at, b"the amount of the fee intent must be a number"),
-        Item::Expiry => append_bytes(out, at, b"the expiry height must be a number"),
-        Item::QueueId => append_bytes(out, at, b"the id must be a number"),
-        Item::RetiredId => append_bytes(
-            out,
-            at,
-            b"the retired id must be a number that is not listed before",
-        ),
-        Item::RollbackHeight => append_bytes(out, at, b"the rollback height must be a number"),
-        _ => append_bytes(
-            out,
-            at,
-            b"the replayed id must be a number above the one before, and the id of a retained submission",
-        ),
+        _ => append_late_number_rule(out, at, item),
     }
 }
 
@@ -280,38 +287,82 @@ fn append_output(out: &mut [u8], at: usize, w: Within) -> usize {
     append_which(out, e, b", output ", w.output, w.outputs)
 }
 
+// What an item is a part of. Each function below has few cases: a check costs as the square of them.
+enum Part {
+    Numbers,
+    Attempt,
+    Bundle,
+    Spend,
+    Output,
+    Section,
+    Entry,
+}
+
+fn part_of(item: Item) -> Part {
+    match item {
+        Item::NumbersCount => Part::Numbers,
+        Item::NextToken => Part::Numbers,
+        Item::NextId => Part::Numbers,
+        Item::AttemptMark => Part::Attempt,
+        Item::AttemptToken => Part::Attempt,
+        Item::AttemptGoal => Part::Attempt,
+        Item::DrainedFingerprint => Part::Attempt,
+        Item::FinalizedMark => Part::Attempt,
+        Item::FinalizedFingerprint => Part::Attempt,
+        Item::BundleCount => Part::Bundle,
+        Item::CoinLength => Part::Spend,
+        Item::Coin => Part::Spend,
+        Item::Digest => Part::Spend,
+        Item::RunKind => Part::Spend,
+        Item::OutputCount => Part::Spend,
+        Item::PuzzleHash => Part::Output,
+        Item::Amount => Part::Output,
+        Item::RetainedCount => Part::Section,
+        Item::QueueCount => Part::Section,
+        Item::RetirementCount => Part::Section,
+        Item::RetiredId => Part::Section,
+        Item::RollbackMark => Part::Section,
+        Item::RollbackHeight => Part::Section,
+        Item::ReplayedCount => Part::Section,
+        Item::ReplayedId => Part::Section,
+        Item::End => Part::Section,
+        _ => Part::Entry,
+    }
+}
+
+// The sections behind the queue.
+fn append_last_section(out: &mut [u8], at: usize, item: Item, w: Within) -> usize {
+    match item {
+        Item::RetirementCount => append_bytes(out, at, b"section retirements"),
+        Item::RetiredId => append_which(out, at, b"section retirements, id ", w.entry, w.entries),
+        Item::ReplayedCount => append_bytes(out, at, b"section replayed"),
+        Item::ReplayedId => append_which(out, at, b"section replayed, id ", w.entry, w.entries),
+        _ => append_bytes(out, at, b"section rollback height"),
+    }
+}
+
+fn append_section(out: &mut [u8], at: usize, item: Item, w: Within) -> usize {
+    match item {
+        Item::RetainedCount => append_bytes(out, at, b"section retained"),
+        Item::QueueCount => append_bytes(out, at, b"section queue"),
+        Item::End => append_bytes(out, at, b"behind the last section"),
+        _ => append_last_section(out, at, item, w),
+    }
+}
+
 // Where an item is: its section, and its place in it.
 pub fn append_where(out: &mut [u8], at: usize, p: Position) -> usize {
     let item = p.item;
     let w = p.within;
-    match item {
-        Item::NumbersCount => append_bytes(out, at, b"section numbers"),
-        Item::NextToken => append_bytes(out, at, b"section numbers"),
-        Item::NextId => append_bytes(out, at, b"section numbers"),
-        Item::RetainedCount => append_bytes(out, at, b"section retained"),
-        Item::AttemptMark => append_attempt(out, at, w),
-        Item::AttemptToken => append_attempt(out, at, w),
-        Item::AttemptGoal => append_attempt(out, at, w),
-        Item::DrainedFingerprint => append_attempt(out, at, w),
-        Item::FinalizedMark => append_attempt(out, at, w),
-        Item::FinalizedFingerprint => append_attempt(out, at, w),
-        Item::BundleCount => append_bundle(out, at, w),
-        Item::CoinLength => append_spend(out, at, w),
-        Item::Coin => append_spend(out, at, w),
-        Item::Digest => append_spend(out, at, w),
-        Item::RunKind => append_spend(out, at, w),
-        Item::OutputCount => append_spend(out, at, w),
-        Item::PuzzleHash => append_output(out, at, w),
-        Item::Amount => append_output(out, at, w),
-        Item::QueueCount => append_bytes(out, at, b"section queue"),
-        Item::RetirementCount => append_bytes(out, at, b"section retirements"),
-        Item::RetiredId => append_which(out, at, b"section retirements, id ", w.entry, w.entries),
-        Item::RollbackMark => append_bytes(out, at, b"section rollback height"),
-        Item::RollbackHeight => append_bytes(out, at, b"section rollback height"),
-        Item::ReplayedCount => append_bytes(out, at, b"section replayed"),
-        Item::ReplayedId => append_which(out, at, b"section replayed, id ", w.entry, w.entries),
-        Item::End => append_bytes(out, at, b"behind the last section"),
-        _ => append_entry(out, at, w),
+    let part = part_of(item);
+    match part {
+        Part::Numbers => append_bytes(out, at, b"section numbers"),
+        Part::Attempt => append_attempt(out, at, w),
+        Part::Bundle => append_bundle(out, at, w),
+        Part::Spend => append_spend(out, at, w),
+        Part::Output => append_output(out, at, w),
+        Part::Section => append_section(out, at, item, w),
+        Part::Entry => append_entry(out, at, w),
     }
 }
 

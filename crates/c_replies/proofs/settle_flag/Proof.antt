@@ -13,10 +13,19 @@ use Rattle.c_replies.proofs.settle_flag.Statement.{statement}
 use Rattle.c_replies.proofs.settle_flag.Tie as tie
 
 part-settle-end : tie.Need-part-settle-end
-part-settle-end c = let e = told-end (be 1 (flagNumber (c .before .before .before .before .before .before .before .args .r .flag))) _ _ (c .before .before .before .append-flag .result) (c .before .before .before .append-flag .ensures) (omega (arith, be-length 1 (flagNumber (c .before .before .before .before .before .before .before .args .r .flag)))) in omega (arith, e .0, e .1, be-length 1 (flagNumber (c .before .before .before .before .before .before .before .args .r .flag)))
+part-settle-end c =
+    let step1 = c .before .before .before in
+    let start = step1 .before .before .before .before in
+    let e = told-end (be 1 (flagNumber (start .args .r .flag))) _ _ (step1 .append-flag .result) (step1 .append-flag .ensures) (omega (arith, be-length 1 (flagNumber (start .args .r .flag)))) in
+    omega (arith, e .0, e .1, be-length 1 (flagNumber (start .args .r .flag)))
 
 returns : tie.Need-returns
-returns c = gives-as (ap (λ (l : List ℕ). finish (c .before .before .before .before .before .before .before .before .before .before .before .before .before .before .before .args .r .answer) (c .before .before .before .before .before .before .before .before .before .before .before .before .before .before .before .args .r .book) l (c .before .before .before .before .before .before .before .before .before .before .before .before .before .before .before .args .book .now) (c .before .before .before .before .before .before .before .before .before .before .before .before .before .before .before .args .answer .now)) (told (be 1 (flagNumber (c .before .before .before .before .before .before .before .before .before .before .before .before .before .before .before .args .r .flag))) _ _ (c .before .before .before .before .before .before .before .before .before .before .before .append-flag .result) (c .before .before .before .before .before .before .before .before .before .before .before .append-flag .ensures) (omega (arith, be-length 1 (flagNumber (c .before .before .before .before .before .before .before .before .before .before .before .before .before .before .before .args .r .flag)))))) (c .before .before .before .before .settle .ensures)
+returns c =
+    let step1 = c .before .before .before .before in
+    let step2 = step1 .before .before .before .before .before .before .before in
+    let start = step2 .before .before .before .before in
+    let laid = told (be 1 (flagNumber (start .args .r .flag))) _ _ (step2 .append-flag .result) (step2 .append-flag .ensures) (omega (arith, be-length 1 (flagNumber (start .args .r .flag)))) in
+    gives-as (ap (λ (l : List ℕ). finish (start .args .r .answer) (start .args .r .book) l (start .args .book .now) (start .args .answer .now)) laid) (step1 .settle .ensures)
 
 pub settle-flag-spec : {M : Type 1} → statement M
 settle-flag-spec =

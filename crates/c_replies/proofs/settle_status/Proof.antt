@@ -13,10 +13,19 @@ use Rattle.c_replies.proofs.settle_status.Statement.{statement}
 use Rattle.c_replies.proofs.settle_status.Tie as tie
 
 part-settle-end : tie.Need-part-settle-end
-part-settle-end c = let e = told-end (be 1 (statusNumber (c .before .before .before .before .before .before .before .args .r .status))) _ _ (c .before .before .before .append-status .result) (c .before .before .before .append-status .ensures) (omega (arith, be-length 1 (statusNumber (c .before .before .before .before .before .before .before .args .r .status)))) in omega (arith, e .0, e .1, be-length 1 (statusNumber (c .before .before .before .before .before .before .before .args .r .status)))
+part-settle-end c =
+    let step1 = c .before .before .before in
+    let start = step1 .before .before .before .before in
+    let e = told-end (be 1 (statusNumber (start .args .r .status))) _ _ (step1 .append-status .result) (step1 .append-status .ensures) (omega (arith, be-length 1 (statusNumber (start .args .r .status)))) in
+    omega (arith, e .0, e .1, be-length 1 (statusNumber (start .args .r .status)))
 
 returns : tie.Need-returns
-returns c = gives-as (ap (λ (l : List ℕ). finish (c .before .before .before .before .before .before .before .before .before .before .before .before .before .before .before .args .r .answer) (c .before .before .before .before .before .before .before .before .before .before .before .before .before .before .before .args .r .book) l (c .before .before .before .before .before .before .before .before .before .before .before .before .before .before .before .args .book .now) (c .before .before .before .before .before .before .before .before .before .before .before .before .before .before .before .args .answer .now)) (told (be 1 (statusNumber (c .before .before .before .before .before .before .before .before .before .before .before .before .before .before .before .args .r .status))) _ _ (c .before .before .before .before .before .before .before .before .before .before .before .append-status .result) (c .before .before .before .before .before .before .before .before .before .before .before .append-status .ensures) (omega (arith, be-length 1 (statusNumber (c .before .before .before .before .before .before .before .before .before .before .before .before .before .before .before .args .r .status)))))) (c .before .before .before .before .settle .ensures)
+returns c =
+    let step1 = c .before .before .before .before in
+    let step2 = step1 .before .before .before .before .before .before .before in
+    let start = step2 .before .before .before .before in
+    let laid = told (be 1 (statusNumber (start .args .r .status))) _ _ (step2 .append-status .result) (step2 .append-status .ensures) (omega (arith, be-length 1 (statusNumber (start .args .r .status)))) in
+    gives-as (ap (λ (l : List ℕ). finish (start .args .r .answer) (start .args .r .book) l (start .args .book .now) (start .args .answer .now)) laid) (step1 .settle .ensures)
 
 pub settle-status-spec : {M : Type 1} → statement M
 settle-status-spec =

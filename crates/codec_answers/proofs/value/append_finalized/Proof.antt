@@ -9,8 +9,17 @@ use Rattle.codec_answers.proofs.value.append_finalized.Tie as tie
 
 returns : tie.Need-returns
 unfolding encodeFinal
-returns c = fits-join (fits-join (fits-join
-    (fits-join (fits-join (c .before .before .before .before .before .before .before .before .before .before .before .before .before .before .before .before .before .before .before .before .before .before .before .append-bundle .ensures) (c .before .before .before .before .before .before .before .before .before .before .before .before .before .before .before .before .before .before .before .append-number .ensures)) (c .before .before .before .before .before .before .before .before .before .before .before .before .before .before .before .append-flag .ensures)) (fits-as (ap (be 1) (c .before .before .before .before .before .before .before .before .before .before .before .before .before .before .before .before .before .before .before .before .before .before .before .before .before .disposition-number .ensures)) (c .before .before .before .before .before .before .before .before .before .before .before .append-byte .ensures))) (c .before .before .before .before .before .before .append-bytes .ensures)) (c .before .before .append-flag2 .ensures)
+returns c =
+    let step1 = c .before .before in
+    let step2 = step1 .before .before .before .before in
+    let step3 = step2 .before .before .before .before .before in
+    let step4 = step3 .before .before .before .before in
+    let step5 = step4 .before .before .before .before in
+    let step6 = step5 .before .before .before .before in
+    let step7 = step6 .before .before in
+    let front = fits-join (fits-join (step6 .append-bundle .ensures) (step5 .append-number .ensures)) (step4 .append-flag .ensures) in
+    let disposition = fits-as (ap (be 1) (step7 .disposition-number .ensures)) (step3 .append-byte .ensures) in
+    fits-join (fits-join (fits-join front disposition) (step2 .append-bytes .ensures)) (step1 .append-flag2 .ensures)
 
 pub append-finalized-spec : {M : Type 1} → statement M
 append-finalized-spec =
