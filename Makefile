@@ -32,7 +32,7 @@ help:
 	@echo "make archives  damaged archives, read here and by the Rust side's decoder"
 	@echo "make fmt       the layout of every source, specification and proof"
 
-# The first run proves what it links, about ten minutes on two processors; later ones take a second.
+# The first run proves what it links, ten to twenty minutes on two processors; later ones take a second.
 run: lib target/bin/show_archive target/kitchen
 	@target/kitchen target/kitchen.archive
 	@echo
