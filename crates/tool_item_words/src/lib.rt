@@ -287,7 +287,7 @@ fn append_output(out: &mut [u8], at: usize, w: Within) -> usize {
     append_which(out, e, b", output ", w.output, w.outputs)
 }
 
-// What an item is a part of. Each function below has few cases: a check costs as the square of them.
+// What an item is a part of.
 enum Part {
     Numbers,
     Attempt,
