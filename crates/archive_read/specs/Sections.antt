@@ -33,14 +33,14 @@ two_reads {s} {c} {k} {d} {e} h q = reads_as (two_is s) (subst (λ (i : ℕ). Re
 
 -- ---- ids and tokens of the submissions read so far
 pub record Seen (items : List SubmittedTx) (ids tokens : List ℕ) (m i : ℕ) : Type 0 where
-  pub ids_are_lem : take i ids ≡ map id_of (take i items)
+  pub ids_are : take i ids ≡ map id_of (take i items)
   pub tokens_are : take m tokens ≡ flat_map tokens_of (take i items)
   pub few : m ≤ i + i
   pub ids_long : length ids ≡ 16
   pub tokens_long : length tokens ≡ 32
 
 pub seen_start : Seen (replicate 16 zero_submitted) (replicate 16 0) (replicate 32 0) 0 0
-seen_start = record { ids_are_lem = refl; tokens_are = refl; few = omega arith; ids_long = refl; tokens_long = refl }
+seen_start = record { ids_are = refl; tokens_are = refl; few = omega arith; ids_long = refl; tokens_long = refl }
 
 -- the token t is put behind the first m, and counts where its mark is set
 one_token : (ts : List ℕ) (m t : ℕ) (b : Bool) → m < length ts → take (m + cond b 1 0) (set ts m t) ≡ take m ts ++ cond b (t ∷ []) []
@@ -66,7 +66,7 @@ seen_more {items} {ids} {tokens} {m} {i} x m₁ m₂ s h w p q =
     let k : m₁ < length ts = omega (arith, l, p, s.few, some a.present) in
     let g : take m₁ ts ≡ take m tokens ++ attempt_token a = ap (λ (n : ℕ). take n ts) p ∙ one_token tokens m a.attempt.token.0 a.present (omega (arith, s.few, s.tokens_long)) in
     record {
-      ids_are_lem = ap (λ (n : ℕ). take n (set ids i (id_of x))) (add-one i) ∙ take-suc-set ids i (id_of x) (omega (arith, s.ids_long))
+      ids_are = ap (λ (n : ℕ). take n (set ids i (id_of x))) (add-one i) ∙ take-suc-set ids i (id_of x) (omega (arith, s.ids_long))
           ∙ ap (λ (t : List ℕ). t ++ (id_of x ∷ [])) s.ids_are ∙ sym (ap (map id_of) f ∙ map-append id_of (take i items) (x ∷ []));
       tokens_are = ap (λ (n : ℕ). take n (set ts m₁ c.attempt.token.0)) q ∙ one_token ts m₁ c.attempt.token.0 c.present k
           ∙ ap (λ (t : List ℕ). t ++ attempt_token c) (g ∙ ap (λ (t : List ℕ). t ++ attempt_token a) s.tokens_are) ∙ append_assoc (flat_map tokens_of (take i items)) (attempt_token a) (attempt_token c)
@@ -85,7 +85,7 @@ after_seen {items} {ids} {tokens} {m} {i} next {s} {c} {e} {v} n h =
 
 pub record ReadsRetained (next : ℕ) (s : List ℕ) (c k : ℕ) (items : List SubmittedTx) (ids : List ℕ) (e : ℕ) : Type 0 where
   pub cells : ReadsCells 16 zero_submitted (parse_submitted next) s c k items e
-  pub ids_are_lem : take k ids ≡ map id_of (take k items)
+  pub ids_are : take k ids ≡ map id_of (take k items)
   pub few : k ≤ 16
 
 pub retained_done : {next : ℕ} {s : List ℕ} {b c k : ℕ} {items : List SubmittedTx} {ids tokens : List ℕ} {e m i : ℕ}
@@ -93,7 +93,7 @@ pub retained_done : {next : ℕ} {s : List ℕ} {b c k : ℕ} {items : List Subm
     → ReadsRetained next s b k items ids e
 retained_done {next} {s} {b} {c} {k} {items} {ids} {tokens} {e} {m} {i} r f n h = record {
   cells = filled_list r.reads r.few f h;
-  ids_are_lem = same (omega (arith, f.some)) n.ids_are;
+  ids_are = same (omega (arith, f.some)) n.ids_are;
   few = r.few;
 }
   where

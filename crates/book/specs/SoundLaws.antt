@@ -60,13 +60,13 @@ sound_bundle_lem b h =
 pub record SoundRetainedIntent (p : RetainedIntent) : Type 0 where
   pub base : sound_bundle p.base_bundle ≡ true
   pub readable : readable_bundle p.base_bundle ≡ true
-  pub fee_intent_lem : sound_fee_intent p.fee_intent ≡ true
+  pub fee_intent : sound_fee_intent p.fee_intent ≡ true
 
 pub sound_retained_intent_lem : (p : RetainedIntent) → sound_retained_intent p ≡ true → SoundRetainedIntent p
 unfolding sound_retained_intent
 sound_retained_intent_lem p h =
     let t = trues (sound_bundle p.base_bundle) (readable_bundle p.base_bundle ∷ sound_fee_intent p.fee_intent ∷ []) h in
-    record { base = t.0; readable = t.1.0; fee_intent_lem = t.1.1.0 }
+    record { base = t.0; readable = t.1.0; fee_intent = t.1.1.0 }
 
 pub retained_intent_sound : (p : RetainedIntent) → SoundRetainedIntent p → sound_retained_intent p ≡ true
 unfolding sound_retained_intent

@@ -70,10 +70,10 @@ pub record TypedOutput (o : Output) : Type 0 where
   pub amount : U64 o.amount
 
 pub record TypedSpend (s : CoinSpend) : Type 0 where
-  pub coin_len_lem : U8 s.coin_len
+  pub coin_len : U8 s.coin_len
   pub coin : Bytes 73 s.coin
   pub digest : Bytes 32 s.digest
-  pub output_count_lem : U8 s.output_count
+  pub output_count : U8 s.output_count
   pub outputs : Array 4 TypedOutput s.outputs
 
 pub record TypedBundle (b : SpendBundle) : Type 0 where
@@ -101,7 +101,7 @@ pub record TypedSlots (s : AttemptSlots) : Type 0 where
 
 pub record TypedVariant (v : SubmissionBroadcastVariant) : Type 0 where
   pub bundle : TypedBundle v.bundle
-  pub applied_fee_lem : U64 v.applied_fee
+  pub applied_fee : U64 v.applied_fee
 
 abbrev pub TypedStatus : SubmissionStatus → Type 0
 TypedStatus s = TypedOptionalHeight s.expiry
@@ -109,7 +109,7 @@ TypedStatus s = TypedOptionalHeight s.expiry
 pub record TypedRetainedIntent (p : RetainedIntent) : Type 0 where
   pub fingerprint : Bytes 32 p.intent_fingerprint
   pub base : TypedBundle p.base_bundle
-  pub fee_intent_lem : TypedFeeIntent p.fee_intent
+  pub fee_intent : TypedFeeIntent p.fee_intent
 
 pub record TypedState (s : SubmissionState) : Type 0 where
   pub current : TypedVariant s.current_variant
@@ -129,7 +129,7 @@ pub record TypedIntent (p : PendingSubmissionIntent) : Type 0 where
   pub id : TypedOptionalId p.id
   pub bundle : TypedBundle p.bundle
   pub expiry : TypedOptionalHeight p.expiry
-  pub fee_intent_lem : TypedFeeIntent p.fee_intent
+  pub fee_intent : TypedFeeIntent p.fee_intent
 
 abbrev pub TypedDelivery : PendingDelivery → Type 0
 TypedDelivery d = TypedIntent d.intent
@@ -147,8 +147,8 @@ pub record TypedReplay (r : ReplayEpoch) : Type 0 where
   pub replayed : TypedIds16 r.replayed_submission_ids
 
 pub record Typed (b : BookData) : Type 0 where
-  pub next_token_lem : TypedToken b.next_delivery_attempt_token
-  pub next_id_lem : TypedId b.next_submission_id
+  pub next_token : TypedToken b.next_delivery_attempt_token
+  pub next_id : TypedId b.next_submission_id
   pub submitted_count : U64 b.submitted_count
   pub submitted : Array 16 TypedSubmitted b.submitted
   pub pending_count : U64 b.pending_count

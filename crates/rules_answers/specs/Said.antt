@@ -209,7 +209,7 @@ drain_few b h = λ c. few_candidates 0 0 b.pending blank c (record { issued = om
 -- ---- what is handed out is within the types
 pub record TypedDrained (d : DrainedSubmission) : Type 0 where
   pub bundle : TypedBundle d.bundle
-  pub fee_intent_lem : TypedFeeIntent d.fee_intent
+  pub fee_intent : TypedFeeIntent d.fee_intent
 
 module _ (e : SubmittedEntry) (w : TypedEntry e) where
   current_bundle_typed : TypedBundle (current_bundle e)
@@ -242,7 +242,7 @@ step_issued (emit i g) b w = go (pick id_of i b.submitted) (unfold pick in every
   where
     go : (ts : List SubmittedTx) → Every TypedSubmitted ts → Every TypedDrained (emit_to i g b ts).out
     go [] h = tt
-    go (t ∷ ts) h = (unfold handed in record { bundle = current_bundle_typed t.entry h.0.entry; fee_intent_lem = open_fee_typed t.entry h.0.entry }, tt)
+    go (t ∷ ts) h = (unfold handed in record { bundle = current_bundle_typed t.entry h.0.entry; fee_intent = open_fee_typed t.entry h.0.entry }, tt)
 step_issued (remove i) b w = tt
 step_issued (set_aside i) b w = tt
 step_issued (finalise i v) b w = tt
