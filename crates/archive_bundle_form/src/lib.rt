@@ -1,1 +1,2 @@
 // Forms, fingerprints and coins of a bundle.
+#![tactic(auto)]

@@ -8,14 +8,14 @@ ghost use Rattle.archive_bundle_read.specs.Runs.{ReadsRun};
 use book::{CoinSpend, Output, SpendBundle};
 use codec_cursor::{pass, read_cell, read_count, read_hash, read_number};
 
-#[derive(Drop)]
+#[derive(Clone, Copy)]
 pub struct Outputs {
     pub count: u8,
     pub items: [Output; 4],
 }
 
 // The run of a spend, its outputs in their cells.
-#[derive(Drop)]
+#[derive(Clone, Copy)]
 pub struct RunCells {
     pub readable: bool,
     pub count: u8,

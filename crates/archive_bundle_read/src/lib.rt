@@ -1,4 +1,6 @@
 // Reading of bundles, optional parts, fee intents and kinds at a cursor that the caller lends (crate cursor).
+#![tactic(auto)]
+
 pub mod bundle;
 pub mod kind;
 pub mod part;

@@ -1,4 +1,6 @@
 // How many bytes a bundle, an expiry and a fee intent take in the archive.
+#![tactic(auto)]
+
 ghost use Rattle.std.specs.Prelude.{◌≡◌, take};
 ghost use Rattle.codec_forms.specs.Wire.{enc_many};
 ghost use Rattle.codec_forms.specs.Puts.{Size};

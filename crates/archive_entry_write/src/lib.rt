@@ -1,4 +1,6 @@
 // The parts of a retained submission and of a queue entry, written from place `at` on; each function returns the place behind.
+#![tactic(auto)]
+
 ghost use Rattle.std.specs.Prelude.{◌≡◌};
 ghost use Rattle.codec_forms.specs.Wire.{be};
 ghost use Rattle.codec_append.specs.Fits.{Fits};

@@ -1,4 +1,6 @@
 // The two fingerprints: SHA-256 of the archive form of a bundle, and of bundle, expiry and fee intent.
+#![tactic(auto)]
+
 ghost use Rattle.std.specs.Prelude.{◌≡◌};
 ghost use Rattle.archive_bundle_form.specs.Forms.{variant_fingerprint, intent_fingerprint};
 

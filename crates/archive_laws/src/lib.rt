@@ -1,1 +1,2 @@
 // The archive's theorems, in specs/.
+#![tactic(auto)]

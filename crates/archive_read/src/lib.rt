@@ -1,4 +1,6 @@
 // The archive reader: any bytes give a book, or refusal 13 with its place.
+#![tactic(auto)]
+
 pub mod section;
 
 ghost use Rattle.std.specs.Prelude.{◌≡◌, true, false};
@@ -13,7 +15,7 @@ use book::{
 use codec_cursor::FAR;
 
 // `place` is that of a refusal; with a book it is 0. With a refusal the book is zero.
-#[derive(Drop)]
+#[derive(Clone, Copy)]
 pub struct ReadArchive {
     pub ok: bool,
     pub place: usize,

@@ -12,20 +12,20 @@ use base_lists::contains;
 use book::{Ids16, Ids64, PendingDelivery, SubmissionId, SubmittedTx, Token};
 use codec_cursor::{pass, read_count, read_number};
 
-#[derive(Drop)]
+#[derive(Clone, Copy)]
 pub struct Numbers {
     pub token: Token,
     pub id: SubmissionId,
 }
 
-#[derive(Drop)]
+#[derive(Clone, Copy)]
 pub struct Retained {
     pub count: usize,
     pub items: [SubmittedTx; 16],
     pub ids: [u64; 16],
 }
 
-#[derive(Drop)]
+#[derive(Clone, Copy)]
 pub struct Queue {
     pub count: usize,
     pub items: [PendingDelivery; 16],

@@ -1,4 +1,6 @@
 // How many bytes the archive of a book takes, without writing it.
+#![tactic(auto)]
+
 ghost use Rattle.std.specs.Prelude.{◌≡◌, take};
 ghost use Rattle.codec_forms.specs.Wire.{enc_many};
 ghost use Rattle.codec_forms.specs.Puts.{Size};

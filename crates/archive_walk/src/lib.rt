@@ -1,4 +1,6 @@
 // Whether bytes are an archive, and where its parts stand, without making the book.
+#![tactic(auto)]
+
 mod section;
 mod skip;
 
@@ -15,7 +17,7 @@ use section::{walk_queue, walk_retained};
 // What the walk answers. Of an archive `place` is 0, and the rest are the book's two numbers and the places of its parts: of
 // each submission and each queue entry, with the place behind the last one, and of the sections behind the submissions. Else
 // `place` is that of the first item that is cut short or breaks a rule, and the rest is zero.
-#[derive(Drop)]
+#[derive(Clone, Copy)]
 pub struct Walk {
     pub ok: bool,
     pub place: usize,

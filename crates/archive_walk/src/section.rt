@@ -9,20 +9,20 @@ use book::{AttemptSlots, SubmissionId, Token};
 use codec_cursor::read_count;
 
 // Of a submission what those behind it may not have again.
-#[derive(Drop)]
+#[derive(Clone, Copy)]
 pub struct Seen {
     pub id: SubmissionId,
     pub slots: AttemptSlots,
 }
 
-#[derive(Drop)]
+#[derive(Clone, Copy)]
 pub struct Retained {
     pub count: usize,
     pub ids: [u64; 16],
     pub places: [usize; 17],
 }
 
-#[derive(Drop)]
+#[derive(Clone, Copy)]
 pub struct Queue {
     pub count: usize,
     pub places: [usize; 17],

@@ -1,4 +1,6 @@
 // The sections of an archive. Each section writer gets the rest of the buffer from its start, and returns how many bytes it wrote.
+#![tactic(auto)]
+
 ghost use Rattle.std.specs.Prelude.{◌≡◌, ◌++◌, take};
 ghost use Rattle.codec_forms.specs.Wire.{be, enc_many, enc_list};
 ghost use Rattle.codec_append.specs.Fits.{Fits};

@@ -1,4 +1,6 @@
 // Writing an archive: refusals first, so that a refused call leaves the buffer as it was.
+#![tactic(auto)]
+
 ghost use Rattle.std.specs.Prelude.{◌≡◌};
 ghost use Rattle.book.specs.Sound.{soundb};
 ghost use Rattle.archive_form.specs.Encode.{encode_book};
@@ -9,7 +11,7 @@ use archive_write::write_book;
 use book::BookData;
 use book_sound::is_sound;
 
-#[derive(Drop)]
+#[derive(Clone, Copy)]
 pub enum Wrote {
     Unsound,
     Short,

@@ -1,4 +1,6 @@
 // Coin strings: made of their parts, hashed to coin ids, and listed in bytes.
+#![tactic(auto)]
+
 ghost use Rattle.std.specs.Prelude.{◌≡◌, ◌+◌, ◌-◌, ◌≤◌, ◌<◌, min, [], take, drop, length};
 ghost use Rattle.base_coin_string.specs.Amount.{atom_length, big_endian, atom_of};
 ghost use Rattle.base_coin_string.specs.Coin.{FromParts, cell_of, coin_id_of};
@@ -9,13 +11,13 @@ ghost use Rattle.base_coin_string.specs.Order.{order_of, cell_order};
 ghost use Rattle.base_lists.specs.Bytes.{eqs, is_in};
 
 // The first len bytes are the coin's, and the others zero.
-#[derive(Drop)]
+#[derive(Clone, Copy)]
 pub struct CoinString {
     pub bytes: [u8; 73],
     pub len: u8,
 }
 
-#[derive(Drop)]
+#[derive(Clone, Copy)]
 pub enum Ordering {
     Less,
     Equal,

@@ -1,4 +1,6 @@
 // The lesser of two counts, and tests over slices of numbers, each equal to a function of plain lists.
+#![tactic(auto)]
+
 ghost use Rattle.std.specs.Prelude.{◌≡◌, min, ltb};
 ghost use Rattle.base_lists.specs.Lists.{allb, elemb, distinctb, risingb, is_zero, full_of};
 ghost use Rattle.base_lists.specs.Bytes.{eqs};

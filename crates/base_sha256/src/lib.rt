@@ -1,4 +1,6 @@
 // SHA-256 of FIPS 180-4, against the definition of specs/Fips.antt.
+#![tactic(auto)]
+
 ghost use Rattle.std.specs.Prelude.{◌≡◌, ◌+◌, ◌-◌, ◌*◌, ◌/◌, ◌%◌, ◌^◌, ◌<◌, ◌≤◌, ◌++◌, length, take, drop, replicate};
 ghost use Rattle.base_sha256.specs.Fips.{Ch, Maj, Σ0, Σ1, σ0, σ1, be32, K, word_at, next, mixed, T1, T2, schedule, round, rounds, plus, compress, hashed, be64, pad, H0, sha256_of};
 ghost use Rattle.base_sha256.specs.Code.{words_of, round_at, eight_at, padded, Unmarked, Behind, InBlock, digest_of};
@@ -15,7 +17,7 @@ const K: [u32; 64] = [
 ];
 
 // The eight words of a hash value.
-#[derive(Drop)]
+#[derive(Clone, Copy)]
 pub struct State {
     pub a: u32,
     pub b: u32,

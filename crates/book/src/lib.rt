@@ -1,42 +1,43 @@
 // The book as plain data. Names are those of the Rust where it has them.
 // An optional part is a mark with its cell beside it, and a cell that a mark or a count leaves unused is zero;
 // an optional number is an enum.
+#![tactic(auto)]
 
 mod kinds;
 pub mod refusals;
 pub mod zero;
 
 // An attempt token, a submission id and a height are types of their own, so that none is taken for another.
-#[derive(Drop)]
+#[derive(Clone, Copy)]
 pub struct Token(pub u64);
 
-#[derive(Drop)]
+#[derive(Clone, Copy)]
 pub struct SubmissionId(pub u64);
 
-#[derive(Drop)]
+#[derive(Clone, Copy)]
 pub struct Height(pub u64);
 
-#[derive(Drop)]
+#[derive(Clone, Copy)]
 pub enum OptionalHeight {
     NoHeight,
     At(Height),
 }
 
-#[derive(Drop)]
+#[derive(Clone, Copy)]
 pub enum OptionalId {
     NoId,
     Of(SubmissionId),
 }
 
 // A coin that a spend makes.
-#[derive(Drop)]
+#[derive(Clone, Copy)]
 pub struct Output {
     pub puzzle_hash: [u8; 32],
     pub amount: u64,
 }
 
 // A spend: its coin string, the digest that stands for puzzle, solution and signature, and its run.
-#[derive(Drop)]
+#[derive(Clone, Copy)]
 pub struct CoinSpend {
     pub coin_len: u8,
     pub coin: [u8; 73],
@@ -46,13 +47,13 @@ pub struct CoinSpend {
     pub outputs: [Output; 4],
 }
 
-#[derive(Drop)]
+#[derive(Clone, Copy)]
 pub struct SpendBundle {
     pub count: u8,
     pub spends: [CoinSpend; 4],
 }
 
-#[derive(Drop)]
+#[derive(Clone, Copy)]
 pub enum FeeIntentKind {
     AlreadyPaid,
     NoFeeConfigured,
@@ -60,20 +61,20 @@ pub enum FeeIntentKind {
 }
 
 // `SubmissionFeeIntent`: target and amount are those of `Attach`.
-#[derive(Drop)]
+#[derive(Clone, Copy)]
 pub struct SubmissionFeeIntent {
     pub kind: FeeIntentKind,
     pub target: [u8; 32],
     pub amount: u64,
 }
 
-#[derive(Drop)]
+#[derive(Clone, Copy)]
 pub enum SubmissionDeliveryGoal {
     EnsureBroadcast,
     FeeUpgrade,
 }
 
-#[derive(Drop)]
+#[derive(Clone, Copy)]
 pub enum DeliveryTrigger {
     Protocol,
     FreshChain,
@@ -81,7 +82,7 @@ pub enum DeliveryTrigger {
     ProviderReadiness,
 }
 
-#[derive(Drop)]
+#[derive(Clone, Copy)]
 pub enum SubmissionChainTerminality {
     Active,
     InputSpent,
@@ -89,20 +90,20 @@ pub enum SubmissionChainTerminality {
 }
 
 // The Rust's `DurableFeeIntent` and `FeeResolution` in one mark.
-#[derive(Drop)]
+#[derive(Clone, Copy)]
 pub enum FeeResolution {
     Unresolved,
     NotRequested,
     Attached,
 }
 
-#[derive(Drop)]
+#[derive(Clone, Copy)]
 pub struct OptionalHash {
     pub present: bool,
     pub hash: [u8; 32],
 }
 
-#[derive(Drop)]
+#[derive(Clone, Copy)]
 pub struct DeliveryAttempt {
     pub token: Token,
     pub goal: SubmissionDeliveryGoal,
@@ -110,21 +111,21 @@ pub struct DeliveryAttempt {
     pub finalized_variant_fingerprint: OptionalHash,
 }
 
-#[derive(Drop)]
+#[derive(Clone, Copy)]
 pub struct OptionalAttempt {
     pub present: bool,
     pub attempt: DeliveryAttempt,
 }
 
 // The live slot and the set-aside slot of a submission.
-#[derive(Drop)]
+#[derive(Clone, Copy)]
 pub struct AttemptSlots {
     pub active_attempt: OptionalAttempt,
     pub completed_attempt: OptionalAttempt,
 }
 
 // `SubmissionBroadcastVariant`: `Base`, or `FeeBearing` with its bundle and applied fee.
-#[derive(Drop)]
+#[derive(Clone, Copy)]
 pub struct SubmissionBroadcastVariant {
     pub fee_bearing: bool,
     pub bundle: SpendBundle,
@@ -132,7 +133,7 @@ pub struct SubmissionBroadcastVariant {
 }
 
 // What is fixed when a submission is retained.
-#[derive(Drop)]
+#[derive(Clone, Copy)]
 pub struct RetainedIntent {
     pub intent_fingerprint: [u8; 32],
     pub base_bundle: SpendBundle,
@@ -140,7 +141,7 @@ pub struct RetainedIntent {
 }
 
 // What is revised of a submission and is no array. The expiry comes first, so that no byte of padding stands before a mark.
-#[derive(Drop)]
+#[derive(Clone, Copy)]
 pub struct SubmissionStatus {
     pub expiry: OptionalHeight,
     pub fee_resolution: FeeResolution,
@@ -148,7 +149,7 @@ pub struct SubmissionStatus {
 }
 
 // What is revised of a submission.
-#[derive(Drop)]
+#[derive(Clone, Copy)]
 pub struct SubmissionState {
     pub current_variant: SubmissionBroadcastVariant,
     pub wallet_acknowledged_variant: OptionalHash,
@@ -156,20 +157,20 @@ pub struct SubmissionState {
 }
 
 // A submission without its attempt slots.
-#[derive(Drop)]
+#[derive(Clone, Copy)]
 pub struct SubmittedEntry {
     pub id: SubmissionId,
     pub intent: RetainedIntent,
     pub state: SubmissionState,
 }
 
-#[derive(Drop)]
+#[derive(Clone, Copy)]
 pub struct SubmittedTx {
     pub slots: AttemptSlots,
     pub entry: SubmittedEntry,
 }
 
-#[derive(Drop)]
+#[derive(Clone, Copy)]
 pub struct PendingSubmissionIntent {
     pub id: OptionalId,
     pub bundle: SpendBundle,
@@ -177,7 +178,7 @@ pub struct PendingSubmissionIntent {
     pub fee_intent: SubmissionFeeIntent,
 }
 
-#[derive(Drop)]
+#[derive(Clone, Copy)]
 pub struct PendingDelivery {
     pub intent: PendingSubmissionIntent,
     pub trigger: DeliveryTrigger,
@@ -185,26 +186,26 @@ pub struct PendingDelivery {
 }
 
 // Up to 16 and up to 64 submission ids.
-#[derive(Drop)]
+#[derive(Clone, Copy)]
 pub struct Ids16 {
     pub count: usize,
     pub items: [u64; 16],
 }
 
-#[derive(Drop)]
+#[derive(Clone, Copy)]
 pub struct Ids64 {
     pub count: usize,
     pub items: [u64; 64],
 }
 
-#[derive(Drop)]
+#[derive(Clone, Copy)]
 pub struct ReplayEpoch {
     pub rollback_height: OptionalHeight,
     pub replayed_submission_ids: Ids16,
 }
 
 // The fields of the Rust's `SubmissionBook`.
-#[derive(Drop)]
+#[derive(Clone, Copy)]
 pub struct BookData {
     pub next_delivery_attempt_token: Token,
     pub next_submission_id: SubmissionId,

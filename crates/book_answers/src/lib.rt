@@ -1,4 +1,6 @@
 // What the calls of a book answer, under the Rust's names. The rules speak of these types too, so that an answer stands once.
+#![tactic(auto)]
+
 ghost use Rattle.std.specs.Prelude.{◌≡◌};
 ghost use Rattle.book_answers.specs.Zero.{zero_drained, zero_failure, zero_final, zero_look, zero_summary};
 
@@ -9,7 +11,7 @@ use book::{
 
 // ---- drain
 // How an issued attempt stands to its predecessor.
-#[derive(Drop)]
+#[derive(Clone, Copy)]
 pub enum SubmissionAttemptRelationship {
     Initial,
     Exact,
@@ -17,14 +19,14 @@ pub enum SubmissionAttemptRelationship {
     Other,
 }
 
-#[derive(Drop)]
+#[derive(Clone, Copy)]
 pub enum OptionalToken {
     NoToken,
     Of(Token),
 }
 
 // What a drain hands out for a submission that gets a token.
-#[derive(Drop)]
+#[derive(Clone, Copy)]
 pub struct DrainedSubmission {
     pub id: SubmissionId,
     pub attempt_token: Token,
@@ -36,7 +38,7 @@ pub struct DrainedSubmission {
 }
 
 // Which of the plan's misses a failure is.
-#[derive(Drop)]
+#[derive(Clone, Copy)]
 pub enum DrainFailureCause {
     NoRetainedState,
     FeeIntentDiffers,
@@ -48,7 +50,7 @@ pub enum DrainFailureCause {
 }
 
 // The archive form always encodes, so `Fingerprint` does not occur.
-#[derive(Drop)]
+#[derive(Clone, Copy)]
 pub enum SubmissionDrainFailureStage {
     Fingerprint,
     RetainedState,
@@ -57,7 +59,7 @@ pub enum SubmissionDrainFailureStage {
 }
 
 // The index counts the queue as it was, from 0; the candidate id is always there.
-#[derive(Drop)]
+#[derive(Clone, Copy)]
 pub struct SubmissionDrainFailure {
     pub candidate_index: usize,
     pub cause: DrainFailureCause,
@@ -66,14 +68,14 @@ pub struct SubmissionDrainFailure {
 }
 
 // ---- attempts
-#[derive(Drop)]
+#[derive(Clone, Copy)]
 pub enum SubmissionAttemptStatus {
     Applied,
     Stale,
 }
 
 // `SubmissionFeeSource`: `Available` with its joined bundle, or with a join that failed. The joined bundle stands beside it.
-#[derive(Drop)]
+#[derive(Clone, Copy)]
 pub enum SubmissionFeeSource {
     NotRequested,
     Joined,
@@ -81,14 +83,14 @@ pub enum SubmissionFeeSource {
     Failed,
 }
 
-#[derive(Drop)]
+#[derive(Clone, Copy)]
 pub enum FeeSourceDisposition {
     Attached,
     Unused,
     NotRequested,
 }
 
-#[derive(Drop)]
+#[derive(Clone, Copy)]
 pub struct FinalizedSubmission {
     pub bundle: SpendBundle,
     pub applied_fee: u64,
@@ -101,7 +103,7 @@ pub struct FinalizedSubmission {
 // ---- looks
 // What a retained submission holds besides its bundles; acknowledged is its current variant, and the tokens are of its live attempt and
 // of the one that is set aside.
-#[derive(Drop)]
+#[derive(Clone, Copy)]
 pub struct SubmissionLook {
     pub expiry: OptionalHeight,
     pub active_attempt_token: OptionalToken,
@@ -113,7 +115,7 @@ pub struct SubmissionLook {
 }
 
 // The numbers of a book, and how many entries its lists have.
-#[derive(Drop)]
+#[derive(Clone, Copy)]
 pub struct BookSummary {
     pub next_delivery_attempt_token: Token,
     pub next_submission_id: SubmissionId,

@@ -1,4 +1,6 @@
 // The coins that a bundle spends and makes.
+#![tactic(auto)]
+
 ghost use Rattle.std.specs.Prelude.{◌≡◌, ◌≤◌, ◌<◌, min, []};
 ghost use Rattle.base_lists.specs.Lists.{cells};
 ghost use Rattle.base_coin_string.specs.Coin.{FromParts};
@@ -13,14 +15,14 @@ use base_coin_string::CoinString;
 use book::{CoinSpend, SpendBundle};
 
 // Output j of spend i.
-#[derive(Drop)]
+#[derive(Clone, Copy)]
 pub enum Found {
     At(usize, usize),
     Nothing,
 }
 
 // Up to 16 output coins: the first count cells are the coins, and the cells behind them are empty.
-#[derive(Drop)]
+#[derive(Clone, Copy)]
 pub struct OutputCoins {
     pub count: usize,
     pub coins: [CoinString; 16],

@@ -66,7 +66,7 @@ pub fn sound_deliveries(a: [PendingDelivery; 16], n: usize) -> bool
     ok
 }
 
-#[derive(Drop)]
+#[derive(Clone, Copy)]
 pub struct Tokens {
     pub count: usize,
     pub items: [u64; 32],
@@ -104,7 +104,7 @@ fn push_attempts(t: Tokens, s: AttemptSlots) -> Tokens
     )
 }
 
-#[derive(Drop)]
+#[derive(Clone, Copy)]
 pub struct Gathered {
     pub sound: bool,
     pub ids: Ids16,

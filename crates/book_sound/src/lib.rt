@@ -1,4 +1,6 @@
 // Tests of soundness. Each answers exactly its definition in book's `Sound`, for every value.
+#![tactic(auto)]
+
 ghost use Rattle.std.specs.Prelude.{◌≡◌, cond, ◌&&◌, take};
 ghost use Rattle.base_lists.specs.Lists.{allb, tail_of, is_zero};
 ghost use Rattle.book.specs.Zero.{is_zero_spend};

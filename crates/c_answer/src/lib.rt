@@ -1,4 +1,6 @@
 // An answer alone into lent bytes: that of a call that only looks at the book, and of the two functions that have no book.
+#![tactic(auto)]
+
 ghost use Rattle.c_answer.specs.Answer.{GivesAnswer, answer_in, digest_in, coin_id_in};
 
 use base_sha256::sha256;

@@ -1,5 +1,7 @@
 // Replies with an attempt, a fee intent or a finalized submission: the value's bytes, in the form of docs/DRIVER.md, into the lent answer.
 // They are made first, so that a call whose answer or book does not fit leaves every lent byte.
+#![tactic(auto)]
+
 ghost use Rattle.std.specs.Prelude.{◌≡◌, length};
 ghost use Rattle.codec_forms.specs.Wire.{enc_opt};
 ghost use Rattle.archive_bundle_form.specs.Forms.{encode_fee_intent};

@@ -1,4 +1,6 @@
 // Calls by an attempt's token, on the book in lent bytes: read, called, settled. A refused call leaves every lent byte.
+#![tactic(auto)]
+
 ghost use Rattle.std.specs.Prelude.{◌≡◌};
 ghost use Rattle.rules.specs.Calls.AbandonAttempt.{abandon_attempt};
 ghost use Rattle.rules.specs.Calls.AcknowledgeAttempt.{acknowledge_attempt};
@@ -28,7 +30,7 @@ use call_stop_attempt::stop_attempt_sound;
 use codec_cursor::FAR;
 
 // Where the bytes are no bundle, the bundle says nothing.
-#[derive(Drop)]
+#[derive(Clone, Copy)]
 pub struct JoinedBundle {
     pub ok: bool,
     pub bundle: SpendBundle,

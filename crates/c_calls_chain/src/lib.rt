@@ -1,4 +1,6 @@
 // What the chain shows, the coins of retained submissions, and looks, on the book in lent bytes: read, called, settled or told.
+#![tactic(auto)]
+
 ghost use Rattle.std.specs.Prelude.{[], length};
 ghost use Rattle.rules.specs.Calls.AbsentOutputsForIds.{absent_outputs_for_ids};
 ghost use Rattle.rules.specs.Calls.CausallyRolledBackIds.{causally_rolled_back_ids};

@@ -1,4 +1,6 @@
 // Replay epoch, retirements, and calls on all retained submissions, on the book in lent bytes: read, called, settled.
+#![tactic(auto)]
+
 ghost use Rattle.std.specs.Prelude.{[]};
 ghost use Rattle.rules.specs.Calls.ActiveIds.{active_ids};
 ghost use Rattle.rules.specs.Calls.ClearLocalArtifacts.{clear_local_artifacts};

@@ -1,4 +1,6 @@
 // Calls that offer deliveries, and the drain, on the book in lent bytes: read, called, settled. A refused call leaves every lent byte.
+#![tactic(auto)]
+
 ghost use Rattle.std.specs.Prelude.{[]};
 ghost use Rattle.rules.specs.Calls.CollectRollbackReplayIds.{collect_rollback_replay_ids};
 ghost use Rattle.rules.specs.Calls.Drain.{drain};

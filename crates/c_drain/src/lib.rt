@@ -1,5 +1,7 @@
 // The reply of a drain: the submissions and the failures, in the form of docs/DRIVER.md, into the lent answer. They are laid out first, so
 // that a drain whose answer or book does not fit leaves every lent byte.
+#![tactic(auto)]
+
 ghost use Rattle.std.specs.Prelude.{◌≡◌, length};
 ghost use Rattle.c_boundary.specs.Forms.{DrainGiven};
 

@@ -1,4 +1,6 @@
 // The book that lent bytes hold.
+#![tactic(auto)]
+
 ghost use Rattle.std.specs.Prelude.{◌≡◌, ◌<◌};
 ghost use Rattle.book.specs.Typed.{Every, U8};
 ghost use Rattle.c_boundary.specs.Held.{HeldAnswer};
@@ -26,7 +28,7 @@ pub fn each_within(s: &[u8])
 }
 
 // Where the archive stands in the lent bytes.
-#[derive(Drop)]
+#[derive(Clone, Copy)]
 struct Part {
     start: usize,
     stop: usize,

@@ -1,5 +1,7 @@
 // Replies with a flag, a status, a height, ids, a look or a summary: the value's bytes, in the form of docs/DRIVER.md, into the lent answer.
 // They are made first, so that a call whose answer or book does not fit leaves every lent byte.
+#![tactic(auto)]
+
 ghost use Rattle.codec_forms.specs.Wire.{be, enc_opt};
 ghost use Rattle.archive_bundle_form.specs.Forms.{encode_height};
 ghost use Rattle.codec_answers.specs.Forms.{flag_number, status_number, encode_ids, encode_look, encode_summary};

@@ -1,4 +1,6 @@
 // A book made in lent bytes, by opening or from an archive; and the archive of a lent book.
+#![tactic(auto)]
+
 ghost use Rattle.std.specs.Prelude.{[]};
 ghost use Rattle.rules.specs.Opened.{opened};
 ghost use Rattle.archive_form.specs.Parse.{read_archive};

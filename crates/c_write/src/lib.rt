@@ -1,4 +1,6 @@
 // The book and the answer of a call, put back into the lent bytes. Refusals first, so that a refused call leaves every lent byte.
+#![tactic(auto)]
+
 ghost use Rattle.std.specs.Prelude.{◌≡◌, []};
 ghost use Rattle.book.specs.Model.{view};
 ghost use Rattle.c_answer.specs.Answer.{GivesAnswer};

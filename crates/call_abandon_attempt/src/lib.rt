@@ -1,4 +1,6 @@
 // `abandon_attempt`: the submission of a live attempt is removed and retired.
+#![tactic(auto)]
+
 ghost use Rattle.std.specs.Prelude.{◌<◌, true, ◌≡◌, length};
 ghost use Rattle.book.specs.Model.{view};
 ghost use Rattle.book.specs.Sound.{soundb};

@@ -1,4 +1,6 @@
 // `absent_outputs_for_ids`: of the listed submissions the outputs that are absent, into a lent buffer.
+#![tactic(auto)]
+
 ghost use Rattle.std.specs.Prelude.{◌≡◌, true, ◌+◌, ◌≤◌, length};
 ghost use Rattle.base_coin_string.specs.CoinList.{coins_in};
 ghost use Rattle.book.specs.Model.{view};

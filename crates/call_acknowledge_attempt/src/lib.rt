@@ -1,4 +1,6 @@
 // `acknowledge_attempt`: the finalised variant is acknowledged, the attempt set aside, and queue entries of the submission go.
+#![tactic(auto)]
+
 ghost use Rattle.std.specs.Prelude.{◌<◌, true, ◌≡◌, length};
 ghost use Rattle.book.specs.Model.{view};
 ghost use Rattle.book.specs.Sound.{soundb};

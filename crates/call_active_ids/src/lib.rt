@@ -1,4 +1,6 @@
 // `active_ids`: the ids of the Active submissions, in their order. Nothing changes.
+#![tactic(auto)]
+
 ghost use Rattle.std.specs.Prelude.{◌≡◌, true};
 ghost use Rattle.book.specs.Model.{view, ids16};
 ghost use Rattle.book.specs.Sound.{soundb};

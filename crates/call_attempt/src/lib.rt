@@ -1,4 +1,6 @@
 // `attempt`: the live attempt itself; a token that is not live has none.
+#![tactic(auto)]
+
 ghost use Rattle.std.specs.Prelude.{true, ◌≡◌};
 ghost use Rattle.book.specs.Model.{view};
 ghost use Rattle.book.specs.Sound.{soundb};

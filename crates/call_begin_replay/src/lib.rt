@@ -1,4 +1,6 @@
 // `begin_replay`: a replay epoch begins at a height, unless it is the one held.
+#![tactic(auto)]
+
 ghost use Rattle.std.specs.Prelude.{◌≡◌, true};
 ghost use Rattle.book.specs.Model.{view};
 ghost use Rattle.book.specs.Sound.{soundb};

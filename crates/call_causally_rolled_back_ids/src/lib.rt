@@ -1,4 +1,6 @@
 // `causally_rolled_back_ids`: the ids of the submissions that the chain has rolled back, rising; nothing changes.
+#![tactic(auto)]
+
 ghost use Rattle.std.specs.Prelude.{◌≡◌, true};
 ghost use Rattle.base_coin_string.specs.CoinIds.{ids_in};
 ghost use Rattle.base_coin_string.specs.CoinList.{coins_in};

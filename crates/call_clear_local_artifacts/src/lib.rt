@@ -1,4 +1,6 @@
 // `clear_local_artifacts`: all submissions are withdrawn, the queue is emptied and the replay epoch ended.
+#![tactic(auto)]
+
 ghost use Rattle.std.specs.Prelude.{◌≡◌, true, map};
 ghost use Rattle.base_lists.specs.Lists.{rising};
 ghost use Rattle.book.specs.Model.{view, ids16};

@@ -1,5 +1,7 @@
 // `collect_rollback_replay_ids`: the named submissions that are not marked as replayed are marked and opened again, and all named ones
 // are offered.
+#![tactic(auto)]
+
 ghost use Rattle.std.specs.Prelude.{true, ◌≡◌, ◌≤◌};
 ghost use Rattle.book.specs.Model.{view, back, list16, ids16};
 ghost use Rattle.book.specs.Sound.{soundb};

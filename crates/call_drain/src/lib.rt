@@ -1,4 +1,6 @@
 // `drain`: the queue is emptied, and its candidates are planned and carried out in order.
+#![tactic(auto)]
+
 ghost use Rattle.std.specs.Prelude.{◌≡◌, true, [], map, ◌≤◌, ◌<◌, length, get_or};
 ghost use Rattle.base_lists.specs.Lists.{push_new};
 ghost use Rattle.book.specs.Zero.{zero_submitted};
@@ -29,7 +31,7 @@ use part_replies::CallAnswer;
 use part_submitted::fingerprint::intent_of;
 
 // What a drain has done so far: the ids that it emitted and removed, what it handed out, and the failures.
-#[derive(Drop)]
+#[derive(Clone, Copy)]
 pub struct DrainAnswers {
     pub emitted: Ids16,
     pub removed: Ids16,

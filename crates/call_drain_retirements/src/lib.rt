@@ -1,4 +1,6 @@
 // `drain_retirements`: the retired ids are handed out, and the book forgets them.
+#![tactic(auto)]
+
 ghost use Rattle.std.specs.Prelude.{◌≡◌, true};
 ghost use Rattle.book.specs.Model.{view};
 ghost use Rattle.book.specs.Sound.{soundb};

@@ -1,4 +1,6 @@
 // `fee_intent_for_attempt`: the fee intent of a live attempt.
+#![tactic(auto)]
+
 ghost use Rattle.std.specs.Prelude.{true, ◌≡◌};
 ghost use Rattle.book.specs.Model.{view};
 ghost use Rattle.book.specs.Sound.{soundb};

@@ -1,4 +1,6 @@
 // `finalize_attempt`, on a book by value: the live attempt of a token gets its final variant, with the fee attached or without it.
+#![tactic(auto)]
+
 ghost use Rattle.std.specs.Prelude.{◌<◌, true, not, ◌&&◌, ◌≡◌, length};
 ghost use Rattle.std.proofs.Math.Option.{none};
 ghost use Rattle.book.specs.Zero.{is_ensure_broadcast};
@@ -163,7 +165,7 @@ fn attached_final(joined: SpendBundle, e: SubmittedEntry) -> FinalizedSubmission
 
 // ---- what becomes of the submission
 // The answer, and the submission as it is stored; or refusal 9.
-#[derive(Drop)]
+#[derive(Clone, Copy)]
 pub struct Decision {
     pub refused: bool,
     pub last: FinalizedSubmission,

@@ -1,4 +1,6 @@
 // `finish_replay_if_advanced`: the replay epoch ends at a height above the one held.
+#![tactic(auto)]
+
 ghost use Rattle.std.specs.Prelude.{◌≡◌, true};
 ghost use Rattle.book.specs.Model.{view};
 ghost use Rattle.book.specs.Sound.{soundb};

@@ -1,4 +1,6 @@
 // `look`: what the retained submission of an id holds; an id that is not retained has none, and nothing changes.
+#![tactic(auto)]
+
 ghost use Rattle.std.specs.Prelude.{true, ◌≡◌};
 ghost use Rattle.book.specs.Model.{view};
 ghost use Rattle.book.specs.Sound.{soundb};

@@ -1,4 +1,6 @@
 // Opening a book.
+#![tactic(auto)]
+
 ghost use Rattle.std.specs.Prelude.{◌≡◌};
 ghost use Rattle.book.specs.Model.{back};
 ghost use Rattle.rules.specs.Opened.{opened};

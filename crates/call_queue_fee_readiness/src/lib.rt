@@ -1,4 +1,6 @@
 // `queue_fee_readiness`: the submissions that are Active and whose fee is unresolved are offered again.
+#![tactic(auto)]
+
 ghost use Rattle.std.specs.Prelude.{true, ◌≡◌};
 ghost use Rattle.book.specs.Model.{view};
 ghost use Rattle.book.specs.Sound.{soundb};

@@ -1,4 +1,6 @@
 // `queue_rebroadcast_epoch`: the submissions of a list of ids are offered again, in its order.
+#![tactic(auto)]
+
 ghost use Rattle.std.specs.Prelude.{true, ◌≡◌};
 ghost use Rattle.book.specs.Model.{view};
 ghost use Rattle.book.specs.Sound.{soundb};

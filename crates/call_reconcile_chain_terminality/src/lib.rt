@@ -1,4 +1,6 @@
 // `reconcile_chain_terminality`: each submission in turn is Landed, InputSpent, Active again, or as it was.
+#![tactic(auto)]
+
 ghost use Rattle.std.specs.Prelude.{◌≡◌, true, ◌<◌, length, get_or};
 ghost use Rattle.base_coin_string.specs.CoinIds.{ids_in};
 ghost use Rattle.base_coin_string.specs.CoinList.{coins_in};

@@ -1,4 +1,6 @@
 // `reconciliation_input_coins`: the input coins of the submissions to be reconciled, rising and without repeats, into a lent buffer.
+#![tactic(auto)]
+
 ghost use Rattle.std.specs.Prelude.{◌≡◌, true, ◌≤◌, length};
 ghost use Rattle.base_coin_string.specs.CoinList.{coins_in};
 ghost use Rattle.book.specs.Model.{view};

@@ -1,4 +1,6 @@
 // `replay_rollback_height`: the height of the replay epoch, if one is held; nothing changes.
+#![tactic(auto)]
+
 ghost use Rattle.std.specs.Prelude.{◌≡◌, true};
 ghost use Rattle.book.specs.Model.{view};
 ghost use Rattle.book.specs.Sound.{soundb};

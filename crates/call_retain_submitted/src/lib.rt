@@ -1,4 +1,6 @@
 // `retain_submitted`: the submissions whose ids are named are withdrawn, and their ids answered, rising.
+#![tactic(auto)]
+
 ghost use Rattle.std.specs.Prelude.{◌≡◌, true};
 ghost use Rattle.book.specs.Model.{view, ids16};
 ghost use Rattle.book.specs.Sound.{soundb};

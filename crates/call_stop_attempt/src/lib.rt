@@ -1,4 +1,6 @@
 // `stop_attempt`: the live attempt is set aside.
+#![tactic(auto)]
+
 ghost use Rattle.std.specs.Prelude.{◌<◌, true, ◌≡◌, length};
 ghost use Rattle.book.specs.Model.{view};
 ghost use Rattle.book.specs.Sound.{soundb};

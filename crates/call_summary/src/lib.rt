@@ -1,4 +1,6 @@
 // `summary`: the numbers of the book, and how many entries its lists have; nothing changes.
+#![tactic(auto)]
+
 ghost use Rattle.std.specs.Prelude.{true, ◌≡◌};
 ghost use Rattle.book.specs.Model.{view};
 ghost use Rattle.book.specs.Sound.{soundb};

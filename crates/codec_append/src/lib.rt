@@ -1,5 +1,7 @@
 // Items appended to a lent buffer from place `at` on. Each function answers the place behind what it wrote; it leaves out an item for
 // which there is no room, so none of them requires anything.
+#![tactic(auto)]
+
 ghost use Rattle.codec_forms.specs.Wire.{be};
 ghost use Rattle.codec_append.specs.Fits.{Fits};
 

@@ -1,6 +1,8 @@
 // Items of archive forms, read at a cursor that the caller lends. A cursor below FAR is the place where the next item starts; one
 // from FAR on is a refusal, whose place is what it has above FAR: no slice is that long. From a refusal nothing is read and the
 // value means nothing, so readers stand one behind the other without a test, and one test at the end tells.
+#![tactic(auto)]
+
 ghost use Rattle.std.specs.Prelude.{◌≡◌, Bool, ◌+◌, ◌≤◌, length, take, drop};
 ghost use Rattle.codec_forms.specs.Wire.{run, number, be_from, overlay};
 ghost use Rattle.codec_cursor.specs.Cursor.{Reads, passed, refused_at};
@@ -10,7 +12,7 @@ use codec_bytes::put;
 use codec_bytes::read::{has, wide};
 
 // A byte run of at most 73 bytes in its cell.
-#[derive(Drop)]
+#[derive(Clone, Copy)]
 pub struct Cell73 {
     pub len: u8,
     pub bytes: [u8; 73],

@@ -1,4 +1,6 @@
 // What the calls of one attempt token share: the place of a live attempt, and the answers that are a status.
+#![tactic(auto)]
+
 ghost use Rattle.std.specs.Prelude.{◌≡◌};
 ghost use Rattle.book.specs.Model.{view};
 ghost use Rattle.book_answers.specs.declared.SubmissionAttemptStatus.TheVariants.{Stale};

@@ -1,4 +1,6 @@
 // Tests of one submission's base bundle against the coins and coin ids that a call lists.
+#![tactic(auto)]
+
 ghost use Rattle.std.specs.Prelude.{◌≡◌, ◌||◌, ◌<◌};
 ghost use Rattle.base_lists.specs.Lists.{allb};
 ghost use Rattle.base_lists.specs.Bytes.{eqs, is_in};

@@ -1,4 +1,6 @@
 // Changes of a book by value. The book is held in one local and its cells are changed in place.
+#![tactic(auto)]
+
 ghost use Rattle.std.specs.Prelude.{◌≡◌, true, ◌+◌, ◌≤◌, ◌<◌, length, take};
 ghost use Rattle.book.specs.Zero.{zero_delivery};
 ghost use Rattle.book.specs.Model.{view, back};
@@ -17,14 +19,14 @@ use part_ids::{empty64, push_new64};
 use part_lookup::is_id;
 
 // The book with one more retirement; full where that would be a 65th, and then the book as it was.
-#[derive(Drop)]
+#[derive(Clone, Copy)]
 pub struct Retired {
     pub full: bool,
     pub book: BookData,
 }
 
 // Up to 16 queue entries.
-#[derive(Drop)]
+#[derive(Clone, Copy)]
 struct Deliveries {
     count: usize,
     items: [PendingDelivery; 16],

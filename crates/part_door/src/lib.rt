@@ -1,4 +1,6 @@
 // The door of every call: the number by which the book is refused, or 0.
+#![tactic(auto)]
+
 ghost use Rattle.std.specs.Prelude.{◌≡◌};
 ghost use Rattle.part_door.specs.Door.{door_number};
 

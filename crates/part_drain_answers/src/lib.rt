@@ -1,4 +1,6 @@
 // What a drain answers: the submissions handed out, the candidates that failed, and the book.
+#![tactic(auto)]
+
 ghost use Rattle.std.specs.Prelude.{◌≡◌};
 ghost use Rattle.rules.specs.Call.{removes, retained_id, stage_of as stageBy};
 ghost use Rattle.rules.specs.Rule.{undone};
@@ -10,7 +12,7 @@ use book_answers::{
 };
 use part_replies::CallAnswer;
 
-#[derive(Drop)]
+#[derive(Clone, Copy)]
 pub struct DrainReply {
     pub answer: CallAnswer,
     pub submission_count: usize,

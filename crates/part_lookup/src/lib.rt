@@ -1,4 +1,6 @@
 // Looking into a book by value: places of submissions, and what stands there.
+#![tactic(auto)]
+
 ghost use Rattle.std.specs.Prelude.{◌≡◌, map, ◌<◌, length, get_or};
 ghost use Rattle.book.specs.Zero.{zero_submitted};
 ghost use Rattle.book.specs.Model.{view, ids16};
@@ -13,14 +15,14 @@ use base_lists::same32;
 use book::{BookData, Ids16, OptionalId, SubmissionId, SubmittedTx, Token};
 
 // A place in a counted array.
-#[derive(Drop)]
+#[derive(Clone, Copy)]
 pub enum Place {
     At(usize),
     Nothing,
 }
 
 // Where an attempt token stands.
-#[derive(Drop)]
+#[derive(Clone, Copy)]
 pub enum AttemptPlace {
     Live(usize),
     SetAside(usize),

@@ -1,4 +1,6 @@
 // Putting one delivery into the queue, offering a retained submission again, and the reply of a call that did so.
+#![tactic(auto)]
+
 ghost use Rattle.std.specs.Prelude.{true, ◌≡◌};
 ghost use Rattle.book.specs.Model.{view};
 ghost use Rattle.book.specs.Sound.{sound_delivery, soundb};
@@ -19,7 +21,7 @@ use part_submitted::entry::{active_entry, fee_unresolved};
 use part_submitted::fingerprint::current_variant_acknowledged;
 
 // The queue was full, or else the book that is left.
-#[derive(Drop)]
+#[derive(Clone, Copy)]
 pub struct Offered {
     pub full: bool,
     pub book: BookData,

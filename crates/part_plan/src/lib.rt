@@ -1,4 +1,6 @@
 // What a drain plans for one candidate, as data, and the plan that issues a token. No function here has the book.
+#![tactic(auto)]
+
 ghost use Rattle.std.specs.Prelude.{◌≡◌, ◌≤◌, ◌<◌};
 ghost use Rattle.book.specs.Model.{list16};
 ghost use Rattle.rules.specs.Calls.Plan.{last64};
@@ -15,7 +17,7 @@ use part_submitted::fingerprint::current_variant_fingerprint;
 
 // What becomes of a candidate: passed over, or a failure that leaves the book, or one that removes its submission; its submission is
 // stored without a token, or with the next token.
-#[derive(Drop)]
+#[derive(Clone, Copy)]
 pub enum PlanAction {
     Passed,
     Failed,
@@ -25,7 +27,7 @@ pub enum PlanAction {
 }
 
 // The book would be full; or the submission is stored where no token is left; or the candidate is planned.
-#[derive(Drop)]
+#[derive(Clone, Copy)]
 pub enum PlanAnswer {
     Full,
     Exhausted,
@@ -33,7 +35,7 @@ pub enum PlanAnswer {
 }
 
 // Where a submission is stored, and the book's numbers with it.
-#[derive(Drop)]
+#[derive(Clone, Copy)]
 pub struct SubmittedPlace {
     pub index: usize,
     pub count: usize,
@@ -42,7 +44,7 @@ pub struct SubmittedPlace {
 }
 
 // What the answer does not use is zero.
-#[derive(Drop)]
+#[derive(Clone, Copy)]
 pub struct SubmissionPlanDelta {
     pub answer: PlanAnswer,
     pub place: SubmittedPlace,

@@ -1,4 +1,6 @@
 // What a drain plans for one candidate, from the submission that it is for and the numbers of the book. No function here has the book.
+#![tactic(auto)]
+
 ghost use Rattle.std.specs.Prelude.{◌≡◌, ◌≤◌, ◌<◌};
 ghost use Rattle.book.specs.Model.{list16, list64, ids64};
 ghost use Rattle.rules.specs.Parts.{intent_of};
@@ -22,7 +24,7 @@ use part_submitted::entry::{active_entry, fee_unresolved, same_fee_intent};
 use part_submitted::fingerprint::{current_variant_acknowledged, validate};
 use part_submitted::revise::tighten;
 
-#[derive(Drop)]
+#[derive(Clone, Copy)]
 pub enum OptionalCause {
     NoCause,
     Of(DrainFailureCause),

@@ -1,4 +1,6 @@
 // The methods of `ReplayEpoch` (replay.rs), on the struct by value.
+#![tactic(auto)]
+
 ghost use Rattle.std.specs.Prelude.{◌≡◌, [], ◌≤◌, length};
 ghost use Rattle.book.specs.Model.{list16};
 ghost use Rattle.book.specs.declared.OptionalHeight.TheVariants.{NoHeight};
@@ -9,13 +11,13 @@ ghost use Rattle.part_replay.specs.Epoch.{Normal, replayed_of, epoch, begun, fin
 use book::{Height, Ids16, OptionalHeight, ReplayEpoch, SubmissionId};
 use part_ids::{empty16, insert16, keep16, remove16};
 
-#[derive(Drop)]
+#[derive(Clone, Copy)]
 pub struct Begun {
     pub started: bool,
     pub epoch: ReplayEpoch,
 }
 
-#[derive(Drop)]
+#[derive(Clone, Copy)]
 pub struct Marked {
     pub added: bool,
     pub epoch: ReplayEpoch,

@@ -1,5 +1,7 @@
 // What the calls of a book answer, beside the book that they leave. A refusal has paper 01's number; what stands beside a refusal is
 // empty. Arrays cannot stand in an enum, so each answer is a struct: whether the call was refused, its value, the book.
+#![tactic(auto)]
+
 ghost use Rattle.std.specs.Prelude.{◌≡◌};
 ghost use Rattle.rules.specs.Rule.{undone};
 ghost use Rattle.part_replies.specs.Reply.{done_reply, ids_reply};
@@ -7,55 +9,55 @@ ghost use Rattle.part_replies.specs.Reply.{done_reply, ids_reply};
 use book::{BookData, Ids64, OptionalAttempt, OptionalHeight, SubmissionFeeIntent};
 use book_answers::{BookSummary, FinalizedSubmission, SubmissionAttemptStatus, SubmissionLook};
 
-#[derive(Drop)]
+#[derive(Clone, Copy)]
 pub enum CallAnswer {
     Done,
     Refused(u8),
 }
 
 // A call without a value.
-#[derive(Drop)]
+#[derive(Clone, Copy)]
 pub struct DoneReply {
     pub answer: CallAnswer,
     pub book: BookData,
 }
 
-#[derive(Drop)]
+#[derive(Clone, Copy)]
 pub struct StatusReply {
     pub answer: CallAnswer,
     pub status: SubmissionAttemptStatus,
     pub book: BookData,
 }
 
-#[derive(Drop)]
+#[derive(Clone, Copy)]
 pub struct IdsReply {
     pub answer: CallAnswer,
     pub ids: Ids64,
     pub book: BookData,
 }
 
-#[derive(Drop)]
+#[derive(Clone, Copy)]
 pub struct FlagReply {
     pub answer: CallAnswer,
     pub flag: bool,
     pub book: BookData,
 }
 
-#[derive(Drop)]
+#[derive(Clone, Copy)]
 pub struct HeightReply {
     pub answer: CallAnswer,
     pub height: OptionalHeight,
     pub book: BookData,
 }
 
-#[derive(Drop)]
+#[derive(Clone, Copy)]
 pub struct AttemptReply {
     pub answer: CallAnswer,
     pub attempt: OptionalAttempt,
     pub book: BookData,
 }
 
-#[derive(Drop)]
+#[derive(Clone, Copy)]
 pub struct LookReply {
     pub answer: CallAnswer,
     pub present: bool,
@@ -63,14 +65,14 @@ pub struct LookReply {
     pub book: BookData,
 }
 
-#[derive(Drop)]
+#[derive(Clone, Copy)]
 pub struct SummaryReply {
     pub answer: CallAnswer,
     pub summary: BookSummary,
     pub book: BookData,
 }
 
-#[derive(Drop)]
+#[derive(Clone, Copy)]
 pub struct FeeIntentReply {
     pub answer: CallAnswer,
     pub present: bool,
@@ -78,7 +80,7 @@ pub struct FeeIntentReply {
     pub book: BookData,
 }
 
-#[derive(Drop)]
+#[derive(Clone, Copy)]
 pub struct FinalizeReply {
     pub answer: CallAnswer,
     pub present: bool,
@@ -87,7 +89,7 @@ pub struct FinalizeReply {
 }
 
 // A call that wrote its value into a lent buffer: the bytes written.
-#[derive(Drop)]
+#[derive(Clone, Copy)]
 pub struct WrittenReply {
     pub answer: CallAnswer,
     pub length: usize,

@@ -1,4 +1,6 @@
 // The two attempt slots of a submission: what issuing, setting aside and finalising make of them.
+#![tactic(auto)]
+
 ghost use Rattle.std.specs.Prelude.{◌≡◌};
 ghost use Rattle.rules.specs.Steps.Slots.{present, issue_attempt, taken as taken_of, slots_issued, slots_aside, slots_final, resolved, relationship_to};
 ghost use Rattle.rules.specs.Calls.Common.{has_token};

@@ -1,4 +1,6 @@
 // What the calls that withdraw submissions share.
+#![tactic(auto)]
+
 ghost use Rattle.std.specs.Prelude.{◌≡◌, true, ◌≤◌};
 ghost use Rattle.book.specs.Model.{view, list16};
 ghost use Rattle.book.specs.Sound.{soundb};
@@ -10,7 +12,7 @@ use book::{BookData, Ids16, SubmissionId};
 use part_change::{Retired, remove_submitted, retire};
 
 // The book without the submissions that were withdrawn; full where a retirement would be a 65th, and then the book is one under way.
-#[derive(Drop)]
+#[derive(Clone, Copy)]
 pub struct Withdrawn {
     pub full: bool,
     pub book: BookData,

@@ -1,5 +1,7 @@
 // What the calls that write into a lent buffer share. The size is known before the first byte is written, so a refused call leaves the
 // buffer as it was.
+#![tactic(auto)]
+
 ghost use Rattle.std.specs.Prelude.{◌≡◌, true, ◌++◌, ◌≤◌, length};
 ghost use Rattle.codec_forms.specs.Wire.{be};
 ghost use Rattle.book.specs.Model.{view};

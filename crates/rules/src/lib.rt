@@ -1,1 +1,2 @@
 // The rules of every call on a book; definitions only.
+#![tactic(auto)]

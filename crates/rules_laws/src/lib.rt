@@ -1,1 +1,2 @@
 // Laws of the rules of every call; theorems only.
+#![tactic(auto)]

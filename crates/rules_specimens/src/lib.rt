@@ -1,1 +1,2 @@
 // The specimens of the papers, by computation; theorems only.
+#![tactic(auto)]

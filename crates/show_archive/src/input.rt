@@ -1,7 +1,7 @@
 // Reading to the end of the input or of the room, and telling an error from the end.
 
 // The first `count` bytes of the room were read; `more` says that the input goes on behind them.
-#[derive(Drop)]
+#[derive(Clone, Copy)]
 pub struct Got {
     pub failed: bool,
     pub more: bool,

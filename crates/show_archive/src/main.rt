@@ -1,5 +1,7 @@
 // Shows an archive of a submission book (docs/ARCHIVE.md) as text, the payments on top, from the file that the argument names or from standard input. With
 // --hex in front, the archive's bytes too.
+#![tactic(auto)]
+
 mod dump;
 mod input;
 mod refusal;

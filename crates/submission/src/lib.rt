@@ -1,4 +1,6 @@
 // `SubmissionBook` by value, one method a call: self in, the next book back beside the answer. No method asks anything of its input.
+#![tactic(auto)]
+
 mod refused;
 
 ghost use Rattle.std.specs.Prelude.{◌≡◌, length};
@@ -56,53 +58,53 @@ use part_replies::{
     IdsReply, LookReply, StatusReply, SummaryReply, WrittenReply,
 };
 
-#[derive(Drop)]
+#[derive(Clone, Copy)]
 pub struct SubmissionBook {
     pub parts: BookData,
 }
 
-#[derive(Drop)]
+#[derive(Clone, Copy)]
 pub struct DoneAnswer {
     pub answer: CallAnswer,
     pub book: SubmissionBook,
 }
 
-#[derive(Drop)]
+#[derive(Clone, Copy)]
 pub struct StatusAnswer {
     pub answer: CallAnswer,
     pub status: SubmissionAttemptStatus,
     pub book: SubmissionBook,
 }
 
-#[derive(Drop)]
+#[derive(Clone, Copy)]
 pub struct IdsAnswer {
     pub answer: CallAnswer,
     pub ids: Ids64,
     pub book: SubmissionBook,
 }
 
-#[derive(Drop)]
+#[derive(Clone, Copy)]
 pub struct FlagAnswer {
     pub answer: CallAnswer,
     pub flag: bool,
     pub book: SubmissionBook,
 }
 
-#[derive(Drop)]
+#[derive(Clone, Copy)]
 pub struct HeightAnswer {
     pub answer: CallAnswer,
     pub height: OptionalHeight,
     pub book: SubmissionBook,
 }
 
-#[derive(Drop)]
+#[derive(Clone, Copy)]
 pub struct AttemptAnswer {
     pub answer: CallAnswer,
     pub attempt: OptionalAttempt,
     pub book: SubmissionBook,
 }
 
-#[derive(Drop)]
+#[derive(Clone, Copy)]
 pub struct LookAnswer {
     pub answer: CallAnswer,
     pub present: bool,
@@ -110,14 +112,14 @@ pub struct LookAnswer {
     pub book: SubmissionBook,
 }
 
-#[derive(Drop)]
+#[derive(Clone, Copy)]
 pub struct SummaryAnswer {
     pub answer: CallAnswer,
     pub summary: BookSummary,
     pub book: SubmissionBook,
 }
 
-#[derive(Drop)]
+#[derive(Clone, Copy)]
 pub struct FeeIntentAnswer {
     pub answer: CallAnswer,
     pub present: bool,
@@ -125,7 +127,7 @@ pub struct FeeIntentAnswer {
     pub book: SubmissionBook,
 }
 
-#[derive(Drop)]
+#[derive(Clone, Copy)]
 pub struct FinalizeAnswer {
     pub answer: CallAnswer,
     pub present: bool,
@@ -133,14 +135,14 @@ pub struct FinalizeAnswer {
     pub book: SubmissionBook,
 }
 
-#[derive(Drop)]
+#[derive(Clone, Copy)]
 pub struct WrittenAnswer {
     pub answer: CallAnswer,
     pub length: usize,
     pub book: SubmissionBook,
 }
 
-#[derive(Drop)]
+#[derive(Clone, Copy)]
 pub struct DrainAnswer {
     pub answer: CallAnswer,
     pub submission_count: usize,

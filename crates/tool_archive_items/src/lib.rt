@@ -1,7 +1,9 @@
 // The items of an archive in their order (docs/ARCHIVE.md), and which of them starts at a place.
+#![tactic(auto)]
+
 pub mod order;
 
-#[derive(Drop)]
+#[derive(Clone, Copy)]
 pub enum Item {
     NumbersCount,
     NextToken,
@@ -50,7 +52,7 @@ pub enum Item {
 
 // Where in its section an item is. Entries, spends and outputs count from 1. `second` tells the set-aside attempt from the live one, and
 // the fee bundle from the base bundle.
-#[derive(Drop)]
+#[derive(Clone, Copy)]
 pub struct Within {
     pub queue: bool,
     pub second: bool,
@@ -63,14 +65,14 @@ pub struct Within {
     pub coin_len: u8,
 }
 
-#[derive(Drop)]
+#[derive(Clone, Copy)]
 pub struct Position {
     pub item: Item,
     pub within: Within,
 }
 
 // `ok` is false where no item starts at the place.
-#[derive(Drop)]
+#[derive(Clone, Copy)]
 pub struct Found {
     pub ok: bool,
     pub position: Position,

@@ -4,7 +4,7 @@ use codec_answers::value::refusal_number;
 use submission::{DoneAnswer, SubmissionBook};
 
 // Whether the script goes on, the position behind the call, and the book.
-#[derive(Drop)]
+#[derive(Clone, Copy)]
 pub struct Step {
     pub ok: bool,
     pub at: usize,

@@ -5,7 +5,7 @@ ghost use Rattle.std.specs.Prelude.{◌≤◌, length};
 const LONGEST_CALL: usize = 655364;
 
 // The bytes in hand: those of the room from `at` up to `end`.
-#[derive(Drop)]
+#[derive(Clone, Copy)]
 pub struct InHand {
     pub at: usize,
     pub end: usize,

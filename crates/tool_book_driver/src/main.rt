@@ -1,4 +1,6 @@
 // Plays a call script (docs/DRIVER.md) from standard input on one book, and writes what each call answered.
+#![tactic(auto)]
+
 mod archive_ops;
 mod buffer_ops;
 mod done_ops;
@@ -18,7 +20,7 @@ use submission::SubmissionBook;
 use tool_script::kind::{read_byte, read_number};
 
 // Whether the script goes on, the bytes in hand, and the book.
-#[derive(Drop)]
+#[derive(Clone, Copy)]
 struct Played {
     going: bool,
     at: usize,

@@ -1,4 +1,6 @@
 // A book as text on standard output: the payments on top, then section by section.
+#![tactic(auto)]
+
 ghost use Rattle.std.specs.Prelude.{◌≤◌};
 
 use base_lists::at_most;
@@ -40,7 +42,7 @@ fn one_if(present: bool) -> u64
     if present { 1 } else { 0 }
 }
 
-#[derive(Drop)]
+#[derive(Clone, Copy)]
 struct Slots {
     live: u64,
     set_aside: u64,

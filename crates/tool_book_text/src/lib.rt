@@ -1,10 +1,12 @@
 // Retained submissions, queue entries and lists of a submission book as text, appended to a lent buffer from place `at` on. Each function
 // answers the place behind what it wrote; a part for which there is no room is left out.
+#![tactic(auto)]
+
 pub mod checked;
 pub mod entry;
 
 // The variant fingerprints of a submission, recomputed.
-#[derive(Drop)]
+#[derive(Clone, Copy)]
 pub struct Fingerprints {
     pub base: [u8; 32],
     pub current: [u8; 32],

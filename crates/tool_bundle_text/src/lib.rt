@@ -1,5 +1,7 @@
 // Kinds, coins and bundles of a submission book as text, appended to a lent buffer from place `at` on. Each function answers the place
 // behind what it wrote; a part for which there is no room is left out.
+#![tactic(auto)]
+
 pub mod bundle;
 pub mod coin;
 pub mod words;

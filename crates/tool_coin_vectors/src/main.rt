@@ -1,4 +1,6 @@
 // Writes the amount atom, the coin string and the coin id of coins made of their parts, a coin to a line.
+#![tactic(auto)]
+
 ghost use Rattle.std.specs.Prelude.{◌≤◌, ◌<◌};
 
 const AMOUNTS: [u64; 35] = [

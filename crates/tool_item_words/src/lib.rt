@@ -1,4 +1,6 @@
 // An item in words: what is expected of it, where it is, and its form.
+#![tactic(auto)]
+
 use codec_append::append_bytes;
 use tool_archive_items::{Item, Position, Within};
 use tool_text::append_decimal;
@@ -184,7 +186,7 @@ fn append_run_kind_rule(out: &mut [u8], at: usize, w: Within) -> usize {
 }
 
 // How the bytes of an item are read.
-#[derive(Drop)]
+#[derive(Clone, Copy)]
 pub enum Form {
     Byte,
     Number,
@@ -287,7 +289,7 @@ fn append_output(out: &mut [u8], at: usize, w: Within) -> usize {
 }
 
 // What an item is a part of.
-#[derive(Drop)]
+#[derive(Clone, Copy)]
 enum Part {
     Numbers,
     Attempt,

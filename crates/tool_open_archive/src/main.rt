@@ -1,4 +1,6 @@
 // Reads two 8-byte numbers, the next token and the next submission id, and writes the archive of the book opened with them: 22 bytes.
+#![tactic(auto)]
+
 use archive_write_checked::Wrote;
 use book::{SubmissionId, Token};
 use codec_cursor::read_number;

@@ -1,4 +1,6 @@
 // A payment of a book, for a bookkeeper: the amount that it pays out, its state and its fee; and counts and sums of many.
+#![tactic(auto)]
+
 pub mod amount;
 pub mod counts;
 pub mod payments;
@@ -7,13 +9,13 @@ pub mod text;
 use book::OptionalId;
 
 // A sum of amounts: high times 10^18, and low.
-#[derive(Drop)]
+#[derive(Clone, Copy)]
 pub struct Sum {
     pub high: u64,
     pub low: u64,
 }
 
-#[derive(Drop)]
+#[derive(Clone, Copy)]
 pub enum PaymentState {
     HasLanded,
     HasInputSpent,
@@ -23,7 +25,7 @@ pub enum PaymentState {
     RetainedOnly,
 }
 
-#[derive(Drop)]
+#[derive(Clone, Copy)]
 pub enum PaymentFee {
     Open,
     NoFee,
@@ -31,7 +33,7 @@ pub enum PaymentFee {
 }
 
 // A retained submission, or a queue entry that is to become one.
-#[derive(Drop)]
+#[derive(Clone, Copy)]
 pub struct Payment {
     pub id: OptionalId,
     pub amount: Sum,
@@ -41,7 +43,7 @@ pub struct Payment {
 }
 
 // How many payments are in each state, in the order of the states, and the amounts in all.
-#[derive(Drop)]
+#[derive(Clone, Copy)]
 pub struct Totals {
     pub counts: [u64; 6],
     pub amount: Sum,

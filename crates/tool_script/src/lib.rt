@@ -1,6 +1,8 @@
 // The arguments of a call script (docs/DRIVER.md), read from a slice at a position, which may be any number. In each answer `ok` says
 // that the argument's bytes are there, `fit` that they stand for a value of its type, and `at` is the position behind them. A cell
 // that the type can hold though no call takes it, as an unused byte that is not zero, is handed on: the call's door answers it.
+#![tactic(auto)]
+
 pub mod cells;
 pub mod delivery;
 pub mod kind;
@@ -13,21 +15,21 @@ use book::{
 use book_answers::SubmissionFeeSource;
 
 // Any byte, any number.
-#[derive(Drop)]
+#[derive(Clone, Copy)]
 pub struct ByteArgument {
     pub ok: bool,
     pub value: u8,
     pub at: usize,
 }
 
-#[derive(Drop)]
+#[derive(Clone, Copy)]
 pub struct NumberArgument {
     pub ok: bool,
     pub value: u64,
     pub at: usize,
 }
 
-#[derive(Drop)]
+#[derive(Clone, Copy)]
 pub struct TriggerArgument {
     pub ok: bool,
     pub fit: bool,
@@ -35,7 +37,7 @@ pub struct TriggerArgument {
     pub at: usize,
 }
 
-#[derive(Drop)]
+#[derive(Clone, Copy)]
 pub struct GoalArgument {
     pub ok: bool,
     pub fit: bool,
@@ -43,7 +45,7 @@ pub struct GoalArgument {
     pub at: usize,
 }
 
-#[derive(Drop)]
+#[derive(Clone, Copy)]
 pub struct SourceArgument {
     pub ok: bool,
     pub fit: bool,
@@ -51,7 +53,7 @@ pub struct SourceArgument {
     pub at: usize,
 }
 
-#[derive(Drop)]
+#[derive(Clone, Copy)]
 pub struct FlagArgument {
     pub ok: bool,
     pub fit: bool,
@@ -59,7 +61,7 @@ pub struct FlagArgument {
     pub at: usize,
 }
 
-#[derive(Drop)]
+#[derive(Clone, Copy)]
 pub struct IdArgument {
     pub ok: bool,
     pub fit: bool,
@@ -67,7 +69,7 @@ pub struct IdArgument {
     pub at: usize,
 }
 
-#[derive(Drop)]
+#[derive(Clone, Copy)]
 pub struct ExpiryArgument {
     pub ok: bool,
     pub fit: bool,
@@ -75,7 +77,7 @@ pub struct ExpiryArgument {
     pub at: usize,
 }
 
-#[derive(Drop)]
+#[derive(Clone, Copy)]
 pub struct FeeIntentArgument {
     pub ok: bool,
     pub fit: bool,
@@ -83,19 +85,19 @@ pub struct FeeIntentArgument {
     pub at: usize,
 }
 
-#[derive(Drop)]
+#[derive(Clone, Copy)]
 pub struct SpendCell {
     pub fit: bool,
     pub value: CoinSpend,
 }
 
-#[derive(Drop)]
+#[derive(Clone, Copy)]
 pub struct SpendCells {
     pub fit: bool,
     pub value: [CoinSpend; 4],
 }
 
-#[derive(Drop)]
+#[derive(Clone, Copy)]
 pub struct BundleArgument {
     pub ok: bool,
     pub fit: bool,
@@ -103,7 +105,7 @@ pub struct BundleArgument {
     pub at: usize,
 }
 
-#[derive(Drop)]
+#[derive(Clone, Copy)]
 pub struct DeliveryArgument {
     pub ok: bool,
     pub fit: bool,
@@ -112,7 +114,7 @@ pub struct DeliveryArgument {
 }
 
 // The first 65 ids at most: a call refuses more than 64 whatever they are.
-#[derive(Drop)]
+#[derive(Clone, Copy)]
 pub struct IdsArgument {
     pub ok: bool,
     pub count: usize,
@@ -121,7 +123,7 @@ pub struct IdsArgument {
 }
 
 // The length of a byte run or of a buffer, at most 65,536: a longer one ends the run of the script, so it is not `ok`.
-#[derive(Drop)]
+#[derive(Clone, Copy)]
 pub struct LengthArgument {
     pub ok: bool,
     pub value: usize,
@@ -129,7 +131,7 @@ pub struct LengthArgument {
 }
 
 // The bytes of the script from `from` up to `at`. They are none where it is not `ok`.
-#[derive(Drop)]
+#[derive(Clone, Copy)]
 pub struct BytesArgument {
     pub ok: bool,
     pub from: usize,

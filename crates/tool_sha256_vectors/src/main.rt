@@ -1,4 +1,6 @@
 // Writes SHA-256 digests, one to a line: of the published examples, then of messages of 0 to 130 bytes.
+#![tactic(auto)]
+
 ghost use Rattle.std.specs.Prelude.{◌≤◌};
 
 fn newline() {

@@ -1,5 +1,7 @@
 // Numbers and bytes as text, appended to a lent buffer from place `at` on. Each function answers the place behind what it wrote;
 // a part for which there is no room is left out.
+#![tactic(auto)]
+
 ghost use Rattle.std.specs.Prelude.{◌≡◌, ◌≤◌, ◌<◌, ◌++◌, length, drop};
 ghost use Rattle.codec_append.specs.Fits.{Fits};
 ghost use Rattle.tool_text.specs.Numbers.{digit, decimal, hex_byte, hex, spaced_byte, spaced_hex, number_line, hex_line};
