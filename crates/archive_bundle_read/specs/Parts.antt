@@ -5,9 +5,7 @@ use Rattle.std.proofs.Common.{ap, arith}
 use Rattle.codec_forms.specs.Wire.{run, number, up_to}
 use Rattle.codec_cursor.specs.Cursor.{Reads, reads_then, ends}
 use Rattle.book.specs.Zero.{zeros}
-use Rattle.book.specs.declared.FeeIntentKind.{FeeIntentKind}
 use Rattle.book.specs.declared.FeeIntentKind.TheVariants.{AlreadyPaid, NoFeeConfigured, Attach}
-use Rattle.book.specs.declared.SubmissionFeeIntent.{SubmissionFeeIntent}
 use Rattle.archive_form.specs.Parse.{parse_attached, parse_fee_intent}
 
 module _ {s : List ℕ} {c m k : ℕ} (h : Reads (up_to 2) s c k m) where

@@ -1,6 +1,6 @@
 -- The run of a spend as the code reads it.
-use Rattle.std.specs.Prelude.{ℕ, zero, suc, ◌≤◌, ◌≡◌, refl, Bool, true, false, not, ◌||◌, List, [], length, take, replicate, leb}
-use Rattle.std.proofs.Common.{sym, ap, ◌∙◌, arith, le-leb}
+use Rattle.std.specs.Prelude.{ℕ, zero, suc, ◌≡◌, refl, Bool, true, false, not, ◌||◌, List, length, take, replicate, leb}
+use Rattle.std.proofs.Common.{sym, ap, arith, le-leb}
 use Rattle.base_lists.specs.Lists.{cells}
 use Rattle.codec_forms.specs.Wire.{Parser, ◌>>=◌, done, list_of, chosen, optional_by}
 use Rattle.codec_cursor.specs.Cursor.{Reads, passed, reads_then, reads_checked, ends}

@@ -1,6 +1,6 @@
 -- The forms by cases, as the writers meet them.
-use Rattle.std.specs.Prelude.{◌≡◌, refl, Bool, true, false, List, [], ◌++◌, ℕ, ◌<◌, ◌≤◌, length}
-use Rattle.std.proofs.Common.{sym, ap, ◌∙◌, append-nil, append_assoc, arith}
+use Rattle.std.specs.Prelude.{◌≡◌, Bool, true, false, List, ◌++◌, ◌<◌, ◌≤◌, length}
+use Rattle.std.proofs.Common.{sym, ap, append-nil, append_assoc, arith}
 use Rattle.codec_forms.specs.Wire.{be, enc_many}
 use Rattle.book.specs.declared.Output.{Output}
 use Rattle.book.specs.declared.Height.{Height}

@@ -1,5 +1,5 @@
 -- The amount atom (paper: "shortest big-endian two's complement of a u64; 0 is empty").
-use Rattle.std.specs.Prelude.{◌≡◌, refl, Bool, cond, List, [], ◌∷◌, ℕ, zero, suc, ◌+◌, ◌-◌, ◌*◌, ◌/◌, ◌%◌, ◌^◌, ltb}
+use Rattle.std.specs.Prelude.{◌≡◌, refl, cond, List, [], ◌∷◌, ℕ, zero, suc, ◌+◌, ◌-◌, ◌*◌, ◌/◌, ◌%◌, ◌^◌, ltb}
 
 -- the numbers from 0 on that k bytes of two's complement hold are those below bound k: 7 bits of the first byte and 8 of each other; no bytes hold 0
 abbrev pub bound : ℕ → ℕ

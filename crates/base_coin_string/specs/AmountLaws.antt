@@ -1,6 +1,6 @@
 -- The amount atom is two's complement, and the shortest; what the code's steps use of it.
-use Rattle.std.specs.Prelude.{◌≡◌, refl, Bool, true, false, cond, List, [], ◌∷◌, ℕ, zero, suc, ◌+◌, ◌-◌, ◌*◌, ◌/◌, ◌%◌, ◌^◌, ◌≤◌, ◌<◌, ltb, length, take, drop}
-use Rattle.std.proofs.Common.{sym, ap, ◌∙◌, subst, add-zero, zero-add, le_refl, arith, ltb-true, ltb-false}
+use Rattle.std.specs.Prelude.{◌≡◌, refl, Bool, true, false, cond, List, ℕ, zero, suc, ◌+◌, ◌-◌, ◌*◌, ◌^◌, ◌≤◌, ◌<◌, ltb, length, take, drop}
+use Rattle.std.proofs.Common.{ap, ◌∙◌, subst, add-zero, zero-add, le_refl, arith, ltb-true, ltb-false}
 use Rattle.std.proofs.Math.Nat.{pow-le-pow_right}
 use Rattle.base_lists.specs.Laws.{array_part}
 use Rattle.base_coin_string.specs.Amount.{bound, fewest, atom_length, big_endian, atom_of}

@@ -1,6 +1,6 @@
 -- A coin string, its cell of 73 bytes, and its id.
-use Rattle.std.specs.Prelude.{◌≡◌, refl, List, [], ◌∷◌, ◌++◌, ℕ, ◌+◌, ◌≤◌, length, take}
-use Rattle.std.proofs.Common.{sym, ap, ◌∙◌, arith, length-append}
+use Rattle.std.specs.Prelude.{◌≡◌, List, ◌++◌, ℕ, ◌+◌, ◌≤◌, length, take}
+use Rattle.std.proofs.Common.{ap, ◌∙◌, arith, length-append}
 use Rattle.base_lists.specs.Lists.{cells}
 use Rattle.base_lists.specs.Laws.{take_cells}
 use Rattle.base_sha256.specs.Fips.{sha256_of}

@@ -1,6 +1,6 @@
 -- Coin ids listed in bytes, 32 for each.
-use Rattle.std.specs.Prelude.{◌≡◌, refl, Bool, ◌&&◌, List, [], ◌∷◌, ℕ, zero, suc, ◌+◌, ◌-◌, ◌*◌, ◌/◌, ◌%◌, ◌≤◌, ◌<◌, eqb, leb, length, take, drop}
-use Rattle.std.proofs.Common.{sym, ap, ◌∙◌, arith, drop-drop}
+use Rattle.std.specs.Prelude.{◌≡◌, refl, Bool, ◌&&◌, List, [], ◌∷◌, ℕ, zero, suc, ◌+◌, ◌-◌, ◌/◌, ◌%◌, ◌≤◌, ◌<◌, eqb, leb, length, take, drop}
+use Rattle.std.proofs.Common.{arith, drop-drop}
 
 -- what refusal 2 asks of coin ids: "0 to 800 times 32 bytes"
 abbrev pub id_listb : List ℕ → Bool

@@ -1,6 +1,5 @@
 -- The order of byte lists, as Rust orders `Vec<u8>`: by the first byte that differs, and a beginning before what goes on.
-use Rattle.std.specs.Prelude.{◌≡◌, refl, Bool, true, false, cond, List, [], ◌∷◌, ℕ, ◌<◌, ◌≤◌, ltb}
-use Rattle.std.proofs.Common.{sym, ap, ◌∙◌}
+use Rattle.std.specs.Prelude.{◌≡◌, refl, cond, List, [], ◌∷◌, ℕ, ltb}
 use Rattle.base_coin_string.specs.declared.CoinString.{CoinString}
 use Rattle.base_coin_string.specs.Coin.{coin_bytes}
 use Rattle.base_coin_string.specs.declared.Ordering.{Ordering}

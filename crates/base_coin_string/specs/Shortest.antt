@@ -1,5 +1,5 @@
 -- The amount atom is the amount in two's complement, and no shorter list of bytes is.
-use Rattle.std.specs.Prelude.{◌≡◌, refl, Bool, true, false, cond, List, [], ◌∷◌, ℕ, zero, suc, ◌+◌, ◌-◌, ◌*◌, ◌/◌, ◌%◌, ◌^◌, ◌≤◌, ◌<◌, ltb, length}
+use Rattle.std.specs.Prelude.{◌≡◌, refl, Bool, true, false, cond, List, [], ◌∷◌, ℕ, zero, suc, ◌+◌, ◌*◌, ◌/◌, ◌%◌, ◌^◌, ◌≤◌, ◌<◌, ltb, length}
 use Rattle.std.proofs.Common.{sym, ap, ◌∙◌, subst, mul-le-mul_right, mod-eq_of_lt, add-zero, pow-add, pow_mono, shr_lt, arith, ltb-true, lt-ltb}
 use Rattle.std.proofs.Math.Nat.{mod-one}
 use Rattle.std.proofs.lemmas.Nat.{mod-pow-add}

@@ -1,6 +1,6 @@
 -- A book of two numbers and zero cells is the one that the rules open.
-use Rattle.std.specs.Prelude.{◌≡◌, refl, ℕ, replicate}
-use Rattle.std.proofs.Common.{sym, ap, ◌∙◌}
+use Rattle.std.specs.Prelude.{◌≡◌, refl, replicate}
+use Rattle.std.proofs.Common.{◌∙◌}
 use Rattle.book.specs.Model.{back}
 use Rattle.book.specs.Zero.{zero_submitted, zero_delivery}
 use Rattle.book.specs.declared.Token.{Token}

@@ -5,7 +5,7 @@ use Rattle.std.proofs.lemmas.Bool.{not-true, not-false}
 use Rattle.base_lists.specs.Laws.{take_cut, part_to_end}
 use Rattle.codec_forms.specs.Wire.{be, enc_many, enc_opt}
 use Rattle.codec_forms.specs.Number.{be_length}
-use Rattle.codec_forms.specs.Puts.{Puts, Room, room_first, room_next, puts_join, puts_long, splice, splice_none, many_suc, rest_room, rest_puts}
+use Rattle.codec_forms.specs.Puts.{Puts, Room, room_first, room_next, puts_join, puts_long, splice_none, many_suc, rest_room, rest_puts}
 
 -- where l has room in d from place `at` on, it is written there, d is d' then and e the place behind it; in any case no place leaves the buffer
 pub record Fits (l : List ℕ) (at : ℕ) (d d' : List ℕ) (e : ℕ) : Type 0 where

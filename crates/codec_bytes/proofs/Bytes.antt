@@ -1,17 +1,16 @@
 -- What the loop over bytes comes to, and the test of the room.
-use Prim.Native.Nat.{ℕ, zero, suc, ◌+◌, ◌-◌, ◌*◌, ◌/◌, ◌%◌, ◌^◌, ◌≤◌, ◌<◌}
-use mathlib.Core.Path.{◌≡◌, refl, sym, ap, ◌∙◌, subst}
+use Prim.Native.Nat.{ℕ, zero, suc, ◌+◌, ◌-◌, ◌≤◌, ◌<◌}
+use mathlib.Core.Path.{◌≡◌, refl, sym, ap, ◌∙◌}
 use mathlib.Core.Bool.{Bool, true, false}
-use mathlib.Core.List.{List, [], ◌∷◌, ◌++◌, append_assoc}
-use native.Mathlib.Nat.{add-zero, pow-suc, pow-le-pow_right, le_of_suc-le-suc, not-suc-le-zero}
+use mathlib.Core.List.{List, [], ◌∷◌, ◌++◌}
+use native.Mathlib.Nat.{le_of_suc-le-suc, not-suc-le-zero}
 use native.Mathlib.Numerals.{add-one}
 use native.Mathlib.Omega.{arith}
 use lib.ListN.{length, get_or, take, drop, set}
-use lib.Seq.{set_split, drop_at, length-take-le, drop-cons, take_all}
-use lib.Dec.{leb, lit<}
+use lib.Seq.{take_all}
+use lib.Dec.{leb}
 use borrow.Author.Tests.{le-leb, lt-leb, leb-true, leb-false}
-use Rattle.codec_forms.specs.Wire.{be, be_from, overlay}
-use Rattle.codec_forms.specs.Number.{be_length}
+use Rattle.codec_forms.specs.Wire.{overlay}
 use Rattle.codec_bytes.specs.Writing.{Wrote}
 
 -- ---- a copy

@@ -1,10 +1,10 @@
 -- What each parser of `wire` finds behind the test of the room, and behind what the parser before it found.
-use Rattle.std.specs.Prelude.{ℕ, zero, suc, ◌+◌, ◌-◌, ◌≤◌, ◌<◌, ◌≡◌, refl, Bool, true, false, not, List, ◌++◌, length, get_or, take, drop, replicate, leb}
-use Rattle.std.proofs.Common.{sym, ap, ◌∙◌, subst, append-nil, arith, length-drop, length-take, drop-cons, le-leb, leb-true}
+use Rattle.std.specs.Prelude.{ℕ, zero, suc, ◌+◌, ◌-◌, ◌≤◌, ◌<◌, ◌≡◌, Bool, true, false, not, List, ◌++◌, length, get_or, take, drop, replicate, leb}
+use Rattle.std.proofs.Common.{sym, ap, ◌∙◌, append-nil, arith, length-drop, length-take, drop-cons, le-leb, leb-true}
 use Rattle.std.proofs.Math.Nat.{sub-zero}
 use Rattle.std.proofs.lemmas.Bool.{lt-leb, not-true, not-false}
 use Rattle.base_lists.specs.Lists.{cells}
-use Rattle.codec_forms.specs.Wire.{Ans, got, bad, and_then, Parser, ◌>>=◌, pick, run, be_from, number, checked, up_to, chosen, optional, overlay}
+use Rattle.codec_forms.specs.Wire.{Ans, got, bad, and_then, Parser, ◌>>=◌, run, be_from, number, checked, up_to, overlay}
 
 -- ---- one parser and then the next
 pub then_bad : {A B : Type 0} (p : Parser A) (k : A → Parser B) (s : List ℕ) (at : ℕ) {e : ℕ} → p s at ≡ bad e → (p >>= k) s at ≡ bad e

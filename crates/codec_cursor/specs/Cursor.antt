@@ -2,8 +2,8 @@
 -- A reader moves the cursor and hands out a value; from a refusal nothing is read, so that readers stand one behind the other without a test.
 use Prim.Native.Nat.{ℕ, zero, suc, ◌+◌, ◌-◌, ◌≤◌, ◌<◌}
 use Rattle.std.specs.Prelude.{◌≡◌, refl, Bool, true, false, List, ltb}
-use Rattle.std.proofs.Common.{sym, ap, ◌∙◌, subst, arith, lt-ltb, le-ltb}
-use Rattle.codec_forms.specs.Wire.{Ans, got, bad, and_then, Parser, ◌>>=◌, done, pick, up_to, checked, mapped, chosen, optional, optional_by}
+use Rattle.std.proofs.Common.{sym, ap, ◌∙◌, arith, lt-ltb, le-ltb}
+use Rattle.codec_forms.specs.Wire.{Ans, got, bad, and_then, Parser, ◌>>=◌, done, pick, up_to, checked, mapped, chosen, optional}
 
 -- longer than any slice
 abbrev pub far : ℕ

@@ -1,9 +1,9 @@
 -- Items of archive forms as the code reads them: bytes, numbers, counts.
 use Rattle.std.specs.Prelude.{ℕ, ◌+◌, ◌-◌, ◌≤◌, ◌<◌, ◌≡◌, refl, Bool, true, false, not, List, [], length, get_or, take, drop, replicate, ltb, leb}
-use Rattle.std.proofs.Common.{sym, ap, ◌∙◌, arith, length-take, length-drop, take_at, lt-ltb, le-ltb, ltb-true}
+use Rattle.std.proofs.Common.{sym, ap, ◌∙◌, arith, length-take, length-drop, take_at, lt-ltb}
 use Rattle.base_lists.specs.Lists.{cells}
-use Rattle.codec_forms.specs.Wire.{Ans, got, bad, Parser, pick, run, number, be_from, up_to, counted, overlay}
-use Rattle.codec_bytes.specs.Reading.{run_short, run_got, hash_got, has_long, number_short, number_got, up_to_short, up_to_over, up_to_got, overlay_cells}
+use Rattle.codec_forms.specs.Wire.{got, bad, Parser, pick, run, number, be_from, up_to, counted, overlay}
+use Rattle.codec_bytes.specs.Reading.{run_short, run_got, hash_got, number_short, number_got, up_to_short, up_to_over, up_to_got, overlay_cells}
 use Rattle.codec_cursor.specs.Cursor.{far, stands, refused_at, refused_is, Reads, reads_then}
 
 module _ {A : Type 0} (p : Parser A) (s : List ℕ) (c : ℕ) (v : A) where

@@ -5,7 +5,7 @@ use Rattle.std.proofs.Common.{sym, ◌∙◌, subst, arith, take-append-drop, le
 use Rattle.std.proofs.Math.Path.{ap}
 use mathlib.Core.List.{List, [], ◌∷◌, ◌++◌, append-nil}
 use Rattle.std.proofs.Math.ListN.{get_or, drop}
-use Rattle.codec_forms.specs.Wire.{Ans, got, bad, and_then, Parser, ◌>>=◌, done, pick, run, be, be_from, number, checked, up_to, mapped, chosen, optional_by, optional, many_from, counted, list_from, end, enc_many, enc_list, enc_opt}
+use Rattle.codec_forms.specs.Wire.{Ans, got, bad, and_then, Parser, pick, run, be, be_from, number, checked, up_to, mapped, chosen, optional_by, optional, many_from, counted, list_from, end, enc_many, enc_list, enc_opt}
 use Rattle.codec_forms.specs.Lawful.{Lawful, Spans, IsBytes, step, finish, recode, regood, bad_got}
 use Rattle.codec_forms.specs.Number.{be_length, from_be, be_from_lem, from_bound, bytes_take, be_bytes}
 

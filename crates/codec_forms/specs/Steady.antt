@@ -1,7 +1,7 @@
 -- Where a parser refuses: never before it starts nor past the end, and what it found before a place hangs on the bytes before that place alone.
-use Rattle.std.specs.Prelude.{ℕ, zero, suc, ◌+◌, ◌≤◌, ◌<◌, min, ◌≡◌, Bool, true, false, List, [], ◌∷◌, ◌++◌, length, take, drop, leb}
+use Rattle.std.specs.Prelude.{ℕ, zero, suc, ◌+◌, ◌≤◌, ◌≡◌, Bool, true, false, List, [], ◌∷◌, ◌++◌, length, take, drop, leb}
 use Rattle.std.proofs.Math.Path.{refl, ap}
-use Rattle.std.proofs.Common.{sym, ◌∙◌, subst, le_refl, length-take, take-take, take-add, drop_at, length-take-le, le-leb, leb-true}
+use Rattle.std.proofs.Common.{sym, ◌∙◌, subst, length-take, take-take, take-add, drop_at, length-take-le, le-leb, leb-true}
 use Rattle.std.proofs.Math.Decide.{dec_le}
 use native.Mathlib.Omega.{arith}
 use Rattle.codec_forms.specs.Wire.{Ans, got, bad, and_then, Parser, ◌>>=◌, done, pick, run, number, be_from, checked, up_to, mapped, chosen, optional_by, optional, many_from, counted, list_from, end}
