@@ -1,9 +1,9 @@
 -- A retained submission as it is read after others, of which only the ids and the tokens matter.
-use Rattle.std.specs.Prelude.{ℕ, ◌≡◌, refl, Bool, true, false, not, cond, ◌&&◌, ◌||◌, List, [], ◌∷◌, ◌++◌, map, eqb}
+use Rattle.std.specs.Prelude.{ℕ, ◌≡◌, refl, Bool, true, false, cond, ◌&&◌, ◌||◌, List, [], ◌∷◌, ◌++◌, map, eqb}
 use Rattle.std.proofs.Common.{sym, ap, ◌∙◌, subst, append-nil}
 use Rattle.base_lists.specs.Laws.{elem_append}
 use Rattle.base_lists.specs.Lists.{elemb, flat_map}
-use Rattle.codec_forms.specs.Wire.{Ans, Parser, ◌>>=◌, done, checked, number}
+use Rattle.codec_forms.specs.Wire.{Parser, ◌>>=◌, done}
 use Rattle.codec_cursor.specs.Cursor.{Reads}
 use Rattle.book.specs.Zero.{no_attempt}
 use Rattle.book.specs.Sound.{id_of, attempt_token, tokens_of}

@@ -1,9 +1,9 @@
 -- What stands at the start of a buffer after a part was written there.
-use Rattle.std.specs.Prelude.{◌≡◌, refl, List, [], ◌++◌, ℕ, ◌+◌, ◌-◌, ◌≤◌, length, take, drop}
-use Rattle.std.proofs.Common.{sym, ap, ◌∙◌, arith, length-append, take_at}
+use Rattle.std.specs.Prelude.{◌≡◌, List, ℕ, ◌-◌, ◌≤◌, length, take, drop}
+use Rattle.std.proofs.Common.{sym, ap, ◌∙◌, arith, take_at}
 use Rattle.std.proofs.Math.Nat.{sub-zero}
 use Rattle.codec_forms.specs.Wire.{overlay}
-use Rattle.codec_forms.specs.Puts.{Room, Puts, Size, size_join, puts_overlay}
+use Rattle.codec_forms.specs.Puts.{Room, Puts, Size, puts_overlay}
 
 -- room for l at the start of a buffer that is long enough for any such part
 pub room_at_start : {l d : List ℕ} {most r : ℕ} → Size l most r → most ≤ length d → Room l 0 d

@@ -1,9 +1,9 @@
 -- What the reader of an archive answers.
-use Rattle.std.specs.Prelude.{ℕ, zero, ◌-◌, ◌≤◌, ◌<◌, ◌≡◌, refl, Bool, true, false, cond, List, [], map, length, take, ltb, leb}
+use Rattle.std.specs.Prelude.{ℕ, ◌-◌, ◌≤◌, ◌<◌, ◌≡◌, true, false, cond, List, [], map, length, take}
 use Rattle.std.proofs.Math.Path.{sym, ap}
 use Rattle.std.proofs.Common.{◌∙◌, subst, le-leb, lt-ltb, le-ltb, arith}
 use Rattle.std.proofs.lemmas.Bool.{lt-leb}
-use Rattle.codec_forms.specs.Wire.{Ans, got, bad, pick, and_then, list_from, end}
+use Rattle.codec_forms.specs.Wire.{Ans, got, bad, and_then, list_from, end}
 use Rattle.codec_cursor.specs.Cursor.{far, Reads, reads_then, ends}
 use Rattle.codec_cursor.specs.Cells.{ReadsCells}
 use Rattle.book.specs.Zero.{zero_delivery}

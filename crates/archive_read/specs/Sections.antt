@@ -1,11 +1,11 @@
 -- The sections as the code reads them.
-use Rattle.std.specs.Prelude.{ℕ, zero, suc, ◌+◌, ◌-◌, ◌≤◌, ◌<◌, ◌≡◌, refl, Bool, true, false, cond, List, [], ◌∷◌, ◌++◌, map, length, get_or, take, set, replicate, eqb, leb, ltb}
+use Rattle.std.specs.Prelude.{ℕ, suc, ◌+◌, ◌-◌, ◌≤◌, ◌<◌, ◌≡◌, refl, Bool, true, false, cond, List, [], ◌∷◌, ◌++◌, map, length, get_or, take, set, replicate, eqb, leb, ltb}
 use Rattle.std.proofs.Common.{sym, ap, ◌∙◌, subst, append_assoc, append-nil, add-zero, add-one, arith, length-set, take-suc, take-suc-set, ne_eqb, leb-false}
-use Rattle.std.proofs.lemmas.List.{map-append, length-replicate, take-set-le}
+use Rattle.std.proofs.lemmas.List.{map-append, take-set-le}
 use Rattle.std.proofs.Math.Seq.{take-length}
 use Rattle.base_lists.specs.Lists.{flat_map}
 use Rattle.base_lists.specs.Laws.{flat_append}
-use Rattle.codec_forms.specs.Wire.{Ans, got, bad, and_then, Parser, pick, checked, up_to, number}
+use Rattle.codec_forms.specs.Wire.{Ans, got, bad, and_then, pick, checked, up_to, number}
 use Rattle.codec_cursor.specs.Cursor.{Reads, passed, reads_as, reads_checked}
 use Rattle.codec_cursor.specs.Items.{Counts}
 use Rattle.codec_cursor.specs.Cells.{Filled, filled_list, ReadsCells}

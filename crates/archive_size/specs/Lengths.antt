@@ -1,19 +1,18 @@
 -- How long the parts of an archive are.
-use Rattle.std.specs.Prelude.{◌≡◌, Bool, true, false, List, ◌++◌, ℕ, zero, ◌+◌, ◌*◌, ◌≤◌, min, length, take}
+use Rattle.std.specs.Prelude.{◌≡◌, Bool, true, false, List, ◌++◌, ℕ, ◌+◌, ◌*◌, min, length, take}
 use Rattle.std.proofs.Common.{sym, ap, ◌∙◌, arith, length-append}
 use Rattle.std.proofs.lemmas.Bool.{false≢true}
 use Rattle.archive_form.specs.Lengths.{numbers_size}
 use Rattle.base_lists.specs.Laws.{count_cut}
 use Rattle.codec_forms.specs.Wire.{be, enc_many, enc_list, enc_opt}
 use Rattle.codec_forms.specs.Number.{be_length, numbers_length}
-use Rattle.codec_forms.specs.Puts.{Size, size_as}
+use Rattle.codec_forms.specs.Puts.{Size}
 use Rattle.archive_bundle_form.specs.Forms.{encode_bundle, encode_height, encode_fee_intent}
 use Rattle.book.specs.Zero.{is_no_id}
-use Rattle.book.specs.Model.{view, list16, list64}
+use Rattle.book.specs.Model.{view}
 use Rattle.book.specs.declared.OptionalId.{OptionalId}
 use Rattle.book.specs.declared.OptionalId.TheVariants.{NoId, Of}
 use Rattle.book.specs.declared.OptionalHash.{OptionalHash}
-use Rattle.book.specs.declared.DeliveryAttempt.{DeliveryAttempt}
 use Rattle.book.specs.declared.OptionalAttempt.{OptionalAttempt}
 use Rattle.book.specs.declared.SubmissionBroadcastVariant.{SubmissionBroadcastVariant}
 use Rattle.book.specs.declared.RetainedIntent.{RetainedIntent}

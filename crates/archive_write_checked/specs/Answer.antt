@@ -1,7 +1,7 @@
 -- What writing an archive answers, and what it leaves in the buffer. Paper 01: 1, book not sound; 12, buffer shorter than needed;
 -- a refused call leaves the buffer, and bytes beyond a written answer stay.
-use Rattle.std.specs.Prelude.{◌≡◌, refl, Bool, true, false, List, ℕ, ◌≤◌, ◌<◌, leb, length}
-use Rattle.std.proofs.Common.{sym, ap, ◌∙◌, arith, le-leb}
+use Rattle.std.specs.Prelude.{◌≡◌, Bool, true, false, List, ℕ, ◌≤◌, ◌<◌, leb, length}
+use Rattle.std.proofs.Common.{sym, ap, ◌∙◌, le-leb}
 use Rattle.std.proofs.lemmas.Bool.{lt-leb}
 use Rattle.codec_forms.specs.Wire.{pick, overlay}
 use Rattle.codec_forms.specs.Puts.{Puts, puts_overlay}

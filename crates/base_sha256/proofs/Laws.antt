@@ -1,7 +1,7 @@
 -- Laws of the definitions of specs/, as the proofs of the loops use them. Assumes nothing.
 use mathlib.Core.Path.{◌≡◌, refl, sym, ap, ◌∙◌}
 use mathlib.Core.List.{List, [], ◌∷◌, ◌++◌}
-use Prim.Native.Nat.{ℕ, zero, suc, ◌+◌, ◌-◌, ◌*◌, ◌/◌, ◌%◌, ◌^◌, ◌≤◌, ◌<◌}
+use Prim.Native.Nat.{ℕ, suc, ◌+◌, ◌-◌, ◌*◌, ◌/◌, ◌%◌, ◌^◌, ◌≤◌, ◌<◌}
 use mathlib.Core.Logic.{⊎_elim}
 use native.Mathlib.Nat.{mod-add-div', add-mul-div_right, add-mul-mod_self_right, eq-zero-or-pos, eq-or-lt_of_le}
 use native.Mathlib.Numerals.{add-one}
@@ -9,7 +9,7 @@ use native.Mathlib.Omega.{arith}
 use borrow.Author.Count.{below_more}
 use borrow.Author.Tests.{lt-ltb, le-ltb}
 use lib.ListN.{length, get_or, take, drop, set, replicate, length-append, length-replicate, length-take, length-drop, length-set, get_or-replicate, get_or-append}
-use lib.Seq.{take-suc-set, take-suc, take_all, get_or-take, get_or-drop, get_or-append-add, get_or-set_same, get_or-set_other, ext_get_or, take-append-le, drop-append-le}
+use lib.Seq.{take-suc-set, take_all, get_or-take, get_or-drop, get_or-append-add, get_or-set_same, get_or-set_other, ext_get_or, take-append-le, drop-append-le}
 use Rattle.base_sha256.specs.declared.State.{State}
 use Rattle.base_sha256.specs.Fips.{Words, rounds, schedule, word_at, next, hashed, compress, block_at, pad, be64, zeros, digest}
 use Rattle.base_sha256.specs.Code.{words_of, round_at, eight_at, padded, Unmarked, Behind, InBlock, digest_of}

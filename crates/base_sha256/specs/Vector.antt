@@ -1,5 +1,5 @@
 -- The digest of "abc", computed from the definition (FIPS 180-4's first example).
-use Rattle.std.specs.Prelude.{◌≡◌, refl, List, [], ◌∷◌}
+use Rattle.std.specs.Prelude.{◌≡◌, refl, [], ◌∷◌}
 use Rattle.base_sha256.specs.Fips.{K, H0, schedule, round, rounds, plus, hashed, pad, sha256_of}
 
 abc : sha256_of (97 ∷ 98 ∷ 99 ∷ [])

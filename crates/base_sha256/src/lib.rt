@@ -2,7 +2,7 @@
 #![tactic(auto)]
 
 ghost use Rattle.std.specs.Prelude.{◌≡◌, ◌+◌, ◌-◌, ◌*◌, ◌/◌, ◌%◌, ◌^◌, ◌<◌, ◌≤◌, ◌++◌, length, take, drop, replicate};
-ghost use Rattle.base_sha256.specs.Fips.{Ch, Maj, Σ0, Σ1, σ0, σ1, be32, K, word_at, next, mixed, T1, T2, schedule, round, rounds, plus, compress, hashed, be64, pad, H0, sha256_of};
+ghost use Rattle.base_sha256.specs.Fips.{Ch, Maj, Σ0, Σ1, σ0, σ1, be32, K as round_constants_of_fips, word_at, next, mixed, T1, T2, schedule, round, rounds, plus, compress, hashed, be64, pad, H0, sha256_of};
 ghost use Rattle.base_sha256.specs.Code.{words_of, round_at, eight_at, padded, Unmarked, Behind, InBlock, digest_of};
 
 const K: [u32; 64] = [
@@ -167,7 +167,7 @@ fn schedule(b: &[u8]) -> [u32; 64]
 
 // The constants, for a caller to make once and to lend: a constant array that is indexed is laid out anew at each use.
 fn table() -> [u32; 64]
-    ensures { result ≡ K }
+    ensures { result ≡ round_constants_of_fips }
 {
     K
 }
@@ -224,7 +224,7 @@ fn add_words(s: State, t: State) -> State
 
 // The hash value after one more block. k holds the constants.
 fn hash_block(st: State, k: &[u32; 64], b: &[u8]) -> State
-    requires { (k.now ≡ K) × (length b.now ≡ 64) }
+    requires { (k.now ≡ round_constants_of_fips) × (length b.now ≡ 64) }
     ensures { words_of result ≡ compress (words_of st) b.now }
 {
     let w = schedule(b);
@@ -360,7 +360,7 @@ fn initial_hash() -> State
 
 // The hash value after the blocks that the message fills.
 fn hash_full_blocks(s: &[u8], k: &[u32; 64]) -> State
-    requires { k.now ≡ K }
+    requires { k.now ≡ round_constants_of_fips }
     ensures { words_of result ≡ hashed (pad s.now) (length s.now / 64) }
 {
     let full = s.len() / 64;

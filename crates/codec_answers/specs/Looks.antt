@@ -1,5 +1,5 @@
 -- How long the forms of a look and of a summary are at most.
-use Rattle.std.specs.Prelude.{◌≡◌, Bool, true, false, ◌++◌, ◌≤◌, length}
+use Rattle.std.specs.Prelude.{Bool, true, false, ◌++◌, ◌≤◌, length}
 use Rattle.std.proofs.Common.{arith, length-append}
 use Rattle.codec_forms.specs.Wire.{be, enc_opt}
 use Rattle.codec_forms.specs.Number.{be_length}

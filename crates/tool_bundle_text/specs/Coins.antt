@@ -1,5 +1,5 @@
 -- A coin string taken apart: parent, puzzle hash and amount, if it is made of these.
-use Rattle.std.specs.Prelude.{◌≡◌, refl, Bool, true, false, ◌&&◌, List, [], ◌∷◌, ◌++◌, ℕ, suc, ◌*◌, ◌+◌, ◌-◌, ◌%◌, ◌^◌, ◌≤◌, ◌<◌, length, take, drop, get_or, leb, ltb}
+use Rattle.std.specs.Prelude.{◌≡◌, Bool, true, false, ◌&&◌, List, [], ◌∷◌, ◌++◌, ℕ, suc, ◌*◌, ◌+◌, ◌-◌, ◌%◌, ◌^◌, ◌≤◌, ◌<◌, length, take, drop, get_or, leb, ltb}
 use Rattle.std.proofs.Common.{sym, ap, ◌∙◌, add-one, le-leb, leb-true, lt-ltb, drop_of_length-le, drop-cons, arith}
 use Rattle.std.proofs.lemmas.Bool.{lt-leb}
 use Rattle.base_lists.specs.Bytes.{eqs}

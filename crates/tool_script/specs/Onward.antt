@@ -1,6 +1,6 @@
 -- Where an argument that is there ends: behind its start and within the script.
-use Rattle.std.specs.Prelude.{◌≡◌, refl, Bool, true, false, not, ◌&&◌, List, ℕ, ◌+◌, ◌*◌, ◌≤◌, ◌<◌, length, get_or, take, drop, ltb, leb}
-use Rattle.std.proofs.Common.{sym, ap, ◌∙◌, subst, arith, leb-true, ltb-true, ltb-false}
+use Rattle.std.specs.Prelude.{◌≡◌, refl, Bool, true, false, not, ◌&&◌, List, ℕ, ◌+◌, ◌≤◌, ◌<◌, length, get_or, ltb, leb}
+use Rattle.std.proofs.Common.{sym, ◌∙◌, arith, leb-true, ltb-true, ltb-false}
 use Rattle.std.proofs.Math.Decide.{dec_le}
 use Rattle.std.proofs.lemmas.Bool.{lt-leb, not-false}
 use Rattle.codec_forms.specs.Wire.{Ans, got, bad, Parser, pick, run, number, up_to}

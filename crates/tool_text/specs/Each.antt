@@ -1,5 +1,5 @@
 -- Elements one after the other, each with its index.
-use Rattle.std.specs.Prelude.{◌≡◌, refl, List, [], ◌∷◌, ◌++◌, ℕ, zero, suc, ◌+◌, ◌≤◌, ◌<◌, min, length, get_or, take}
+use Rattle.std.specs.Prelude.{◌≡◌, List, [], ◌∷◌, ◌++◌, ℕ, zero, suc, ◌+◌, ◌≤◌, ◌<◌, min, length, get_or, take}
 use Rattle.std.proofs.Common.{sym, ap, ◌∙◌, append_assoc, append-nil, arith, add-zero}
 use Rattle.base_lists.specs.Laws.{take_cut}
 use Rattle.codec_append.specs.Fits.{Fits, fits_join, fits_as, fits_none}

@@ -14,11 +14,11 @@ use Rattle.book.specs.Refusals as refusals
 
 returns : tie.Need-returns
 returns c = let a = c.before.before.before.before.before.args in let d = a.out.now in
-    refused_is a.b d refusals.badList (many_ids a.ids.now a.absent.now (length d) (view a.b) c.before.if1.true) c.refused-written.ensures
+    refused_is a.b d refusals.bad_list (many_ids a.ids.now a.absent.now (length d) (view a.b) c.before.if1.true) c.refused-written.ensures
 
 returns-2 : tie.Need-returns-2
 returns-2 c = let t = c.before.before in let a = t.before.before.before.before.before.args in let d = a.out.now in let l = t.is-coin-list in
-    refused_is a.b d refusals.badList (outputs_bad a.ids.now a.absent.now (length d) (view a.b) t.before.if1.false (sym l.ensures ∙ not-true l.result c.before.if2.true)) c.refused-written2.ensures
+    refused_is a.b d refusals.bad_list (outputs_bad a.ids.now a.absent.now (length d) (view a.b) t.before.if1.false (sym l.ensures ∙ not-true l.result c.before.if2.true)) c.refused-written2.ensures
 
 put-all-absent-requires : tie.Need-put-all-absent-requires
 put-all-absent-requires c κs = let s = c.before.before.before.before.before.before.before in (sound_normal s.args.b s.requires, search rules)

@@ -16,7 +16,7 @@ use Rattle.book.specs.Refusals as refusals
 returns : tie.Need-returns
 returns c = let a = c.before.before.before.args in
     c.refused.ensures
-    ∙ refused_is a.b refusals.badList (run_book (collect_rollback_replay_ids a.ids.now) (view a.b)) (collect_long a.ids.now (view a.b) c.before.if1.true)
+    ∙ refused_is a.b refusals.bad_list (run_book (collect_rollback_replay_ids a.ids.now) (view a.b)) (collect_long a.ids.now (view a.b) c.before.if1.true)
 
 unmarked-requires : tie.Need-unmarked-requires
 unmarked-requires c κs =

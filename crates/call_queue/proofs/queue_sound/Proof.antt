@@ -14,7 +14,7 @@ use Rattle.book.specs.Refusals as refusals
 returns : tie.Need-returns
 returns c = let t = c.before.before.is-sound-delivery in let a = c.before.before.before.args in
     c.refused.ensures
-    ∙ refused_is a.b refusals.badValue (run_book (rules.queue a.d) (view a.b)) (queue_damaged a.d (view a.b) (sym t.ensures ∙ not-true t.result c.before.if1.true))
+    ∙ refused_is a.b refusals.bad_value (run_book (rules.queue a.d) (view a.b)) (queue_damaged a.d (view a.b) (sym t.ensures ∙ not-true t.result c.before.if1.true))
 
 enqueue-requires : tie.Need-enqueue-requires
 enqueue-requires c κs = let t = c.before.is-sound-delivery in (c.before.before.requires, sym t.ensures ∙ not-false t.result c.if1.false)

@@ -13,7 +13,7 @@ use Rattle.book.specs.Refusals as refusals
 returns : tie.Need-returns
 returns c =
     let start = c.before.before.before in
-    c.refused.ensures ∙ refused_is start.args.b refusals.badList (run_book (rules.queueRebroadcastEpoch start.args.ids.now start.args.trigger) (view start.args.b))
+    c.refused.ensures ∙ refused_is start.args.b refusals.bad_list (run_book (rules.queue_rebroadcast_epoch start.args.ids.now start.args.trigger) (view start.args.b))
     (epoch_long start.args.ids.now start.args.trigger (view start.args.b) c.before.if1.true)
 
 rebroadcast-requires : tie.Need-rebroadcast-requires
@@ -22,7 +22,7 @@ rebroadcast-requires c κs = c.before.before.requires
 returns-2 : tie.Need-returns-2
 returns-2 c =
     let start = c.before.before.before.before in
-    c.settled.ensures ∙ settled_is start.args.b c.before.rebroadcast.result.full c.before.rebroadcast.result.book (run_book (rules.queueRebroadcastEpoch start.args.ids.now start.args.trigger) (view start.args.b))
+    c.settled.ensures ∙ settled_is start.args.b c.before.rebroadcast.result.full c.before.rebroadcast.result.book (run_book (rules.queue_rebroadcast_epoch start.args.ids.now start.args.trigger) (view start.args.b))
     (ends_as tt c.before.rebroadcast.result.book (run_book (rules.rebroadcast start.args.trigger start.args.ids.now) (view start.args.b)) c.before.rebroadcast.result.full
     (epoch_taken start.args.ids.now start.args.trigger (view start.args.b) c.before.before.if1.false) c.before.rebroadcast.ensures)
 

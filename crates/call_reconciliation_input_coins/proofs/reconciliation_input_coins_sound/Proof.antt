@@ -16,7 +16,7 @@ use Rattle.book.specs.Refusals as refusals
 
 returns : tie.Need-returns
 returns c = let a = c.before.before.before.before.before.args in let d = a.out.now in let l = c.before.before.is-coin-list in
-    refused_is a.b d refusals.badList (inputs_bad a.outputs.now (length d) (view a.b) (sym l.ensures ∙ not-true l.result c.before.if1.true)) c.refused-written.ensures
+    refused_is a.b d refusals.bad_list (inputs_bad a.outputs.now (length d) (view a.b) (sym l.ensures ∙ not-true l.result c.before.if1.true)) c.refused-written.ensures
 
 input-coins-to-reconcile-requires : tie.Need-input-coins-to-reconcile-requires
 input-coins-to-reconcile-requires c κs = let s = c.before.before.before.before in sound_normal s.args.b s.requires

@@ -9,7 +9,7 @@ use Rattle.book.specs.Refusals as refusals
 
 returns : tie.Need-returns
 returns c = let a = c.before.before.before.before.args in
-    refused_is a.b a.out.now refusals.shortBuffer (list_short a.count a.coins.now a.out.now (view a.b) c.before.if1.true) c.refused-written.ensures
+    refused_is a.b a.out.now refusals.short_buffer (list_short a.count a.coins.now a.out.now (view a.b) c.before.if1.true) c.refused-written.ensures
 
 put-bytes-requires : tie.Need-put-bytes-requires
 put-bytes-requires c κs = let a = c.before.before.before.before.before.before.before.before.args in

@@ -1,0 +1,10 @@
+-- A token is in the tokens held and in the live slot's where it is in either.
+use mathlib.Core.Bool.{Bool, not, ◌&&◌}
+use lib.Dec.{ltb}
+use Rattle.book.specs.Sound.{attempt_token}
+use Rattle.archive_entry_read.specs.Entries.{elem_both}
+use mathlib.Core.Path.{ap}
+use Rattle.archive_entry_read.proofs.attempt.fresh_token.Goals as goal
+
+pub returns : goal.returns
+returns c = ap (λ (b : Bool). ltb c.args.token.0 c.args.next.0 && not b) (elem_both c.args.token.0 c.args.held.now (attempt_token c.args.live) c.contains-before.ensures c.slot_holds-twin.ensures)

@@ -1,0 +1,28 @@
+-- By whether the token's place is live: none, or the attempt in the live slot of the submission there; the book stays as it is.
+use mathlib.Core.Option.{none, some}
+use mathlib.Core.Path.{ap, ◌∙◌}
+use Rattle.book.specs.Model.{view}
+use Rattle.book.specs.declared.SubmittedTx.{SubmittedTx}
+use Rattle.rules.specs.Steps.Slots.{present}
+use Rattle.part_lookup.specs.Normal.{sound_normal}
+use Rattle.part_attempt_answers.specs.Live.{at, live_within}
+use Rattle.call_attempt.specs.Looking.{attempt_live, attempt_none, attempt_ended}
+use Rattle.call_attempt.proofs.attempt_sound.Goals as goal
+
+pub find_attempt-place-requires : goal.find_attempt-place-requires
+find_attempt-place-requires c = sound_normal c.args.b c.requires
+
+pub returns-in_default : goal.returns-in_default
+returns-in_default c =
+    attempt_ended c.args.b (sound_normal c.args.b c.requires) none c.zero.ensures
+    (attempt_none c.args.t.0 (view c.args.b) c.find_attempt-place.ensures c.live_place-live.ensures c.in_default.is)
+
+pub submitted_at-s-requires : goal.submitted_at-s-requires
+submitted_at-s-requires c = (sound_normal c.args.b c.requires, live_within c.args.t.0 (view c.args.b) c.find_attempt-place.ensures c.live_place-live.ensures c.in-At.is)
+
+pub returns : goal.returns
+returns c =
+    attempt_ended c.args.b (sound_normal c.args.b c.requires) (some (at (view c.args.b) c.in-At.k).slots.active_attempt.attempt)
+    (c.filled.ensures ∙ ap (λ (s : SubmittedTx). present s.slots.active_attempt.attempt) c.submitted_at-s.ensures)
+    (attempt_live c.args.t.0 (view c.args.b) c.find_attempt-place.ensures c.live_place-live.ensures
+    c.in-At.is)

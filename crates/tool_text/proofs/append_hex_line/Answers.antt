@@ -1,0 +1,10 @@
+-- Three parts written one behind the other make the line: the label, the hex digits and the line end.
+use Rattle.codec_append.specs.Fits.{fits_join}
+use Rattle.tool_text.specs.Numbers.{hex_line}
+use Rattle.tool_text.proofs.append_hex_line.Goals as goal
+
+pub returns : goal.returns
+unfolding hex_line
+returns c =
+    fits_join (fits_join c.append_bytes-label_end.ensures c.append_hex-hex_end.ensures)
+    c.append_bytes.ensures
