@@ -1,9 +1,9 @@
 -- Where elements stand that are written one behind the other.
-use Rattle.std.specs.Prelude.{ℕ, zero, suc, ◌+◌, ◌-◌, ◌≤◌, ◌<◌, ◌≡◌, refl, Bool, true, false, List, [], ◌∷◌, ◌++◌, length, take, set, replicate}
-use Rattle.std.proofs.Common.{sym, ap, ◌∙◌, subst, append-nil, add-one, arith, length-append, length-set, take-suc-set}
+use Rattle.std.specs.Prelude.{ℕ, ◌+◌, ◌≤◌, ◌<◌, ◌≡◌, refl, List, [], ◌∷◌, ◌++◌, length, take, set, replicate}
+use Rattle.std.proofs.Common.{sym, ap, ◌∙◌, append-nil, add-one, arith, length-append, length-set, take-suc-set}
 use Rattle.base_lists.specs.Lists.{cells}
 use Rattle.base_lists.specs.Laws.{push_normal}
-use Rattle.codec_forms.specs.Wire.{Parser, many_from, enc_many}
+use Rattle.codec_forms.specs.Wire.{Parser, enc_many}
 use Rattle.codec_forms.specs.Lawful.{IsBytes, Lawful}
 use Rattle.codec_forms.specs.Items.{many_from_lawful}
 use Rattle.codec_cursor.specs.Cursor.{far, Reads, reads_got}

@@ -1,8 +1,7 @@
 -- The submissions and the queue as the code walks them: the reader's own rules, with the places in hand and most values left out.
-use Rattle.std.specs.Prelude.{ℕ, zero, suc, ◌+◌, ◌≤◌, ◌<◌, ◌≡◌, refl, true, cond, List, [], length, take, set, replicate}
-use Rattle.std.proofs.Common.{sym, ap, ◌∙◌, arith}
+use Rattle.std.specs.Prelude.{ℕ, ◌+◌, ◌≤◌, ◌<◌, ◌≡◌, cond, List, length, take, set, replicate}
+use Rattle.std.proofs.Common.{ap, ◌∙◌, arith}
 use Rattle.base_lists.specs.Lists.{cells}
-use Rattle.codec_forms.specs.Wire.{be, up_to}
 use Rattle.codec_forms.specs.Number.{be_length}
 use Rattle.codec_forms.specs.Lawful.{IsBytes}
 use Rattle.codec_forms.specs.Items.{up_to_lawful}
@@ -18,7 +17,7 @@ use Rattle.archive_form.specs.Encode.{encode_submitted, encode_delivery}
 use Rattle.archive_form.specs.Parse.{Facts, parse_retired, parse_slots, parse_facts, parse_submitted, parse_delivery}
 use Rattle.archive_laws.specs.Entries.{GoodSubmitted, submitted_lawful, GoodDelivery, delivery_lawful}
 use Rattle.archive_entry_read.specs.Entries.{parse_after}
-use Rattle.archive_read.specs.Sections.{Seen, seen_start, seen_room, seen_more, after_seen, retained_done, ReadsRetained}
+use Rattle.archive_read.specs.Sections.{Seen, seen_start, seen_more, after_seen, retained_done, ReadsRetained}
 use Rattle.archive_walk.specs.Skips.{Skips, reads_before}
 use Rattle.archive_walk.specs.Places.{places, Walking, walking_start, walking_more, walking_all}
 

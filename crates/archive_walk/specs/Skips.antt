@@ -1,7 +1,7 @@
 -- A part is passed: the cursor moves as it does for the reader, and the value is not made.
-use Rattle.std.specs.Prelude.{ℕ, zero, suc, ◌+◌, ◌-◌, ◌≤◌, ◌<◌, ◌≡◌, refl, Bool, true, false, List, length, take, drop, replicate, ltb}
-use Rattle.std.proofs.Common.{sym, ap, ◌∙◌, subst, arith, lt-ltb, ltb-true}
-use Rattle.codec_forms.specs.Wire.{got, bad, pick, Parser, ◌>>=◌, done, run, number, up_to, mapped, optional, counted, list_from, many_from}
+use Rattle.std.specs.Prelude.{ℕ, zero, suc, ◌+◌, ◌-◌, ◌≤◌, ◌<◌, ◌≡◌, refl, Bool, true, false, List, length, replicate, ltb}
+use Rattle.std.proofs.Common.{sym, subst, arith, lt-ltb, ltb-true}
+use Rattle.codec_forms.specs.Wire.{got, bad, pick, Parser, ◌>>=◌, done, run, number, up_to, mapped, optional, counted}
 use Rattle.codec_bytes.specs.Reading.{run_got}
 use Rattle.codec_cursor.specs.Cursor.{far, Reads, reads_then, ends, reads_absent, reads_present}
 use Rattle.codec_cursor.specs.Items.{Counts, gives}

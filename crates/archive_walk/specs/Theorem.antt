@@ -1,8 +1,8 @@
 -- The bytes from the place of an entry up to the next place are its encoding.
-use Prim.Native.Nat.{ℕ, zero, suc, ◌+◌, ◌≤◌, ◌<◌, zero-le}
+use Prim.Native.Nat.{ℕ, zero, suc, ◌+◌, ◌<◌, zero-le}
 use Rattle.std.specs.Prelude.{◌≡◌, get_or}
 use Rattle.std.proofs.Math.Path.{refl, subst}
-use Rattle.std.proofs.Common.{sym, ap, ◌∙◌, arith}
+use Rattle.std.proofs.Common.{sym, arith}
 use mathlib.Core.List.{List, [], ◌∷◌, ◌++◌}
 use Rattle.std.proofs.Math.ListN.{length, length-append}
 use Rattle.codec_forms.specs.Wire.{got, be, enc_many, enc_list}

@@ -1,6 +1,6 @@
 -- What the walk answers: the parser's own answer, of a book its numbers and the places where the encodings of its parts stand.
-use Rattle.std.specs.Prelude.{ℕ, zero, ◌+◌, ◌-◌, ◌≤◌, ◌<◌, ◌≡◌, Bool, true, false, List, [], ◌++◌, map, length, take, replicate, ltb, leb}
-use Rattle.std.proofs.Common.{zero-le, ◌∙◌, subst, le-leb, lt-ltb, le-ltb, arith, length-append}
+use Rattle.std.specs.Prelude.{ℕ, ◌+◌, ◌-◌, ◌≤◌, ◌<◌, ◌≡◌, true, false, List, ◌++◌, map, length, take, replicate}
+use Rattle.std.proofs.Common.{zero-le, ◌∙◌, subst, le-leb, le-ltb, arith, length-append}
 use Rattle.std.proofs.Math.Path.{refl, sym, ap}
 use Rattle.std.proofs.lemmas.Bool.{lt-leb}
 use Rattle.base_lists.specs.Lists.{cells}
@@ -10,7 +10,7 @@ use Rattle.codec_forms.specs.Lawful.{IsBytes}
 use Rattle.codec_forms.specs.Items.{list_from_lawful}
 use Rattle.codec_cursor.specs.Cursor.{far, Reads, reads_then, reads_got, ends}
 use Rattle.codec_cursor.specs.Cells.{ReadsCells}
-use Rattle.book.specs.Zero.{zero_submitted, zero_delivery}
+use Rattle.book.specs.Zero.{zero_submitted}
 use Rattle.book.specs.Sound.{id_of}
 use Rattle.book.specs.Model.{Book, back}
 use Rattle.book.specs.declared.Token.{Token}
@@ -20,7 +20,7 @@ use Rattle.book.specs.declared.Ids16.{Ids16}
 use Rattle.book.specs.declared.Ids64.{Ids64}
 use Rattle.archive_bundle_form.specs.Forms.{encode_height}
 use Rattle.archive_form.specs.Encode.{encode_submitted, encode_delivery}
-use Rattle.archive_form.specs.Parse.{Numbers, parse_numbers, parse_delivery, parse_retired, parse_height, parse_replayed, parse_model, parse_whole, read_archive, archive_read, book, broken}
+use Rattle.archive_form.specs.Parse.{Numbers, parse_numbers, parse_retired, parse_height, parse_replayed, parse_model, parse_whole, read_archive, archive_read, book, broken}
 use Rattle.archive_laws.specs.Entries.{GoodSubmitted, submitted_lawful}
 use Rattle.archive_laws.specs.Parts.{height_lawful}
 use Rattle.archive_laws.specs.Books.{enc_numbers, numbers_lawful, queue_lawful, GoodRetired, retired_lawful}

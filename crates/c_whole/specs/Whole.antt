@@ -21,7 +21,7 @@ use Rattle.archive_walk.specs.Walk.{walked, Agrees, walk_agrees}
 use Rattle.archive_walk.specs.declared.Walk.{Walk}
 use Rattle.rules.specs.Opened.{opened}
 use Rattle.c_boundary.specs.Held.{held_in, Holding}
-use Rattle.c_boundary.specs.Settle.{Left, written, GivesBook, laid, back_short, back_done}
+use Rattle.c_boundary.specs.Settle.{written, GivesBook, laid, back_short, back_done}
 use Rattle.book.specs.Refusals as refusals
 
 -- ---- opening

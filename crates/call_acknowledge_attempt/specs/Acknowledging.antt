@@ -11,7 +11,7 @@ use Rattle.book.specs.declared.BookData.{BookData}
 use Rattle.book_answers.specs.declared.SubmissionAttemptStatus.TheVariants.{Applied}
 use Rattle.book_answers.specs.declared.SubmissionAttemptStatus.{SubmissionAttemptStatus}
 use Rattle.rules.specs.Parts.{current_fingerprint}
-use Rattle.rules.specs.Rule.{Rule, done, undo, acknowledge, unqueue, note, revise, set_aside, ◌>>=◌, ◌>>◌, step, Outcome, ended, undone, run}
+use Rattle.rules.specs.Rule.{Rule, done, undo, acknowledge, unqueue, note, revise, set_aside, ◌>>◌, step, Outcome, ended, undone, run}
 use Rattle.rules.specs.Steps.{with_entry, with_slots, note_book, on_book, run_book}
 use Rattle.rules.specs.Steps.Entry.{revised}
 use Rattle.rules.specs.Steps.Slots.{slots_aside, resolved}

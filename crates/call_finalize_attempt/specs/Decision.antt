@@ -1,6 +1,5 @@
 -- What `finalize_attempt` decides of a submission whose tests 5, 7 and 8 are passed, from the submission alone.
-use Rattle.std.specs.Prelude.{Bool, true, false, cond, ◌≡◌, refl}
-use Rattle.std.proofs.Common.{sym, ap, ◌∙◌}
+use Rattle.std.specs.Prelude.{Bool, true, false, cond, ◌≡◌}
 use Rattle.book.specs.declared.SpendBundle.{SpendBundle}
 use Rattle.book.specs.declared.SubmittedTx.{SubmittedTx}
 use Rattle.book_answers.specs.declared.SubmissionFeeSource.{SubmissionFeeSource}

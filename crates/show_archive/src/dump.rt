@@ -1,6 +1,6 @@
 // The bytes in hexadecimal, 16 to a line.
 use codec_append::append_bytes;
-use libc::STDOUT_FILENO;
+use std::io;
 use tool_book_report::say;
 use tool_text::append_spaced_hex;
 
@@ -16,16 +16,16 @@ fn append_offset(out: &mut [u8], at: usize, n: usize) -> usize {
     append_bytes(out, at, &digits)
 }
 
-fn show_line(s: &[u8], from: usize) {
+fn show_line(rt: &impl Print, s: &[u8], from: usize) -> io::Result<()> {
     if s.len() <= from {
-        return;
+        return Ok(());
     }
     let rest = &s[from..];
     let mut out = [0u8; 64];
     let offset_end = append_offset(&mut out, 0, from);
     let bytes_end = append_row(&mut out, offset_end, rest);
     let e = append_bytes(&mut out, bytes_end, b"\n");
-    say(&out, e);
+    say(rt, &out, e)
 }
 
 // At most 16 bytes.
@@ -36,15 +36,13 @@ fn append_row(out: &mut [u8], at: usize, rest: &[u8]) -> usize {
     append_spaced_hex(out, at, &rest[0..16])
 }
 
-pub fn show_bytes(s: &[u8]) {
-    io::write_all(
-        STDOUT_FILENO,
-        b"\nthe bytes: offset in decimal, then up to 16 bytes in hexadecimal\n",
-    );
+pub fn show_bytes(rt: &impl Print, s: &[u8]) -> io::Result<()> {
+    rt.write_all(b"\nthe bytes: offset in decimal, then up to 16 bytes in hexadecimal\n")?;
     let lines = s.len() / 16 + 1;
     let mut i: usize = 0;
     while i < lines {
-        show_line(s, i * 16);
+        show_line(rt, s, i * 16)?;
         i += 1;
     }
+    Ok(())
 }

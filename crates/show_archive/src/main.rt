@@ -3,107 +3,131 @@
 #![tactic(auto)]
 
 mod dump;
+mod failure;
 mod input;
 mod refusal;
 
-use libc::STDOUT_FILENO;
+use failure::fail;
+use std::env::{Env, FillError};
+use std::fs::Files;
+use std::io::Read;
+use std::{fs, io, str};
 
 // The bytes in hand and whether there may be more of them.
-fn show(s: &[u8], more: bool, hex: bool) {
+fn show(rt: &impl Print, s: &[u8], more: bool, hex: bool) -> io::Result<()> {
     let r = archive_read::read_archive(s);
     let ok = r.ok;
     if ok {
         let book = r.book;
-        tool_book_report::show_book(s.len(), base_sha256::sha256(s), book);
+        tool_book_report::show_book(rt, s.len(), base_sha256::sha256(s), book)?;
     } else {
-        refusal::show_refusal(s, r.place, more);
+        refusal::show_refusal(rt, s, r.place, more)?;
     }
     if hex {
-        dump::show_bytes(s);
+        dump::show_bytes(rt, s)?;
     }
+    Ok(())
 }
 
-fn show_file(fd: i32, name: &[u8], hex: bool) {
-    let mut room = io::large_buffer();
-    let got = input::read_all(fd, &mut room);
-    let failed = got.failed;
-    if failed {
-        os::fail(name);
-        io::write_all(STDOUT_FILENO, b"not read: an error of the file\n");
-        return;
+fn show_file<R: Read>(
+    rt: &(impl Print + Eprint),
+    file: &mut R,
+    name: &str,
+    hex: bool,
+) -> io::Result<()> {
+    let mut room = [0u8; 65536];
+    match input::read_all(file, &mut room) {
+        Ok(got) => show(rt, &room[0..got.count], got.more, hex),
+        Err(error) => {
+            fail(rt, name, &error);
+            rt.write_all(b"not read: an error of the file\n")
+        }
     }
-    let n = got.count;
-    if room.len() < n {
-        return;
-    }
-    show(&room[0..n], got.more, hex);
 }
 
 // The file that an argument names.
-fn show_named(path: &[u8], hex: bool) {
-    let fd = os::open_read(path);
-    if fd < 0 {
-        os::fail(path);
-        io::write_all(STDOUT_FILENO, b"not read: the file cannot be opened\n");
-        return;
+fn show_named(rt: &(impl Files + Print + Eprint), path: &str, hex: bool) -> io::Result<()> {
+    match fs::open(rt, path) {
+        Ok(mut file) => show_file(rt, &mut file, path, hex),
+        Err(error) => {
+            fail(rt, path, &error);
+            rt.write_all(b"not read: the file cannot be opened\n")
+        }
     }
-    show_file(fd, path, hex);
-    libc::close(fd);
+}
+
+// A path is text for the library: no other name can be opened.
+fn show_path(rt: &(impl Files + Print + Eprint), path: &[u8], hex: bool) -> io::Result<()> {
+    match str::from_utf8(path) {
+        Ok(path) => show_named(rt, path, hex),
+        Err(_) => {
+            let _ = rt.eprintln("file name: not UTF-8");
+            rt.write_all(b"not read: the file cannot be opened\n")
+        }
+    }
 }
 
 // The argument i names the file; without it, standard input.
-fn show_argument(i: usize, hex: bool) {
-    if os::arg_count() <= i {
-        show_file(0, b"standard input", hex);
-        return;
+fn show_argument(
+    rt: &(impl Env + Files + Input + Print + Eprint),
+    i: usize,
+    hex: bool,
+) -> io::Result<()> {
+    let mut path = [0u8; 4096];
+    match rt.arg(i, &mut path) {
+        Ok(n) => show_path(rt, &path[..n], hex),
+        Err(FillError::NotPresent) => show_file(rt, &mut rt.reader(), "standard input", hex),
+        Err(FillError::TooLong) => {
+            let _ = rt.eprintln("file name: File name too long");
+            rt.write_all(b"not read: the file name is too long\n")
+        }
     }
-    let mut path = io::buffer();
-    let n = os::arg(i, &mut path);
-    if os::errno() != 0 {
-        os::fail(b"file name");
-        io::write_all(STDOUT_FILENO, b"not read: the file name is too long\n");
-        return;
-    }
-    show_named(&path[..n], hex);
 }
 
-fn say_usage() {
-    io::write_all(
-        STDOUT_FILENO,
-        b"not read: usage: show_archive [--hex] [FILE]\n",
-    );
+fn say_usage(rt: &impl Print) -> io::Result<()> {
+    rt.write_all(b"not read: usage: show_archive [--hex] [FILE]\n")
+}
+
+fn is_present(rt: &impl Env, i: usize) -> bool {
+    let mut word = [0u8; 1];
+    !matches!(rt.arg(i, &mut word), Err(FillError::NotPresent))
 }
 
 // An argument that begins with two dashes is an option, and no file's name. Of a longer one the first two bytes are left in the word.
-fn is_option(i: usize) -> bool {
+fn is_option(rt: &impl Env, i: usize) -> bool {
     let mut word = [0u8; 2];
-    os::arg(i, &mut word);
+    let _ = rt.arg(i, &mut word);
     base_lists::same(&word, b"--")
 }
 
-fn is_hex_option(i: usize) -> bool {
+fn is_hex_option(rt: &impl Env, i: usize) -> bool {
     let mut word = [0u8; 5];
-    let n = os::arg(i, &mut word);
-    base_lists::same(&word[..n], b"--hex")
+    match rt.arg(i, &mut word) {
+        Ok(n) => base_lists::same(&word[..n], b"--hex"),
+        Err(_) => false,
+    }
 }
 
 // The file's name is the argument at `file`, and none stands at `end` or behind it.
-fn show_checked(file: usize, end: usize, hex: bool) {
-    if is_option(file) {
-        say_usage();
-        return;
+fn show_checked(
+    rt: &(impl Env + Files + Input + Print + Eprint),
+    file: usize,
+    end: usize,
+    hex: bool,
+) -> io::Result<()> {
+    if is_option(rt, file) {
+        return say_usage(rt);
     }
-    if os::arg_count() > end {
-        say_usage();
-        return;
+    if is_present(rt, end) {
+        return say_usage(rt);
     }
-    show_argument(file, hex);
+    show_argument(rt, file, hex)
 }
 
-fn main() {
-    if is_hex_option(1) {
-        show_checked(2, 3, true);
+fn main(rt: HostRuntime) -> io::Result<()> {
+    if is_hex_option(&rt, 1) {
+        show_checked(&rt, 2, 3, true)
     } else {
-        show_checked(1, 2, false);
+        show_checked(&rt, 1, 2, false)
     }
 }

@@ -1,6 +1,7 @@
 // Why bytes are no archive: the reader's place, what is expected there, and what stands there.
 use codec_append::append_bytes;
 use codec_cursor::read_number;
+use std::io;
 use tool_archive_items::order::{item_at, size};
 use tool_archive_items::{Item, Position};
 use tool_book_report::say;
@@ -88,7 +89,7 @@ fn append_item(out: &mut [u8], at: usize, p: Position) -> usize {
     append_bytes(out, form_end, b"\n  found: ")
 }
 
-pub fn show_refusal(s: &[u8], place: usize, more: bool) {
+pub fn show_refusal(rt: &impl Print, s: &[u8], place: usize, more: bool) -> io::Result<()> {
     let mut out = [0u8; 1024];
     let word_end = append_bytes(&mut out, 0, b"not an archive: refused 13 at byte ");
     let place_end = append_decimal(&mut out, word_end, place as u64);
@@ -99,9 +100,8 @@ pub fn show_refusal(s: &[u8], place: usize, more: bool) {
     if ok {
         let item_end = append_item(&mut out, colon_end, position);
         let e = append_found(&mut out, item_end, position, s, place, more);
-        say(&out, e);
-        return;
+        return say(rt, &out, e);
     }
     let e = append_bytes(&mut out, colon_end, b"the item there has no name\n");
-    say(&out, e);
+    say(rt, &out, e)
 }

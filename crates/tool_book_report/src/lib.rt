@@ -6,7 +6,7 @@ ghost use Rattle.std.specs.Prelude.{◌≤◌};
 use base_lists::at_most;
 use book::{BookData, Ids64, PendingDelivery, ReplayEpoch, SubmittedTx};
 use codec_append::append_bytes;
-use libc::STDOUT_FILENO;
+use std::io;
 use tool_book_summary::queue::is_new;
 use tool_book_summary::tally::{payment_of, totals};
 use tool_book_text::entry::{append_delivery, append_ids, append_submission, append_tokens};
@@ -17,23 +17,23 @@ use tool_payments::text::{append_payment, append_totals};
 use tool_text::{append_hex_line, append_number_line};
 
 // Writes the first n bytes.
-pub fn say(out: &[u8], n: usize) {
+pub fn say(rt: &impl Print, out: &[u8], n: usize) -> io::Result<()> {
     if out.len() < n {
-        return;
+        return Ok(());
     }
-    io::write_all(STDOUT_FILENO, &out[0..n]);
+    rt.write_all(&out[0..n])
 }
 
-fn show_number(label: &[u8], n: u64) {
+fn show_number(rt: &impl Print, label: &[u8], n: u64) -> io::Result<()> {
     let mut out = [0u8; 256];
     let e = append_number_line(&mut out, 0, label, n);
-    say(&out, e);
+    say(rt, &out, e)
 }
 
-fn show_ids(label: &[u8], l: &[u64]) {
-    let mut out = io::buffer();
+fn show_ids(rt: &impl Print, label: &[u8], l: &[u64]) -> io::Result<()> {
+    let mut out = [0u8; 4096];
     let e = append_ids(&mut out, 0, label, l);
-    say(&out, e);
+    say(rt, &out, e)
 }
 
 fn one_if(present: bool) -> u64
@@ -62,185 +62,201 @@ fn count_slots(a: [SubmittedTx; 16], n: usize) -> Slots {
     Slots { live, set_aside }
 }
 
-fn show_submission(i: usize, n: usize, t: SubmittedTx) {
+fn show_submission(rt: &impl Print, i: usize, n: usize, t: SubmittedTx) -> io::Result<()> {
     if 16 <= i {
-        return;
+        return Ok(());
     }
-    let mut out = io::large_buffer();
+    let mut out = [0u8; 65536];
     let blank_end = append_bytes(&mut out, 0, b"\n");
     let e = append_submission(&mut out, blank_end, i, n, t);
-    say(&out, e);
+    say(rt, &out, e)
 }
 
-fn show_retained(a: [SubmittedTx; 16], n: usize) {
+fn show_retained(rt: &impl Print, a: [SubmittedTx; 16], n: usize) -> io::Result<()> {
     let k = at_most(n, 16);
     let mut i: usize = 0;
     while i < k {
         let t = a[i];
-        show_submission(i, n, t);
+        show_submission(rt, i, n, t)?;
         i += 1;
     }
+    Ok(())
 }
 
-fn show_delivery(i: usize, n: usize, d: PendingDelivery) {
+fn show_delivery(rt: &impl Print, i: usize, n: usize, d: PendingDelivery) -> io::Result<()> {
     if 16 <= i {
-        return;
+        return Ok(());
     }
-    let mut out = io::large_buffer();
+    let mut out = [0u8; 65536];
     let blank_end = append_bytes(&mut out, 0, b"\n");
     let e = append_delivery(&mut out, blank_end, i, n, d);
-    say(&out, e);
+    say(rt, &out, e)
 }
 
-fn show_queue(a: [PendingDelivery; 16], n: usize) {
+fn show_queue(rt: &impl Print, a: [PendingDelivery; 16], n: usize) -> io::Result<()> {
     let k = at_most(n, 16);
     let mut i: usize = 0;
     while i < k {
         let d = a[i];
-        show_delivery(i, n, d);
+        show_delivery(rt, i, n, d)?;
         i += 1;
     }
+    Ok(())
 }
 
-fn show_tokens_of(t: SubmittedTx) {
+fn show_tokens_of(rt: &impl Print, t: SubmittedTx) -> io::Result<()> {
     let mut out = [0u8; 256];
     let e = append_tokens(&mut out, 0, t);
-    say(&out, e);
+    say(rt, &out, e)
 }
 
-fn show_tokens(a: [SubmittedTx; 16], n: usize) {
+fn show_tokens(rt: &impl Print, a: [SubmittedTx; 16], n: usize) -> io::Result<()> {
     let k = at_most(n, 16);
     let mut i: usize = 0;
     while i < k {
         let t = a[i];
-        show_tokens_of(t);
+        show_tokens_of(rt, t)?;
         i += 1;
     }
+    Ok(())
 }
 
-fn show_totals(a: [SubmittedTx; 16], n: usize, queued: usize) {
+fn show_totals(rt: &impl Print, a: [SubmittedTx; 16], n: usize, queued: usize) -> io::Result<()> {
     let slots = count_slots(a, n);
-    io::write_all(STDOUT_FILENO, b"\ntotals\n");
-    show_number(b"  retained submissions: ", n as u64);
-    show_number(b"  live attempts: ", slots.live);
-    show_number(b"  set-aside attempts: ", slots.set_aside);
-    show_number(b"  queue entries: ", queued as u64);
+    rt.write_all(b"\ntotals\n")?;
+    show_number(rt, b"  retained submissions: ", n as u64)?;
+    show_number(rt, b"  live attempts: ", slots.live)?;
+    show_number(rt, b"  set-aside attempts: ", slots.set_aside)?;
+    show_number(rt, b"  queue entries: ", queued as u64)
 }
 
 // How many ids there are, and the ids.
-fn show_retired(items: [u64; 64], count: usize) {
+fn show_retired(rt: &impl Print, items: [u64; 64], count: usize) -> io::Result<()> {
     let n = at_most(count, 64);
-    show_number(b"\nretired ids, number: ", n as u64);
-    show_ids(b"  ids:", &items[0..n]);
+    show_number(rt, b"\nretired ids, number: ", n as u64)?;
+    show_ids(rt, b"  ids:", &items[0..n])
 }
 
-fn show_replayed(items: [u64; 16], count: usize) {
+fn show_replayed(rt: &impl Print, items: [u64; 16], count: usize) -> io::Result<()> {
     let n = at_most(count, 16);
-    show_number(b"replayed ids, number: ", n as u64);
-    show_ids(b"  ids:", &items[0..n]);
+    show_number(rt, b"replayed ids, number: ", n as u64)?;
+    show_ids(rt, b"  ids:", &items[0..n])
 }
 
-fn show_retirements(r: Ids64) {
+fn show_retirements(rt: &impl Print, r: Ids64) -> io::Result<()> {
     let items = r.items;
-    show_retired(items, r.count);
+    show_retired(rt, items, r.count)
 }
 
 // The rollback height and the ids replayed since.
-fn show_replay(e: ReplayEpoch) {
+fn show_replay(rt: &impl Print, e: ReplayEpoch) -> io::Result<()> {
     let height = e.rollback_height;
     let ids = e.replayed_submission_ids;
     let items = ids.items;
     let mut out = [0u8; 256];
     let end = append_height(&mut out, 0, b"\nrollback height: ", height);
-    say(&out, end);
-    show_replayed(items, ids.count);
+    say(rt, &out, end)?;
+    show_replayed(rt, items, ids.count)
 }
 
 // The tokens that slots hold; what became of the others a book does not say.
-fn show_fates(a: [SubmittedTx; 16], n: usize, next: u64) {
-    io::write_all(STDOUT_FILENO, b"\ntokens and their fates\n");
-    show_tokens(a, n);
+fn show_fates(rt: &impl Print, a: [SubmittedTx; 16], n: usize, next: u64) -> io::Result<()> {
+    rt.write_all(b"\ntokens and their fates\n")?;
+    show_tokens(rt, a, n)?;
     show_number(
+        rt,
         b"  all other tokens issued below the next token are gone (displaced or struck out; a book does not keep the two apart), next token: ",
         next,
-    );
+    )
 }
 
-fn show_payment(p: Payment) {
+fn show_payment(rt: &impl Print, p: Payment) -> io::Result<()> {
     let mut out = [0u8; 256];
     let e = append_payment(&mut out, 0, p);
-    say(&out, e);
+    say(rt, &out, e)
 }
 
 fn show_retained_payments(
+    rt: &impl Print,
     submitted: [SubmittedTx; 16],
     n: usize,
     pending: [PendingDelivery; 16],
     m: usize,
-) {
+) -> io::Result<()> {
     let k = at_most(n, 16);
     let mut i: usize = 0;
     while i < k {
         let t = submitted[i];
-        show_payment(payment_of(t, pending, m));
+        show_payment(rt, payment_of(t, pending, m))?;
         i += 1;
     }
+    Ok(())
 }
 
 // The queue entry d, with the queue from a place on behind it, if it is a payment of its own.
 fn show_new_payment(
+    rt: &impl Print,
     d: PendingDelivery,
     submitted: [SubmittedTx; 16],
     n: usize,
     pending: [PendingDelivery; 16],
     from: usize,
     m: usize,
-) {
+) -> io::Result<()> {
     if is_new(d, submitted, n, pending, from, m) {
-        show_payment(queued_payment(d));
+        show_payment(rt, queued_payment(d))?;
     }
+    Ok(())
 }
 
 fn show_queued_payments(
+    rt: &impl Print,
     submitted: [SubmittedTx; 16],
     n: usize,
     pending: [PendingDelivery; 16],
     m: usize,
-) {
+) -> io::Result<()> {
     let k = at_most(m, 16);
     let mut i: usize = 0;
     while i < k {
         let d = pending[i];
-        show_new_payment(d, submitted, n, pending, i + 1, m);
+        show_new_payment(rt, d, submitted, n, pending, i + 1, m)?;
         i += 1;
     }
+    Ok(())
 }
 
 // A book without submissions and queue entries has no payment.
-fn show_no_payments(n: usize, m: usize) {
+fn show_no_payments(rt: &impl Print, n: usize, m: usize) -> io::Result<()> {
     if n != 0 {
-        return;
+        return Ok(());
     }
     if m != 0 {
-        return;
+        return Ok(());
     }
-    io::write_all(STDOUT_FILENO, b"  none\n");
+    rt.write_all(b"  none\n")
 }
 
 // The payments, one to a line, and their totals.
-fn show_payments(submitted: [SubmittedTx; 16], n: usize, pending: [PendingDelivery; 16], m: usize) {
-    io::write_all(STDOUT_FILENO, b"\npayments\n");
-    show_retained_payments(submitted, n, pending, m);
-    show_queued_payments(submitted, n, pending, m);
-    show_no_payments(n, m);
-    io::write_all(STDOUT_FILENO, b"\npayments in all\n");
+fn show_payments(
+    rt: &impl Print,
+    submitted: [SubmittedTx; 16],
+    n: usize,
+    pending: [PendingDelivery; 16],
+    m: usize,
+) -> io::Result<()> {
+    rt.write_all(b"\npayments\n")?;
+    show_retained_payments(rt, submitted, n, pending, m)?;
+    show_queued_payments(rt, submitted, n, pending, m)?;
+    show_no_payments(rt, n, m)?;
+    rt.write_all(b"\npayments in all\n")?;
     let all = totals(submitted, n, pending, m);
     let mut out = [0u8; 512];
     let e = append_totals(&mut out, 0, all);
-    say(&out, e);
+    say(rt, &out, e)
 }
 
-fn show_digest(digest: [u8; 32]) {
+fn show_digest(rt: &impl Print, digest: [u8; 32]) -> io::Result<()> {
     let mut out = [0u8; 256];
     let e = append_hex_line(
         &mut out,
@@ -248,11 +264,11 @@ fn show_digest(digest: [u8; 32]) {
         b"SHA-256 of these bytes, to be kept beside the archive: ",
         &digest,
     );
-    say(&out, e);
+    say(rt, &out, e)
 }
 
 // The book that an archive of so many bytes holds, and the digest of those bytes.
-pub fn show_book(len: usize, digest: [u8; 32], b: BookData) {
+pub fn show_book(rt: &impl Print, len: usize, digest: [u8; 32], b: BookData) -> io::Result<()> {
     let submitted = b.submitted;
     let n = b.submitted_count;
     let pending = b.pending_deliveries;
@@ -260,15 +276,15 @@ pub fn show_book(len: usize, digest: [u8; 32], b: BookData) {
     let retired = b.retired_submission_ids;
     let epoch = b.replay_epoch;
     let next = b.next_delivery_attempt_token.0;
-    show_number(b"archive of a submission book, bytes: ", len as u64);
-    show_digest(digest);
-    show_payments(submitted, n, pending, queued);
-    show_number(b"\nnext attempt token: ", next);
-    show_number(b"next submission id: ", b.next_submission_id.0);
-    show_totals(submitted, n, queued);
-    show_retained(submitted, n);
-    show_queue(pending, queued);
-    show_retirements(retired);
-    show_replay(epoch);
-    show_fates(submitted, n, next);
+    show_number(rt, b"archive of a submission book, bytes: ", len as u64)?;
+    show_digest(rt, digest)?;
+    show_payments(rt, submitted, n, pending, queued)?;
+    show_number(rt, b"\nnext attempt token: ", next)?;
+    show_number(rt, b"next submission id: ", b.next_submission_id.0)?;
+    show_totals(rt, submitted, n, queued)?;
+    show_retained(rt, submitted, n)?;
+    show_queue(rt, pending, queued)?;
+    show_retirements(rt, retired)?;
+    show_replay(rt, epoch)?;
+    show_fates(rt, submitted, n, next)
 }

@@ -1,5 +1,5 @@
 -- What a bundle pays out. A sum of amounts need not fit 64 bits: it is two numbers, in decimal one behind the other.
-use Rattle.std.specs.Prelude.{Bool, cond, List, [], map, ℕ, ◌+◌, ◌*◌, ◌/◌, ◌%◌, ◌^◌}
+use Rattle.std.specs.Prelude.{cond, List, [], map, ℕ, ◌+◌, ◌*◌, ◌/◌, ◌%◌, ◌^◌}
 use Rattle.base_lists.specs.Lists.{foldl, flat_map}
 use Rattle.book.specs.Sound.{spends_of, outputs_of}
 use Rattle.book.specs.declared.Output.{Output}

@@ -1,5 +1,5 @@
 -- Sums are exact: the remainders of `add_sum` change nothing of a book's sums, and `sum_text` is the number in decimal.
-use Rattle.std.specs.Prelude.{◌≡◌, refl, Bool, true, false, cond, List, [], ◌∷◌, ◌++◌, ℕ, zero, suc, ◌+◌, ◌-◌, ◌*◌, ◌/◌, ◌%◌, ◌^◌, ◌≤◌, ◌<◌, eqb, ltb, length, replicate}
+use Rattle.std.specs.Prelude.{◌≡◌, refl, Bool, true, cond, List, [], ◌∷◌, ◌++◌, ℕ, zero, suc, ◌+◌, ◌-◌, ◌*◌, ◌/◌, ◌%◌, ◌^◌, ◌≤◌, ◌<◌, eqb, ltb, length, replicate}
 use Rattle.std.proofs.Common.{sym, ap, ◌∙◌, append_assoc, append-nil, arith, pow-suc, mod-eq_of_lt, mul_assoc, mul_comm, div-one, mul-pos, div-lt_iff_lt-mul, zero-lt-suc, lt-ltb, le-ltb, ltb-true, ne_eqb}
 use Rattle.std.proofs.Math.Nat.{div-div-eq-div-mul, one-le-pow}
 use Rattle.base_lists.specs.Lists.{allb, foldl, flat_map}
@@ -9,7 +9,7 @@ use Rattle.book.specs.declared.SpendBundle.{SpendBundle}
 use Rattle.tool_text.specs.Ascii.{ascii}
 use Rattle.tool_text.specs.Numbers.{decimal, decimal_in}
 use Rattle.tool_payments.specs.declared.Sum.{Sum}
-use Rattle.tool_payments.specs.Amount.{value_of, sum_of, add_sum, add_amount, amounts_of, amount_out}
+use Rattle.tool_payments.specs.Amount.{value_of, sum_of, add_amount, amounts_of, amount_out}
 use Rattle.tool_payments.specs.Text.{padded, sum_text}
 
 abbrev pub total : List ℕ → ℕ

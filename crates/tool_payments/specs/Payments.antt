@@ -2,7 +2,6 @@
 use Rattle.std.specs.Prelude.{Bool, cond, ℕ}
 use Rattle.rules.specs.Parts.{current_bundle, current_applied_fee, current_acknowledged, fee_unresolved, is_landed, is_input_spent}
 use Rattle.book.specs.Sound.{readable_bundle, is_attach}
-use Rattle.book.specs.declared.OptionalId.{OptionalId}
 use Rattle.book.specs.declared.OptionalId.TheVariants.{Of}
 use Rattle.book.specs.declared.SubmissionChainTerminality.{SubmissionChainTerminality}
 use Rattle.book.specs.declared.SubmittedEntry.{SubmittedEntry}

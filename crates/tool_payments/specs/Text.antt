@@ -1,6 +1,5 @@
 -- A payment as a line, and the totals, as text.
-use Rattle.std.specs.Prelude.{◌≡◌, refl, Bool, true, false, cond, List, [], ◌∷◌, ◌++◌, ℕ, zero, suc, ◌+◌, ◌/◌, ◌%◌, ◌^◌, eqb, get_or}
-use Rattle.std.proofs.Common.{sym, ap, ◌∙◌}
+use Rattle.std.specs.Prelude.{Bool, true, false, cond, List, [], ◌∷◌, ◌++◌, ℕ, zero, suc, ◌+◌, ◌/◌, ◌%◌, ◌^◌, eqb, get_or}
 use Rattle.tool_text.specs.Ascii.{ascii}
 use Rattle.tool_text.specs.Numbers.{decimal, number_line}
 use Rattle.book.specs.declared.OptionalId.{OptionalId}

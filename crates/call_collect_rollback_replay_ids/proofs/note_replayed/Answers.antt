@@ -1,0 +1,27 @@
+-- An absent id changes nothing in the rules either; for a retained one there is room, since their step leaves the book sound.
+use mathlib.Core.Path.{sym, ◌∙◌}
+use Rattle.part_lookup.specs.Normal.{sound_normal}
+use Rattle.part_change.specs.ChangeLaws.{epoch_normal}
+use Rattle.call_collect_rollback_replay_ids.specs.Marking.{replay_none, mark_room, epoch_marked, replay_some}
+use Rattle.call_collect_rollback_replay_ids.proofs.note_replayed.Goals as goal
+
+pub position_of-place-requires : goal.position_of-place-requires
+position_of-place-requires c = sound_normal c.args.b c.requires
+
+pub returns-in_default : goal.returns-in_default
+returns-in_default c = replay_none c.args.b c.requires c.args.id.0 (sym c.position_of-place.ensures ∙ c.in_default.is)
+
+pub mark_replayed-marked-requires : goal.mark_replayed-marked-requires
+mark_replayed-marked-requires c = (epoch_normal c.args.b (sound_normal c.args.b c.requires), mark_room c.args.b c.requires c.args.id.0 (sym c.position_of-place.ensures ∙ c.in-At.is))
+
+pub set_epoch-requires : goal.set_epoch-requires
+set_epoch-requires c = (
+  sound_normal c.args.b c.requires,
+  epoch_marked c.args.b c.requires c.args.id.0
+      (sym c.position_of-place.ensures ∙ c.in-At.is) c.mark_replayed-marked.ensures,
+)
+
+pub returns : goal.returns
+returns c =
+    replay_some c.args.b c.requires c.args.id.0 (sym c.position_of-place.ensures ∙ c.in-At.is)
+    c.mark_replayed-marked.ensures c.set_epoch.ensures
