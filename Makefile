@@ -6,8 +6,8 @@
 CC ?= cc
 CXX ?= c++
 CFLAGS = -std=c11 -Wall -Wextra -Wconversion -Wsign-conversion -Werror -pedantic -O2
-SOURCES = crates.txt $(shell find crates -name '*.rt' -o -name '*.antt')
-PROVED = target/staticlib/libc_api.a
+SOURCES = crates.txt $(shell find crates -name out -prune -o \( -name '*.rt' -o -name '*.antt' \) -print)
+PROVED = target/libc_api_c.a
 LIBRARY = target/lib/libsubmission_book.a
 SONAME = libsubmission_book.so.0
 SHARED = target/lib/$(SONAME)
@@ -27,12 +27,12 @@ help:
 	@echo "make install   library, headers, pkg-config file and show_archive below PREFIX=/usr/local (DESTDIR= in front of it); make uninstall"
 	@echo "make library   the library's tests alone: C, C++, stack, sanitizers, the Rust crate, archives shown and decoded, installing"
 	@echo "make compare   call scripts, played by the driver and by the Rust (N=6000 SEED=1: so many, of this seed)"
-	@echo "make bench     every call, archives and SHA-256 against Rust, in one run (OLD=libc_api.a: every call against that build of the library)"
+	@echo "make bench     every call, archives and SHA-256 against Rust, in one run (OLD=libc_api_c.a: every call against that build of the library)"
 	@echo "make fuzz      ten minutes of coverage-guided fuzzing of the C boundary (SECONDS=30 for less), after building it for that"
 	@echo "make archives  damaged archives, read here and by the Rust side's decoder"
 	@echo "make fmt       the layout of every source, specification and proof"
 
-# The first run proves what it links, ten to twenty minutes on two processors; later ones take a second.
+# The first run proves what it links, which takes long; later ones take a second.
 run: lib target/bin/show_archive target/kitchen
 	@target/kitchen target/kitchen.archive
 	@echo
@@ -52,9 +52,9 @@ PROGRAMS =
 run install: PROGRAMS = show_archive
 library: PROGRAMS = show_archive tool_book_driver
 
-# The proved part is proved again when it is built, so it has a rule of its own.
+# The proved part: the exports, over all that they call.
 $(PROVED): $(SOURCES)
-	@tools/prove --library c_api $(PROGRAMS)
+	@tools/prove --library c_api_c $(PROGRAMS)
 	@touch $@
 
 # The proved part, and readers and builders in C beside it.
@@ -143,4 +143,4 @@ archives: target/bin/tool_book_driver
 	@tests/oracle/target/release/oracle archives --driver target/bin/tool_book_driver --seed 1 --archives 5
 
 fmt:
-	rt fmt
+	@for crate in crates/*/; do (cd "$$crate" && rt fmt) || exit 1; done

@@ -4,8 +4,8 @@
 set -eu
 cd "$(dirname "$0")/.."
 seconds=${1:-600}
-crate=c_api
-library=target/staticlib/lib$crate.a
+crate=c_api_c
+library=target/lib$crate.a
 out=$PWD/target/fuzz
 machine=$(uname -m)
 
@@ -22,39 +22,32 @@ need_tools() {
     for part in fuzzer asan; do
         [ -f "$runtime/libclang_rt.$part-$machine.a" ] || fail "clang's $part runtime is missing: install Debian's package libclang-rt-${version%%.*}-dev"
     done
-    kit=$(dirname "$(dirname "$(rt doc)")")
-    compiler=$kit/on/$machine/toolchain/bin/clang
-    [ -x "$compiler" ] || fail "the kit at $kit has no compiler for $machine"
+    toolchain=$(dirname "$(rt doc)")/toolchain
+    compiler=$toolchain/bin/clang
+    [ -x "$compiler" ] || fail "the kit has no compiler $compiler"
 }
 
-# Links everything of folder $1 into folder $2, but for the entry $3.
-link_all_but() {
-    mkdir -p "$2"
-    for entry in "$1"/*; do
-        [ "${entry##*/}" = "$3" ] || ln -s "$entry" "$2/${entry##*/}"
+# A folder like the kit's toolchain, whose compiler also keeps the LLVM module that it is given.
+make_keeping_toolchain() {
+    rm -rf "$out/toolchain"
+    mkdir -p "$out/toolchain/bin"
+    for entry in "$toolchain"/* "$toolchain"/bin/*; do
+        name=${entry#"$toolchain"/}
+        [ "$name" = bin ] || [ "$name" = bin/clang ] || ln -s "$entry" "$out/toolchain/$name"
     done
-}
-
-# A folder like the kit's, whose compiler also keeps the LLVM module that it is given.
-make_keeping_kit() {
-    rm -rf "$out/kit"
-    link_all_but "$kit" "$out/kit" on
-    link_all_but "$kit/on/$machine" "$out/kit/on/$machine" toolchain
-    link_all_but "$kit/on/$machine/toolchain" "$out/kit/on/$machine/toolchain" bin
-    link_all_but "$kit/on/$machine/toolchain/bin" "$out/kit/on/$machine/toolchain/bin" clang
-    cat >"$out/kit/on/$machine/toolchain/bin/clang" <<END
+    cat >"$out/toolchain/bin/clang" <<END
 #!/bin/sh
 for word in "\$@"; do
     case \$word in *.bc) cp "\$word" "$out/module.bc" ;; esac
 done
 exec "$compiler" "\$@"
 END
-    chmod +x "$out/kit/on/$machine/toolchain/bin/clang"
+    chmod +x "$out/toolchain/bin/clang"
 }
 
 # The module is made anew only where a source, the list of crates or the kit has changed.
 module_stamp() {
-    { rt version; cat crates.txt; find crates -path '*/src/*' -type f | sort | xargs sha256sum; } | sha256sum
+    { rt version; cat crates.txt; find crates -name out -prune -o -path '*/src/*' -type f -print | sort | xargs sha256sum; } | sha256sum
 }
 
 build_module() {
@@ -63,9 +56,10 @@ build_module() {
         return
     fi
     echo "fuzz: proving $crate and compiling it, which takes minutes"
-    make_keeping_kit
+    tools/prove --library "$crate" || fail "$library was not built"
+    make_keeping_toolchain
     rm -f "$out/module.bc"
-    RATTLE_HOME=$out/kit rt staticlib "$crate" >"$out/staticlib.log" 2>&1 || fail "rt staticlib $crate failed: see target/fuzz/staticlib.log"
+    tools/prove --over-kept "$crate" "$out/lib$crate.a" "$out/toolchain" || fail "$crate was not compiled once more"
     [ -f "$out/module.bc" ] || fail "the compiler was given no LLVM module"
     echo "$stamp" >"$out/stamp"
 }
@@ -84,9 +78,7 @@ instrument_module() {
 
 # Each target twice: on the instrumented library, and on the library as it is delivered.
 build_target() {
-    include=include
-    [ -f "$include/submission_book.h" ] || include=crates/$crate/include
-    words="-std=c11 -g -O1 -Wall -Wextra -Wno-unused-function -I $include"
+    words="-std=c11 -g -O1 -Wall -Wextra -Wno-unused-function -I include"
     # shellcheck disable=SC2086
     clang $words -fsanitize=address -c "fuzz/$1.c" -o "$out/$1.o"
     clang -fsanitize=fuzzer,address "$out/$1.o" "$out/module.o" -o "$out/$1"

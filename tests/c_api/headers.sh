@@ -24,7 +24,7 @@ for language in "${CC:-cc} -std=c11 -x c" "${CXX:-c++} -std=c++17 -x c++"; do
     # shellcheck disable=SC2086
     $language "${warnings[@]}" - <<<"${ignored/\{ /\{ (void)!}"
 done
-needed=$(nm -u target/staticlib/libc_api.a | awk '$1 == "U" { print $2 }' | sort | xargs)
+needed=$(nm -u target/libc_api_c.a | awk '$1 == "U" { print $2 }' | sort | xargs)
 [ "$needed" = "memcpy memmove memset" ] || { echo "headers: the proved part needs $needed"; exit 1; }
 # README.md shows examples/first.c whole
 awk '/^```c$/ { on = 1; next } /^```$/ { on = 0 } on' README.md | diff - examples/first.c || { echo "headers: README.md's first program is not examples/first.c"; exit 1; }

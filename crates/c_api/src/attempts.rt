@@ -6,37 +6,29 @@ use c_calls_attempts::{
     relinquish_completed_attempt, stop_attempt,
 };
 
-#[unsafe(no_mangle)]
-pub extern "C" fn submission_book_acknowledge_attempt(
-    book: &mut [u8],
-    token: u64,
-    answer: &mut [u8],
-) -> u8
+#[tactic(auto, using(crate::specs::Functions::acknowledge_did))]
+pub fn submission_book_acknowledge_attempt(book: &mut [u8], token: u64, answer: &mut [u8]) -> u8
     ensures { Did book.old (CCall.AcknowledgeAttempt token answer.old) (answered result book.new answer.new) }
 {
     acknowledge_attempt(book, token, answer)
 }
 
-#[unsafe(no_mangle)]
-pub extern "C" fn submission_book_stop_attempt(book: &mut [u8], token: u64, answer: &mut [u8]) -> u8
+#[tactic(auto, using(crate::specs::Functions::stop_did))]
+pub fn submission_book_stop_attempt(book: &mut [u8], token: u64, answer: &mut [u8]) -> u8
     ensures { Did book.old (CCall.StopAttempt token answer.old) (answered result book.new answer.new) }
 {
     stop_attempt(book, token, answer)
 }
 
-#[unsafe(no_mangle)]
-pub extern "C" fn submission_book_abandon_attempt(
-    book: &mut [u8],
-    token: u64,
-    answer: &mut [u8],
-) -> u8
+#[tactic(auto, using(crate::specs::Functions::abandon_did))]
+pub fn submission_book_abandon_attempt(book: &mut [u8], token: u64, answer: &mut [u8]) -> u8
     ensures { Did book.old (CCall.AbandonAttempt token answer.old) (answered result book.new answer.new) }
 {
     abandon_attempt(book, token, answer)
 }
 
-#[unsafe(no_mangle)]
-pub extern "C" fn submission_book_relinquish_completed_attempt(
+#[tactic(auto, using(crate::specs::Functions::relinquish_did))]
+pub fn submission_book_relinquish_completed_attempt(
     book: &[u8],
     token: u64,
     answer: &mut [u8],
@@ -46,26 +38,22 @@ pub extern "C" fn submission_book_relinquish_completed_attempt(
     relinquish_completed_attempt(book, token, answer)
 }
 
-#[unsafe(no_mangle)]
-pub extern "C" fn submission_book_fee_intent_for_attempt(
-    book: &[u8],
-    token: u64,
-    answer: &mut [u8],
-) -> u8
+#[tactic(auto, using(crate::specs::Functions::fee_intent_did))]
+pub fn submission_book_fee_intent_for_attempt(book: &[u8], token: u64, answer: &mut [u8]) -> u8
     ensures { Did book.now (CCall.FeeIntentForAttempt token answer.old) (answered result book.now answer.new) }
 {
     fee_intent_for_attempt(book, token, answer)
 }
 
-#[unsafe(no_mangle)]
-pub extern "C" fn submission_book_attempt(book: &[u8], token: u64, answer: &mut [u8]) -> u8
+#[tactic(auto, using(crate::specs::Functions::attempt_did))]
+pub fn submission_book_attempt(book: &[u8], token: u64, answer: &mut [u8]) -> u8
     ensures { Did book.now (CCall.Attempt token answer.old) (answered result book.now answer.new) }
 {
     attempt(book, token, answer)
 }
 
-#[unsafe(no_mangle)]
-pub extern "C" fn submission_book_finalize_attempt(
+#[tactic(auto, using(crate::specs::Functions::finalize_did))]
+pub fn submission_book_finalize_attempt(
     book: &mut [u8],
     token: u64,
     source: u8,

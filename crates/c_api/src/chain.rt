@@ -3,8 +3,8 @@ ghost use Rattle.c_api.specs.Functions.{CCall, Did, answered, back};
 
 use c_calls_chain::{causally_rolled_back_ids, reconcile_chain_terminality};
 
-#[unsafe(no_mangle)]
-pub extern "C" fn submission_book_causally_rolled_back_ids(
+#[tactic(auto, using(crate::specs::Functions::rolled_back_did))]
+pub fn submission_book_causally_rolled_back_ids(
     book: &[u8],
     absent: &[u8],
     inputs: &[u8],
@@ -15,8 +15,8 @@ pub extern "C" fn submission_book_causally_rolled_back_ids(
     causally_rolled_back_ids(book, absent, inputs, answer)
 }
 
-#[unsafe(no_mangle)]
-pub extern "C" fn submission_book_reconcile_chain_terminality(
+#[tactic(auto, using(crate::specs::Functions::reconcile_did))]
+pub fn submission_book_reconcile_chain_terminality(
     book: &mut [u8],
     observed: &[u8],
     spent: &[u8],

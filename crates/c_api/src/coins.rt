@@ -3,8 +3,8 @@ ghost use Rattle.c_api.specs.Functions.{CCall, Did, counted};
 
 use c_calls_chain::{absent_outputs_for_ids, reconciliation_input_coins};
 
-#[unsafe(no_mangle)]
-pub extern "C" fn submission_book_reconciliation_input_coins(
+#[tactic(auto, using(crate::specs::Functions::input_coins_did))]
+pub fn submission_book_reconciliation_input_coins(
     book: &[u8],
     outputs: &[u8],
     answer: &mut [u8],
@@ -15,8 +15,8 @@ pub extern "C" fn submission_book_reconciliation_input_coins(
     reconciliation_input_coins(book, outputs, answer, count)
 }
 
-#[unsafe(no_mangle)]
-pub extern "C" fn submission_book_absent_outputs_for_ids(
+#[tactic(auto, using(crate::specs::Functions::absent_outputs_did))]
+pub fn submission_book_absent_outputs_for_ids(
     book: &[u8],
     ids: &[u64],
     absent: &[u8],

@@ -4,16 +4,14 @@ ghost use Rattle.c_api.specs.Functions.{Sha256Did, CoinIdDid};
 use c_answer::{put_coin_id, put_digest};
 
 // The SHA-256 digest of a message.
-#[unsafe(no_mangle)]
-pub extern "C" fn submission_book_sha256(message: &[u8], digest: &mut [u8]) -> u8
+pub fn submission_book_sha256(message: &[u8], digest: &mut [u8]) -> u8
     ensures { Sha256Did message.now digest.old result digest.new }
 {
     put_digest(message, digest)
 }
 
 // The id of a coin string.
-#[unsafe(no_mangle)]
-pub extern "C" fn submission_book_coin_id(coin: &[u8], id: &mut [u8]) -> u8
+pub fn submission_book_coin_id(coin: &[u8], id: &mut [u8]) -> u8
     ensures { CoinIdDid coin.now id.old result id.new }
 {
     put_coin_id(coin, id)

@@ -6,40 +6,36 @@ use c_calls_epoch::{
     replay_rollback_height,
 };
 
-#[unsafe(no_mangle)]
-pub extern "C" fn submission_book_begin_replay(
-    book: &mut [u8],
-    height: u64,
-    answer: &mut [u8],
-) -> u8
+#[tactic(auto, using(crate::specs::Functions::begin_did))]
+pub fn submission_book_begin_replay(book: &mut [u8], height: u64, answer: &mut [u8]) -> u8
     ensures { Did book.old (CCall.BeginReplay height answer.old) (answered result book.new answer.new) }
 {
     begin_replay(book, height, answer)
 }
 
-#[unsafe(no_mangle)]
-pub extern "C" fn submission_book_finish_replay_if_advanced(book: &mut [u8], height: u64) -> u8
+#[tactic(auto, using(crate::specs::Functions::finish_did))]
+pub fn submission_book_finish_replay_if_advanced(book: &mut [u8], height: u64) -> u8
     ensures { Did book.old (CCall.FinishReplayIfAdvanced height) (back result book.new) }
 {
     finish_replay_if_advanced(book, height)
 }
 
-#[unsafe(no_mangle)]
-pub extern "C" fn submission_book_replay_rollback_height(book: &[u8], answer: &mut [u8]) -> u8
+#[tactic(auto, using(crate::specs::Functions::height_did))]
+pub fn submission_book_replay_rollback_height(book: &[u8], answer: &mut [u8]) -> u8
     ensures { Did book.now (CCall.ReplayRollbackHeight answer.old) (answered result book.now answer.new) }
 {
     replay_rollback_height(book, answer)
 }
 
-#[unsafe(no_mangle)]
-pub extern "C" fn submission_book_emit_retirement(book: &mut [u8], id: u64) -> u8
+#[tactic(auto, using(crate::specs::Functions::emit_did))]
+pub fn submission_book_emit_retirement(book: &mut [u8], id: u64) -> u8
     ensures { Did book.old (CCall.EmitRetirement id) (back result book.new) }
 {
     emit_retirement(book, id)
 }
 
-#[unsafe(no_mangle)]
-pub extern "C" fn submission_book_drain_retirements(book: &mut [u8], answer: &mut [u8]) -> u8
+#[tactic(auto, using(crate::specs::Functions::retirements_did))]
+pub fn submission_book_drain_retirements(book: &mut [u8], answer: &mut [u8]) -> u8
     ensures { Did book.old (CCall.DrainRetirements answer.old) (answered result book.new answer.new) }
 {
     drain_retirements(book, answer)

@@ -1,6 +1,6 @@
 -- Calls that only look, and write what they found into a lent buffer: the book stays, and the length is told beside the answer.
 use Rattle.std.specs.Prelude.{ℕ, ◌≤◌, ◌≡◌, refl, Bool, true, false, cond, ◌&&◌, length, leb}
-use Rattle.std.proofs.Common.{sym, ◌∙◌, subst, arith, leb-true}
+use Rattle.std.proofs.Common.{sym, ◌∙◌, arith, leb-true}
 use Rattle.std.proofs.Math.Path.{ap}
 use mathlib.Core.List.{List, []}
 use Rattle.std.proofs.Math.Option.{Option, none, some}
@@ -17,12 +17,12 @@ use Rattle.rules.specs.Steps.{run_book}
 use Rattle.rules.specs.Calls.Common.{writing}
 use Rattle.rules.specs.Calls.ReconciliationInputCoins.{input_coins_to_reconcile, reconciliation_input_coins}
 use Rattle.rules.specs.Calls.AbsentOutputsForIds.{absent_outputs, absent_outputs_for_ids}
-use Rattle.part_replies.specs.Reply.{value_of, answer_of, written_reply, buffer_left}
+use Rattle.part_replies.specs.Reply.{written_reply, buffer_left}
 use Rattle.part_replies.specs.declared.CallAnswer.{CallAnswer}
 use Rattle.part_replies.specs.declared.CallAnswer.TheVariants.{Done, Refused}
 use Rattle.part_replies.specs.declared.WrittenReply.{WrittenReply}
 use Rattle.c_boundary.specs.Held.{held_in, Holding}
-use Rattle.c_boundary.specs.Settle.{Left, Form, refusal, written, written_fits, holding_room, holding_bytes, settled, boundary, boundary_held, boundary_absent, overlay_none, Gives, gives_as}
+use Rattle.c_boundary.specs.Settle.{Left, Form, written_fits, holding_room, holding_bytes, settled, boundary, boundary_held, boundary_absent, overlay_none, Gives, gives_as}
 use Rattle.c_boundary.specs.Forms.{bytes_form}
 use Rattle.book.specs.Refusals as refusals
 

@@ -51,7 +51,7 @@ use Rattle.part_plan.specs.declared.SubmissionPlanDelta.{SubmissionPlanDelta}
 use Rattle.part_plan.specs.Plan.{failing, storing, failure_at, token_taken, issue_plan, deliver_plan, tightened_by, met_plan, removal_plan, known_plan_by, known_plan, new_submitted, id_taken, retain_plan, unknown_plan}
 use Rattle.call_drain.specs.ListLaws.{put_at, put_set, put_end, put_within, get_put, set_put}
 use Rattle.call_drain.specs.Planned.{place_on, found_plan, unnamed_plan, plan_by, candidate_plan}
-use Rattle.call_drain.specs.Carried.{placed, withdrawn, outcome_by, InPlace, AnswerFits}
+use Rattle.call_drain.specs.Carried.{placed, outcome_by, InPlace, AnswerFits}
 use Rattle.book.specs.Refusals as refusals
 
 -- the rules come to what carrying out the plan q makes, and q can be carried out

@@ -38,7 +38,7 @@ use Rattle.rules.specs.Calls.WriteArchive.{write_archive}
 use Rattle.rules.specs.Opened.{opened}
 use Rattle.rules.specs.Rule.{Rule, ◌<$>◌, Outcome, ended, undone, stopped, mapped, run_map, Answer, answered, left}
 use Rattle.rules.specs.Steps.{on_book, run_book}
-use Rattle.rules_laws.specs.Sound.Run.{SoundBook, sound_call, sound_opened}
+use Rattle.rules_laws.specs.Sound.Run.{sound_call, sound_opened}
 use Rattle.rules_ledger.specs.Theorem.{Accounted, ledger_theorem}
 use Rattle.part_replies.specs.Reply.{outcome_of, book_left}
 use Rattle.part_sound_laws.specs.Holds.{Holds, holds_view, holds_soundb}

@@ -1,0 +1,15 @@
+-- The door's number tells which: the refusal by it, or what the call for a sound book answers.
+use mathlib.Core.Path.{sym, ap, ◌∙◌}
+use Rattle.submission.specs.Answers.{ids_from, ids_given}
+use Rattle.part_door.specs.Door.{open_sound}
+use Rattle.submission.specs.Door.{refused, passed}
+use Rattle.submission.proofs.SubmissionBook.drain_retirements.Goals as goal
+
+pub returns-then-refusal-ne0 : goal.returns-then-refusal-ne0
+returns-then-refusal-ne0 c = refused c.args.self _ c.door-refusal.ensures (ids_given c.args.self) c.if-refusal-ne0.true c.ids_refused.ensures
+
+pub drain_retirements_sound-r-requires : goal.drain_retirements_sound-r-requires
+drain_retirements_sound-r-requires c = open_sound c.args.self.parts (sym c.door-refusal.ensures ∙ c.if-refusal-ne0.false)
+
+pub returns : goal.returns
+returns c = passed c.args.self _ c.door-refusal.ensures (ids_given c.args.self) c.if-refusal-ne0.false (c.ids_answer.ensures ∙ ap ids_from c.drain_retirements_sound-r.ensures)

@@ -1,0 +1,13 @@
+-- By the id of the queue entry, as `for_by` goes.
+use Rattle.tool_book_summary.specs.Queue.{for_by, is_for}
+use Rattle.rules.specs.Parts.{intent_of}
+use mathlib.Core.Path.{sym, ap, ◌∙◌}
+use Rattle.tool_book_summary.proofs.queue.is_for.Goals as goal
+
+pub returns-in-NoId : goal.returns-in-NoId
+unfolding is_for
+returns-in-NoId c = c.has_intent.ensures ∙ sym (ap (for_by c.args.t (intent_of c.args.d.intent)) c.in-NoId.is)
+
+pub returns-in-Of : goal.returns-in-Of
+unfolding is_for
+returns-in-Of c = sym (ap (for_by c.args.t (intent_of c.args.d.intent)) c.in-Of.is)

@@ -1,0 +1,22 @@
+use Rattle.tool_book_summary.specs.Queue.{same_new}
+use Rattle.tool_book_summary.specs.Laws.{found_turn, found_done}
+use mathlib.Core.List.{List}
+use Rattle.book.specs.declared.PendingDelivery.{PendingDelivery}
+use mathlib.Core.Path.{◌≡◌, refl, ap, ◌∙◌}
+use native.Mathlib.Omega.{arith}
+use lib.ListN.{length, drop}
+use Rattle.base_lists.specs.Lists.{anyb}
+use Rattle.base_lists.specs.Laws.{counted_step, counted_end, take_cut}
+use borrow.Author.Rules.{rules}
+use Rattle.tool_book_summary.proofs.queue.repeats.Goals as goal
+
+pub loop-i-init : goal.loop-i-init
+loop-i-init c = (refl, omega (arith, c.at_most-k.ensures))
+
+pub loop-i-preserved : goal.loop-i-preserved
+loop-i-preserved c = let l : length c.args.a ≡ 16 = search rules in (found_turn (same_new c.args.d) c.loop-i.found c.same_new-found.ensures (counted_step c.args.a c.at_most-k.result c.loop-i.i _ c.loop-i-test.true (omega (arith, l, c.loop-i.invariant.1))) c.loop-i.invariant.0, c.loop-i.invariant.1)
+
+pub returns : goal.returns
+returns c =
+    let l : length c.args.a ≡ 16 = search rules in found_done (same_new c.args.d) c.loop-i.found (counted_end c.args.a c.at_most-k.result c.loop-i.i c.loop-i-test.false (omega (arith, l, c.loop-i.invariant.1))) c.loop-i.invariant.0
+    ∙ ap (λ (x : List PendingDelivery). anyb (same_new c.args.d) (drop c.args.from x)) (take_cut 16 c.args.n c.at_most-k.result c.args.a l c.at_most-k.ensures)
