@@ -162,7 +162,7 @@ sized_list {m} g b t z (then_call {d} {c} {r} {cs} {rs} {e} x xs) =
     let k = book_after encode_model ys m in
     let tc = typed_call c t.0 in
     let lc = lends c z.0 in
-    let f = sized_list s.good (omega (arith, s.long)) t.1 z.1 xs in
+    let f = sized_list {m = k} s.good (omega (arith, s.long)) t.1 z.1 xs in
     record {
       never_12 = (λ p. not_twelve m d b g.sound g.within (lent c) (call_of c) tc lc z.0 (sym (ap (λ (y : Returned). y.number) s.returned) ∙ p), f.never_12);
       all_heard = ap (λ (l : List Call). ys ++ l) (ap (λ (y : ℕ). calls y k cs) (sym s.long) ∙ f.all_heard)

@@ -144,7 +144,7 @@ behind {m} g t (then_call {d} {c} {r} {cs} {rs} {e} x xs) =
     let s = stepped g t.0 x in
     let ys = heard_of (length d) m c in
     let k = book_after encode_model ys m in
-    let b = behind s.good t.1 xs in
+    let b = behind {m = k} s.good t.1 xs in
     let z : book_after encode_model (calls (length r.book) k cs) k ≡ book_after encode_model (ys ++ calls (length d) k cs) m =
     ap (λ (y : ℕ). book_after encode_model (calls y k cs) k) s.long ∙ sym (book_append ys (calls (length d) k cs) m) in
     record {

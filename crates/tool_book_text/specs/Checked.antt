@@ -1,5 +1,5 @@
 -- Stored fingerprints, each with what it agrees with when it is computed anew (docs/ARCHIVE.md, "The fingerprints").
-use Rattle.std.specs.Prelude.{◌≡◌, refl, Bool, true, false, not, List, ◌++◌, ℕ}
+use Rattle.std.specs.Prelude.{◌≡◌, Bool, true, false, not, List, ◌++◌, ℕ}
 use Rattle.std.proofs.Common.{sym, ap, ◌∙◌}
 use Rattle.std.proofs.lemmas.Bool.{not-true, not-false}
 use Rattle.base_lists.specs.Bytes.{eqs}
