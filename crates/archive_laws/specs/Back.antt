@@ -1,16 +1,11 @@
 -- What the types say of a sound book, in its cells and over plain lists.
-use Rattle.std.specs.Prelude.{◌≡◌, refl, Bool, true, false, ◌&&◌, List, [], ◌∷◌, ℕ, ◌<◌, ◌≤◌, length, take, replicate}
-use Rattle.std.proofs.Common.{sym, ap, ◌∙◌, subst, arith}
+use Rattle.std.specs.Prelude.{◌≡◌, refl, true, replicate}
+use Rattle.std.proofs.Common.{arith}
 use Rattle.book.specs.Zero.{zero_fee_intent, zero_hash, zero_attempt, no_attempt, no_slots, base_variant, zero_retained_intent, zero_status, zero_state, zero_entry, zero_submitted, zero_intent, zero_delivery}
 use Rattle.book.specs.SoundLaws.{sound, fits_view, sound_back}
 use Rattle.book.specs.Sound.{sound_lists, soundb}
-use Rattle.book.specs.Model.{Book, view, back, list16, list64, ids16, ids64}
-use Rattle.book.specs.Typed.{Every, U8, U64, Array, Typed, TypedSubmitted, TypedDelivery}
-use Rattle.book.specs.declared.SubmittedTx.{SubmittedTx}
-use Rattle.book.specs.declared.PendingDelivery.{PendingDelivery}
-use Rattle.book.specs.declared.Ids16.{Ids16}
-use Rattle.book.specs.declared.Ids64.{Ids64}
-use Rattle.book.specs.declared.ReplayEpoch.{ReplayEpoch}
+use Rattle.book.specs.Model.{Book, view, back}
+use Rattle.book.specs.Typed.{U8, U64, Array, Typed, TypedSubmitted, TypedDelivery}
 use Rattle.book.specs.declared.BookData.{BookData}
 use Rattle.archive_laws.specs.Cells.{every_take, every_replicate, array_cells}
 use Rattle.archive_laws.specs.Bundles.{zero_bundle_typed}

@@ -1,25 +1,23 @@
 -- The book over plain lists: the parser accepts exactly the bytes of sound ones.
-use Rattle.std.specs.Prelude.{◌≡◌, refl, Bool, true, false, not, ◌&&◌, List, [], ◌∷◌, ◌++◌, map, ℕ, ◌<◌, ◌≤◌, ◌^◌, eqb, ltb, length}
+use Rattle.std.specs.Prelude.{◌≡◌, refl, true, not, ◌&&◌, List, [], ◌++◌, map, ℕ, ◌<◌, ◌≤◌, ◌^◌, eqb, length}
 use Rattle.std.proofs.Common.{sym, ap, ◌∙◌, subst, append-nil, append_assoc, arith, eqb-true}
 use Rattle.base_lists.specs.Lists.{allb, elemb, distinctb, flat_map, risingb}
 use Rattle.base_lists.specs.Laws.{and_split, and_both}
-use Rattle.codec_forms.specs.Wire.{be, enc_many, enc_list, Parser, number, checked, list_from, list_of}
+use Rattle.codec_forms.specs.Wire.{be, enc_list, list_of}
 use Rattle.codec_forms.specs.Lawful.{Lawful, step, finish, recode, regood}
-use Rattle.codec_forms.specs.Items.{number_lawful, checked_lawful, list_from_lawful, AllFrom}
+use Rattle.codec_forms.specs.Items.{AllFrom}
+use Rattle.codec_forms.proofs.Items.{number_lawful, checked_lawful, list_from_lawful}
 use Rattle.archive_bundle_form.specs.Forms.{encode_height}
 use Rattle.book.specs.Zero.{zero_submitted, zero_delivery}
 use Rattle.book.specs.Sound.{sound_submitted, sound_delivery, id_of, tokens_of, sound_lists}
 use Rattle.book.specs.SoundLaws.{sound_lists_lem, lists_sound}
 use Rattle.book.specs.Model.{Book}
 use Rattle.book.specs.Typed.{Every, U64, TypedOptionalHeight, TypedSubmitted, TypedDelivery}
-use Rattle.book.specs.declared.Token.{Token}
-use Rattle.book.specs.declared.SubmissionId.{SubmissionId}
 use Rattle.book.specs.declared.OptionalHeight.{OptionalHeight}
-use Rattle.book.specs.declared.OptionalHeight.TheVariants.{NoHeight, At}
 use Rattle.book.specs.declared.SubmittedTx.{SubmittedTx}
 use Rattle.book.specs.declared.PendingDelivery.{PendingDelivery}
 use Rattle.archive_form.specs.Encode.{encode_submitted, encode_delivery, encode_numbers, encode_model}
-use Rattle.archive_form.specs.Parse.{above, parse_submitted, parse_delivery, parse_retired, parse_replayed, Numbers, parse_numbers, parse_model}
+use Rattle.archive_form.specs.Parse.{above, parse_delivery, parse_retired, parse_replayed, Numbers, parse_numbers, parse_model}
 use Rattle.archive_laws.specs.Cells.{six, every_from, from_every, every_test, test_every, every_map, every_both}
 use Rattle.archive_laws.specs.Parts.{height_lawful}
 use Rattle.archive_laws.specs.Entries.{GoodSubmitted, submitted_lawful, GoodDelivery, delivery_lawful}

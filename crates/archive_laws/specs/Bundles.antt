@@ -1,23 +1,24 @@
 -- Outputs, runs, spends and bundles: the parser accepts exactly the bytes of sound ones.
-use Rattle.std.specs.Prelude.{◌≡◌, refl, Bool, true, false, not, ◌&&◌, ◌||◌, List, [], ◌∷◌, ◌++◌, ℕ, zero, suc, ◌<◌, ◌≤◌, leb, eqb, length, take, replicate}
-use Rattle.std.proofs.Common.{sym, ap, ◌∙◌, subst, append-nil, append_assoc, zero-le, arith, leb-true, le-leb, eqb-true, eq-eqb}
+use Rattle.std.specs.Prelude.{◌≡◌, refl, Bool, true, false, not, ◌||◌, List, [], ◌∷◌, ◌++◌, ℕ, ◌≤◌, leb, length, take}
+use Rattle.std.proofs.Common.{sym, ap, ◌∙◌, append-nil, append_assoc, arith, le-leb, eqb-true, eq-eqb}
 use Rattle.std.proofs.lemmas.Bool.{false≢true}
 use Rattle.base_lists.specs.Lists.{allb, cells, tail_of, is_zero}
 use Rattle.base_lists.specs.Laws.{take_cells, tail_cells}
-use Rattle.codec_forms.specs.Wire.{be, enc_many, enc_list, enc_opt, Parser, run, number, counted, checked, list_of}
-use Rattle.codec_forms.specs.Lawful.{Lawful, IsBytes, step, finish, recode, regood}
-use Rattle.codec_forms.specs.Items.{number_lawful, checked_lawful, counted_lawful, list_from_lawful, optional_by_lawful, mark, AllFrom}
+use Rattle.codec_forms.specs.Wire.{be, enc_many, enc_list, enc_opt, run, counted, list_of}
+use Rattle.codec_forms.specs.Lawful.{Lawful, step, finish, recode, regood}
+use Rattle.codec_forms.specs.Items.{mark}
+use Rattle.codec_forms.proofs.Items.{number_lawful, counted_lawful, list_from_lawful, optional_by_lawful}
 use Rattle.archive_bundle_form.specs.Forms.{encode_output, encode_run, encode_spend, encode_bundle}
 use Rattle.book.specs.Zero.{zero_output, zero_spend, zero_bundle, is_zero_output, is_zero_spend}
 use Rattle.book.specs.Sound.{sound_spend, sound_bundle, spends_of, outputs_of}
-use Rattle.book.specs.Typed.{Every, U8, Array, Bytes, TypedOutput, TypedSpend, TypedBundle}
+use Rattle.book.specs.Typed.{Every, U8, Bytes, TypedOutput, TypedSpend, TypedBundle}
 use Rattle.book.specs.declared.Output.{Output}
 use Rattle.book.specs.declared.CoinSpend.{CoinSpend}
 use Rattle.book.specs.declared.SpendBundle.{SpendBundle}
 use Rattle.archive_form.specs.Parse.{parse_output, Run, unreadable, parse_run, parse_spend, parse_bundle}
 use Rattle.book.specs.ZeroLaws.{output_zero_is, spend_zero_is}
 use Rattle.book.specs.SoundLaws.{SoundSpend, sound_spend_lem, SoundBundle, sound_bundle_lem}
-use Rattle.archive_laws.specs.Cells.{all_true, every_take, every_replicate, array_cells, every_from, from_every, every_test, test_every, every_map, every_both, bytes_every, every_bytes, bytes_lawful}
+use Rattle.archive_laws.specs.Cells.{all_true, every_take, every_replicate, array_cells, every_from, from_every, every_test, test_every, every_map, every_both, bytes_lawful}
 
 pub output_lawful : Lawful TypedOutput encode_output parse_output
 unfolding encode_output parse_output

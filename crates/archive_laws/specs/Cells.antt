@@ -1,11 +1,12 @@
 -- What the elements of a list have, in counted cells and in a list that is read element by element.
-use Rattle.std.specs.Prelude.{◌≡◌, refl, Bool, true, false, ◌&&◌, List, [], ◌∷◌, ◌++◌, ℕ, zero, suc, ◌-◌, ◌<◌, ◌≤◌, length, get_or, take, replicate}
-use Rattle.std.proofs.Common.{sym, ap, ◌∙◌, subst, append_assoc, arith, length-take-le}
+use Rattle.std.specs.Prelude.{◌≡◌, refl, Bool, true, ◌&&◌, List, [], ◌∷◌, ◌++◌, ℕ, zero, suc, ◌-◌, ◌≤◌, length, take, replicate}
+use Rattle.std.proofs.Common.{sym, append_assoc, arith, length-take-le}
 use Rattle.base_lists.specs.Lists.{allb, cells, tail_of}
 use Rattle.base_lists.specs.Laws.{Trues, ands, and_both, and_split, length_cells, tail_length}
 use Rattle.codec_forms.specs.Wire.{run}
 use Rattle.codec_forms.specs.Lawful.{Lawful, IsBytes, regood}
-use Rattle.codec_forms.specs.Items.{RunOf, run_lawful, AllFrom}
+use Rattle.codec_forms.specs.Items.{AllFrom}
+use Rattle.codec_forms.proofs.Items.{run_lawful}
 use Rattle.book.specs.Typed.{Every, U8, Array, Bytes}
 
 -- parts one after the other: as they are read and as they are written

@@ -1,30 +1,22 @@
 -- Retained submissions and queue entries: the parsers accept exactly the bytes of sound ones.
-use Rattle.std.specs.Prelude.{◌≡◌, refl, Bool, true, false, not, ◌&&◌, ◌||◌, List, [], ◌∷◌, ◌++◌, map, ℕ, ◌<◌, ◌^◌}
+use Rattle.std.specs.Prelude.{◌≡◌, refl, true, false, not, List, [], ◌++◌, map, ℕ, ◌<◌, ◌^◌}
 use Rattle.std.proofs.Common.{sym, ap, ◌∙◌, subst, append-nil, append_assoc}
 use Rattle.base_lists.specs.Lists.{allb, elemb, flat_map}
 use Rattle.base_lists.specs.Laws.{and_split, and_both}
-use Rattle.codec_forms.specs.Wire.{be, Parser, number}
+use Rattle.codec_forms.specs.Wire.{be}
 use Rattle.codec_forms.specs.Lawful.{Lawful, step, finish, recode}
-use Rattle.codec_forms.specs.Items.{number_lawful, checked_lawful}
+use Rattle.codec_forms.proofs.Items.{number_lawful, checked_lawful}
 use Rattle.archive_bundle_form.specs.Forms.{encode_bundle, encode_height, encode_fee_intent}
-use Rattle.book.specs.Sound.{sound_fee_intent, sound_hash, sound_attempt, sound_slots, sound_variant, sound_bundle, readable_bundle, sound_entry, sound_submitted, sound_intent, sound_delivery, id_of, attempt_token, tokens_of, spends_of}
+use Rattle.book.specs.Sound.{sound_fee_intent, sound_attempt, sound_slots, sound_bundle, readable_bundle, sound_submitted, sound_intent, sound_delivery, id_of, attempt_token, tokens_of}
 use Rattle.book.specs.SoundLaws.{SoundEntry, sound_entry_lem, entry_sound, sound_submitted_lem, submitted_sound}
-use Rattle.book.specs.Typed.{Bytes, TypedOptionalHeight, TypedOptionalId, TypedFeeIntent, TypedHash, TypedSlots, TypedVariant, TypedBundle, TypedSubmitted, TypedIntent, TypedDelivery}
-use Rattle.book.specs.declared.Height.{Height}
-use Rattle.book.specs.declared.SubmissionId.{SubmissionId}
+use Rattle.book.specs.Typed.{Bytes, TypedOptionalHeight, TypedOptionalId, TypedBundle, TypedSubmitted, TypedDelivery}
 use Rattle.book.specs.declared.OptionalHeight.{OptionalHeight}
-use Rattle.book.specs.declared.OptionalHeight.TheVariants.{NoHeight, At}
 use Rattle.book.specs.declared.OptionalId.{OptionalId}
-use Rattle.book.specs.declared.OptionalId.TheVariants.{NoId, Of}
 use Rattle.book.specs.declared.SubmissionFeeIntent.{SubmissionFeeIntent}
 use Rattle.book.specs.declared.SubmissionDeliveryGoal.{SubmissionDeliveryGoal}
-use Rattle.book.specs.declared.SubmissionDeliveryGoal.TheVariants.{EnsureBroadcast, FeeUpgrade}
 use Rattle.book.specs.declared.DeliveryTrigger.{DeliveryTrigger}
-use Rattle.book.specs.declared.DeliveryTrigger.TheVariants.{Protocol, FreshChain, Rollback, ProviderReadiness}
 use Rattle.book.specs.declared.SubmissionChainTerminality.{SubmissionChainTerminality}
-use Rattle.book.specs.declared.SubmissionChainTerminality.TheVariants.{Active, InputSpent, Landed}
 use Rattle.book.specs.declared.FeeResolution.{FeeResolution}
-use Rattle.book.specs.declared.FeeResolution.TheVariants.{Unresolved, NotRequested, Attached}
 use Rattle.book.specs.declared.OptionalHash.{OptionalHash}
 use Rattle.book.specs.declared.OptionalAttempt.{OptionalAttempt}
 use Rattle.book.specs.declared.AttemptSlots.{AttemptSlots}
@@ -33,10 +25,8 @@ use Rattle.book.specs.declared.RetainedIntent.{RetainedIntent}
 use Rattle.book.specs.declared.SubmissionState.{SubmissionState}
 use Rattle.book.specs.declared.SubmittedEntry.{SubmittedEntry}
 use Rattle.book.specs.declared.SubmittedTx.{SubmittedTx}
-use Rattle.book.specs.declared.PendingSubmissionIntent.{PendingSubmissionIntent}
 use Rattle.book.specs.declared.PendingDelivery.{PendingDelivery}
 use Rattle.book.specs.declared.SpendBundle.{SpendBundle}
-use Rattle.book.specs.declared.CoinSpend.{CoinSpend}
 use Rattle.archive_form.specs.Encode.{goal_number, trigger_number, chain_number, resolution_number, encode_hash, encode_slot, encode_slots, encode_variant, encode_facts, encode_submitted, encode_id, encode_delivery}
 use Rattle.archive_form.specs.Parse.{fresh_token, parse_slots, Facts, parse_facts, parse_submitted, parse_delivery}
 use Rattle.archive_laws.specs.Cells.{bytes_lawful}

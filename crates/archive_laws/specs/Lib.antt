@@ -9,5 +9,4 @@ pub mod Theorems
 pub mod Sizes
 pub mod Items
 pub mod Stops
-pub mod ItemLaws
 pub mod Places

@@ -1,19 +1,17 @@
 -- Heights, optional ids, fee intents, kinds, fingerprints, attempt slots and fee variants: the parsers accept exactly the bytes of sound ones.
-use Rattle.std.specs.Prelude.{◌≡◌, refl, Bool, true, false, cond, not, ◌&&◌, ◌||◌, List, [], ◌∷◌, ◌++◌, ℕ, zero, suc, ◌<◌, ◌≤◌, ◌^◌}
-use Rattle.std.proofs.Common.{sym, ap, ◌∙◌, subst, append-nil, append_assoc, arith, eqb-true}
+use Rattle.std.specs.Prelude.{◌≡◌, refl, Bool, true, false, cond, ◌&&◌, ◌||◌, List, [], ◌∷◌, ◌++◌, ℕ, zero, suc, ◌<◌, ◌≤◌, ◌^◌}
+use Rattle.std.proofs.Common.{sym, ap, ◌∙◌, append-nil, append_assoc, arith, eqb-true}
 use Rattle.std.proofs.lemmas.Bool.{false≢true}
-use Rattle.std.proofs.Math.Bool.{and-true}
-use Rattle.base_lists.specs.Lists.{allb, is_zero, full_of}
+use Rattle.base_lists.specs.Lists.{allb, is_zero}
 use Rattle.base_lists.specs.Laws.{and_split, and_both, full_eq}
-use Rattle.codec_forms.specs.Wire.{be, enc_opt, Parser, run, number, checked, up_to, mapped, optional}
-use Rattle.codec_forms.specs.Lawful.{Lawful, step, finish, recode, regood}
-use Rattle.codec_forms.specs.Items.{number_lawful, checked_lawful, up_to_lawful, mapped_lawful, optional_lawful}
+use Rattle.codec_forms.specs.Wire.{be, enc_opt, run, number, mapped}
+use Rattle.codec_forms.specs.Lawful.{Lawful, step, finish, recode}
+use Rattle.codec_forms.specs.Items.{mapped_lawful}
+use Rattle.codec_forms.proofs.Items.{number_lawful, checked_lawful, up_to_lawful, optional_lawful}
 use Rattle.archive_bundle_form.specs.Forms.{encode_bundle, encode_height, encode_fee_intent, kind_number, attached}
-use Rattle.book.specs.Zero.{zeros, zero_bundle, zero_hash, zero_attempt, no_attempt, base_variant, is_zero32, is_no_height, is_no_id, is_zero_hash, is_no_attempt, is_base_variant, is_zero_attempt, is_zero_bundle}
+use Rattle.book.specs.Zero.{zeros, zero_hash, zero_attempt, no_attempt, base_variant, is_zero32, is_zero_hash, is_no_attempt, is_base_variant, is_zero_attempt}
 use Rattle.book.specs.Sound.{is_attach, sound_fee_intent, sound_hash, sound_attempt, sound_variant, sound_bundle, attempt_token, spends_of}
-use Rattle.book.specs.Typed.{Every, U8, U64, Bytes, TypedOptionalHeight, TypedOptionalId, TypedFeeIntent, TypedHash, TypedAttempt, TypedOptionalAttempt, TypedVariant, TypedBundle, TypedSpend}
-use Rattle.book.specs.declared.Height.{Height}
-use Rattle.book.specs.declared.SubmissionId.{SubmissionId}
+use Rattle.book.specs.Typed.{U8, Bytes, TypedOptionalHeight, TypedOptionalId, TypedFeeIntent, TypedHash, TypedOptionalAttempt, TypedVariant, TypedBundle}
 use Rattle.book.specs.declared.OptionalHeight.{OptionalHeight}
 use Rattle.book.specs.declared.OptionalHeight.TheVariants.{NoHeight, At}
 use Rattle.book.specs.declared.OptionalId.{OptionalId}
@@ -34,9 +32,8 @@ use Rattle.book.specs.declared.DeliveryAttempt.{DeliveryAttempt}
 use Rattle.book.specs.declared.OptionalAttempt.{OptionalAttempt}
 use Rattle.book.specs.declared.SubmissionBroadcastVariant.{SubmissionBroadcastVariant}
 use Rattle.book.specs.declared.SpendBundle.{SpendBundle}
-use Rattle.book.specs.declared.CoinSpend.{CoinSpend}
 use Rattle.archive_form.specs.Encode.{goal_number, trigger_number, chain_number, resolution_number, encode_hash, encode_attempt, encode_slot, encode_variant, encode_id}
-use Rattle.archive_form.specs.Parse.{parse_height, parse_id, parse_attached, parse_fee_intent, goal_of, trigger_of, chain_of, resolution_of, parse_goal, parse_trigger, parse_chain, parse_resolution, parse_hash, fresh_token, parse_slot, parse_bundle, parse_variant}
+use Rattle.archive_form.specs.Parse.{parse_height, parse_id, parse_attached, parse_fee_intent, goal_of, trigger_of, chain_of, resolution_of, parse_goal, parse_trigger, parse_chain, parse_resolution, parse_hash, fresh_token, parse_slot, parse_variant}
 use Rattle.book.specs.ZeroLaws.{hash_zero, no_attempt_lem, base_variant_lem, bundle_zero_is}
 use Rattle.archive_laws.specs.Cells.{every_replicate, bytes_lawful}
 use Rattle.archive_laws.specs.Bundles.{GoodBundle, bundle_lawful, zero_bundle_typed}

@@ -3,14 +3,15 @@
 -- everything before the place is in order whatever follows it.
 use Rattle.std.specs.Prelude.{◌≡◌, refl, Bool, true, false, not, ◌&&◌, ◌||◌, eqb, leb, take}
 use Rattle.std.proofs.Math.Path.{sym, ap}
-use Rattle.std.proofs.Common.{◌∙◌, subst, zero-add, arith, take-append-drop, drop_at, leb-true}
+use Rattle.std.proofs.Common.{◌∙◌, zero-add, arith, drop_at, leb-true}
 use mathlib.Core.List.{List, ◌∷◌, ◌++◌, map}
-use Prim.Native.Nat.{ℕ, zero, suc, ◌+◌, ◌≤◌, ◌<◌, zero-le}
-use Rattle.std.proofs.Math.ListN.{length, drop, length-take, length-append}
+use Prim.Native.Nat.{ℕ, zero, suc, ◌≤◌, ◌<◌, zero-le}
+use Rattle.std.proofs.Math.ListN.{length, length-append}
 use Rattle.base_lists.specs.Lists.{elemb, flat_map}
-use Rattle.codec_forms.specs.Wire.{Ans, got, bad, and_then, pick, run, number, end}
+use Rattle.codec_forms.specs.Wire.{Ans, got, bad, and_then, pick, end}
 use Rattle.codec_forms.specs.Lawful.{Spans}
-use Rattle.codec_forms.specs.Steady.{Steady, steady_bind, steady_done, steady_run, steady_number, number_item_lem, checked_item, up_to_item, steady_mapped, steady_optional, steady_optional_by, steady_counted, steady_list, end_place, end_first}
+use Rattle.codec_forms.specs.Steady.{Steady, steady_bind, steady_done, steady_mapped, end_place, end_first}
+use Rattle.codec_forms.proofs.Steady.{steady_run, steady_number, number_item_lem, checked_item, up_to_item, steady_optional, steady_optional_by, steady_counted, steady_list}
 use Rattle.codec_forms.specs.Steady.{end_start}
 use Rattle.book.specs.Zero.{no_attempt, base_variant, zero_hash}
 use Rattle.book.specs.Sound.{id_of, attempt_token, tokens_of, soundb}
@@ -24,9 +25,6 @@ use Rattle.book.specs.declared.BookData.{BookData}
 use Rattle.archive_form.specs.Encode.{encode_model, encode_book}
 use Rattle.archive_laws.specs.Back.{view_typed}
 use Rattle.archive_laws.specs.Books.{GoodModel, model_good, model_lawful}
-use Rattle.archive_laws.specs.Items.{Item, bytes_of, items_book}
-use Rattle.archive_laws.specs.Stops.{Breaks, Stops, stops_here}
-use Rattle.archive_laws.specs.ItemLaws.{model_placed}
 use Rattle.archive_form.specs.Parse.{parse_output, unreadable, parse_run, parse_spend, parse_bundle, parse_height, parse_id, parse_attached, parse_fee_intent, goal_of, trigger_of, chain_of, resolution_of, parse_goal, parse_trigger, parse_chain}
 use Rattle.archive_form.specs.Parse.{parse_resolution, parse_hash, fresh_token, parse_slot, parse_slots, parse_variant, parse_facts, parse_submitted, parse_delivery, parse_retired, above, parse_replayed, parse_numbers, parse_model, parse_whole}
 use Rattle.archive_form.specs.Parse.{read_archive, broken, archive_read}
@@ -163,28 +161,8 @@ end_bad a s at h = go (leb (length s) at) refl
     go true e = absurd (let z = leb-true (length s) at e in omega arith)
 
 module _ (b : BookData) (t : Typed b) (h : soundb b ≡ true) where
-  good : GoodModel (view b)
+  pub good : GoodModel (view b)
   good = model_good (view b) (view_typed b t h) (lists_sound (view b) (sound b h).lists)
-
-  -- the items are the archive
-  pub items_whole : bytes_of (items_book b) ≡ encode_book b
-  unfolding items_book encode_book
-  items_whole = (model_placed (view b) good).whole
-
-  -- bytes that agree with an archive up to an item, and there are cut short or break the item's rule, are refused at the item's start
-  pub refused_at_lem : (before : List Item) (x : Item) (after : List Item) → items_book b ≡ before ++ (x ∷ after)
-      → (s : List ℕ) → take (length (bytes_of before)) s ≡ bytes_of before → Breaks x s (length (bytes_of before)) → read_archive s ≡ broken (length (bytes_of before))
-  unfolding items_book read_archive parse_whole
-  refused_at_lem before x after e s w c =
-      let k = length (bytes_of before) in
-      let l : length (take k s) ≡ k = ap length w in
-      let spans : Spans s 0 k (bytes_of before) = record {
-        ends = sym (zero-add k);
-        inside = omega (arith, length-take k s);
-        holds = sym (take-append-drop k s) ∙ ap (λ (y : List ℕ). y ++ drop k s) w;
-      } in
-      ap (λ (r : Ans Book). archive_read (and_then r (λ m e. end m s e)))
-      ((model_placed (view b) good).stops s 0 k zero-le (subst (λ (is : List Item). Stops is s 0 k) (sym e) (stops_here before x after s 0 k spans c)))
 
   -- bytes left over are refused at the first of them
   pub refused_behind : (y : ℕ) (ys : List ℕ) → read_archive (encode_book b ++ (y ∷ ys)) ≡ broken (length (encode_book b))

@@ -1,13 +1,13 @@
 -- How long an archive is: a book just opened has 22 bytes, and no book has more than 57,694.
-use Rattle.std.specs.Prelude.{◌≡◌, refl, Bool, true, false, List, [], ◌∷◌, ◌++◌, ℕ, zero, suc, ◌+◌, ◌*◌, ◌≤◌, ◌<◌, min, length, take}
-use Rattle.std.proofs.Common.{sym, ap, ◌∙◌, suc-mul, arith, length-append, length-take}
+use Rattle.std.specs.Prelude.{◌≡◌, refl, Bool, true, false, List, [], ◌∷◌, ◌++◌, ℕ, zero, suc, ◌+◌, ◌*◌, ◌≤◌, length, take}
+use Rattle.std.proofs.Common.{suc-mul, arith, length-append, length-take}
 use Rattle.archive_form.specs.Lengths.{id_size, numbers_size}
-use Rattle.codec_forms.specs.Wire.{be, enc_many, enc_list, enc_opt}
+use Rattle.codec_forms.specs.Wire.{be, enc_many, enc_list}
 use Rattle.codec_forms.specs.Number.{be_length, opt_size}
 use Rattle.archive_bundle_form.specs.Forms.{encode_output, encode_run, encode_spend, encode_bundle, encode_height, encode_fee_intent, kind_number, attached}
 use Rattle.book.specs.Sound.{spends_of, outputs_of}
-use Rattle.book.specs.Model.{Book, view, back, list16, list64}
-use Rattle.book.specs.Typed.{Every, U64, Typed, TypedOutput, TypedSpend, TypedBundle, TypedFeeIntent, TypedHash, TypedAttempt, TypedOptionalAttempt, TypedSlots, TypedVariant, TypedRetainedIntent, TypedState, TypedSubmitted, TypedDelivery}
+use Rattle.book.specs.Model.{Book, view}
+use Rattle.book.specs.Typed.{Every, Typed, TypedOutput, TypedSpend, TypedBundle, TypedFeeIntent, TypedHash, TypedAttempt, TypedOptionalAttempt, TypedSlots, TypedVariant, TypedRetainedIntent, TypedState, TypedSubmitted, TypedDelivery}
 use Rattle.book.specs.declared.OptionalHeight.{OptionalHeight}
 use Rattle.book.specs.declared.OptionalHeight.TheVariants.{NoHeight, At}
 use Rattle.book.specs.declared.Output.{Output}

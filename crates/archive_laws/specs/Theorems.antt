@@ -1,18 +1,18 @@
 -- The archive's theorems: every sound book is restored, every accepted archive is that of the book it gives, and that book is sound.
-use Rattle.std.specs.Prelude.{◌≡◌, refl, true, List, [], ◌++◌, ℕ, ◌≤◌, length, drop}
+use Rattle.std.specs.Prelude.{◌≡◌, refl, true, List, [], ◌++◌, ℕ, length, drop}
 use Rattle.std.proofs.Common.{sym, ap, ◌∙◌, subst, append-nil, zero-le, zero-add, arith, drop_of_length-le}
 use Rattle.codec_forms.specs.Wire.{Ans, got, bad, and_then, end}
-use Rattle.codec_forms.specs.Lawful.{Lawful, Spans, IsBytes, bad_got}
+use Rattle.codec_forms.specs.Lawful.{Spans, IsBytes, bad_got}
 use Rattle.codec_forms.specs.Items.{end_reads, end_got}
-use Rattle.book.specs.Sound.{soundb, sound_lists}
+use Rattle.book.specs.Sound.{soundb}
 use Rattle.book.specs.SoundLaws.{sound, lists_sound, back_view, view_back}
 use Rattle.book.specs.Model.{Book, view, back}
 use Rattle.book.specs.Typed.{Every, U8, Typed}
 use Rattle.book.specs.declared.BookData.{BookData}
 use Rattle.archive_form.specs.Encode.{encode_model, encode_book}
-use Rattle.archive_form.specs.Parse.{parse_model, parse_whole, read_archive, ArchiveRead, book, broken, archive_read}
+use Rattle.archive_form.specs.Parse.{parse_model, parse_whole, read_archive, book, archive_read}
 use Rattle.archive_laws.specs.Cells.{every_bytes}
-use Rattle.archive_laws.specs.Books.{GoodModel, TypedModel, model_lawful, model_good, good_typed, good_sound}
+use Rattle.archive_laws.specs.Books.{GoodModel, model_lawful, model_good, good_typed, good_sound}
 use Rattle.archive_laws.specs.Back.{view_typed, back_typed, back_sound}
 
 -- ---- reading what was written

@@ -4,7 +4,7 @@ use Rattle.std.proofs.Common.{ap, ◌∙◌, arith}
 use Rattle.base_lists.specs.Lists.{cells}
 use Rattle.codec_forms.specs.Number.{be_length}
 use Rattle.codec_forms.specs.Lawful.{IsBytes}
-use Rattle.codec_forms.specs.Items.{up_to_lawful}
+use Rattle.codec_forms.proofs.Items.{up_to_lawful}
 use Rattle.codec_cursor.specs.Cursor.{far, Reads, reads_got, reads_then, ends}
 use Rattle.codec_cursor.specs.Items.{Counts}
 use Rattle.codec_cursor.specs.Cells.{ReadsCells, filled_list}

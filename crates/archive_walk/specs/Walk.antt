@@ -7,7 +7,7 @@ use Rattle.base_lists.specs.Lists.{cells}
 use Rattle.codec_forms.specs.Wire.{Ans, got, bad, and_then, list_from, be, enc_list, end}
 use Rattle.codec_forms.specs.Number.{be_length}
 use Rattle.codec_forms.specs.Lawful.{IsBytes}
-use Rattle.codec_forms.specs.Items.{list_from_lawful}
+use Rattle.codec_forms.proofs.Items.{list_from_lawful}
 use Rattle.codec_cursor.specs.Cursor.{far, Reads, reads_then, reads_got, ends}
 use Rattle.codec_cursor.specs.Cells.{ReadsCells}
 use Rattle.book.specs.Zero.{zero_submitted}

@@ -10,7 +10,7 @@ use Rattle.std.proofs.Math.Nat.{zero-add}
 use Rattle.std.proofs.Math.ListN.{length, take, drop}
 use Rattle.codec_forms.specs.Wire.{Ans, got, bad, Parser, ◌>>=◌, be, number, run, overlay}
 use Rattle.codec_forms.specs.Lawful.{IsBytes, Spans, span_join, span_left, span_right}
-use Rattle.codec_forms.specs.Items.{run_lawful, number_lawful}
+use Rattle.codec_forms.proofs.Items.{run_lawful, number_lawful}
 use Rattle.codec_bytes.specs.Reading.{then_bad, then_got, run_short, run_got}
 use Rattle.codec_cursor.specs.Cursor.{far, Reads, reads_got, reads_bad}
 use Rattle.book.specs.Sound.{soundb}

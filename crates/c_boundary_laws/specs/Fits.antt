@@ -25,35 +25,10 @@ use Rattle.rules_typed.specs.Calls.{typed_drain}
 use Rattle.rules_typed.specs.Theorems.{typed_model}
 use Rattle.rules_typed.specs.Typing.{Within, TypedCall}
 use Rattle.rules_answers.specs.Kind.{kind_of, answer_bytes, Roomy, is_drain, asks_room}
-use Rattle.rules_answers.specs.Turned.{TurnedAway, turned_away_lem}
-use Rattle.rules_answers.specs.Said.{
-  Says,
-  SaidIn,
-  says_run,
-  DrainSays,
-  drain_says,
-  drain_few,
-  IssuedIn,
-  issued_typed,
-  FinalSays,
-  no_final,
-  one_final,
-  FeeIntentSays,
-  no_intent,
-  one_intent,
-  AttemptSays,
-  no_attempt_lem,
-  one_attempt,
-  IdsSay,
-  ids_say,
-  final_says,
-  fee_intent_says,
-  attempt_says,
-  retain_says,
-  retirements_say,
-  active_say,
-  rolled_back_say,
-}
+use Rattle.rules_answers.specs.Turned.{TurnedAway}
+use Rattle.rules_answers.proofs.Turned.{turned_away_lem}
+use Rattle.rules_answers.specs.Said.{Says, SaidIn, DrainSays, drain_says, IssuedIn, issued_typed, FinalSays, no_final, one_final, FeeIntentSays, no_intent, one_intent, AttemptSays, no_attempt_lem, one_attempt, IdsSay, ids_say, final_says, fee_intent_says, attempt_says, retain_says, retirements_say, active_say, rolled_back_say}
+use Rattle.rules_answers.proofs.Said.{says_run, drain_few}
 use Rattle.rules_answers.specs.Coins.{inputs_size, outputs_size}
 use Rattle.c_boundary.specs.Held.{held_in}
 use Rattle.c_boundary.specs.Settle.{Form, boundary}

@@ -7,7 +7,7 @@ use Rattle.std.proofs.Common.{sym, ap, ◌∙◌, subst, append_assoc, arith, ze
 use Rattle.std.proofs.Math.Option.{Option, none, some}
 use Rattle.codec_forms.specs.Wire.{Ans, got, bad, number, run, overlay, be}
 use Rattle.codec_forms.specs.Lawful.{Spans}
-use Rattle.codec_forms.specs.Items.{run_lawful, number_lawful}
+use Rattle.codec_forms.proofs.Items.{run_lawful, number_lawful}
 use Rattle.codec_bytes.specs.Reading.{then_got, then_bad, run_got}
 use Rattle.book.specs.Model.{Book, view, back}
 use Rattle.book.specs.Typed.{Every, U8, Typed}

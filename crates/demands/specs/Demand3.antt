@@ -11,16 +11,13 @@
 --   handed_out              the submissions in a drain's answer (Predecessors)
 use Rattle.std.specs.Prelude.{ℕ, ◌+◌, ◌-◌, ◌≤◌, false, ◌⊎◌, ◌≡◌, length}
 use mathlib.Core.List.{List, [], ◌∷◌, ◌++◌, map, Memᴰ}
-use Rattle.std.proofs.Common.{◌∙◌}
 use Rattle.book.specs.declared.SubmittedTx.{SubmittedTx}
 use Rattle.book.specs.Model.{Book, view}
 use Rattle.book.specs.Sound.{id_of}
 use Rattle.archive_form.specs.Encode.{encode_model}
-use Rattle.rules.specs.Books.{book_after}
 use Rattle.rules.specs.Call.{Call, Drain}
 use Rattle.rules.specs.Calls.Drain.{drain}
 use Rattle.rules.specs.Keyed.{pick}
-use Rattle.rules.specs.Opened.{opened}
 use Rattle.book_answers.specs.declared.DrainedSubmission.{DrainedSubmission}
 use Rattle.rules.specs.Rule.{issued_by}
 use Rattle.part_replies.specs.declared.CallAnswer.TheVariants.{Done}
@@ -29,14 +26,14 @@ use Rattle.rules_ledger.specs.Account.Exact.{Exact}
 use Rattle.rules_ledger.specs.Account.Tokens.{down_to}
 use Rattle.rules_ledger.specs.Events.{Event, events_of, fates_of, fates_by}
 use Rattle.rules_ledger.specs.Ledger.{live, aside, displaced, struck, Row, Ledger, row_id, row_token, begun}
-use Rattle.rules_ledger.specs.Theorem.{Accounted, ledger_theorem, ledger_after, events_after}
+use Rattle.rules_ledger.specs.Theorem.{ledger_after, events_after}
 use Rattle.rules_ledger.specs.Tidy.{Fits, Open, Issue, history, grown, Chained}
 use Rattle.submission.specs.declared.SubmissionBook.{SubmissionBook}
 use Rattle.submission.specs.declared.DrainAnswer.{DrainAnswer}
 use Rattle.submission.specs.Answers.{drain_answer}
 use Rattle.submission.specs.Book.{outcome}
-use Rattle.submission.specs.Calls.{after, opened_book, last_link}
-use Rattle.demands.specs.Predecessors.{handed_out, issued_by_lem, named, grown_by}
+use Rattle.submission.specs.Calls.{after, opened_book}
+use Rattle.demands.specs.Predecessors.{handed_out}
 
 module _ (token id : ℕ) where
   abbrev pub program_book : List Call → SubmissionBook
@@ -97,36 +94,3 @@ module _ (token id : ℕ) where
       pub predecessors : (before rest : List Call) → calls ≡ before ++ Drain ∷ rest → Chained (tokens_at before) (handed_out (drain_at before))
       -- so do the tokens that a drain refused 11 has issued
       pub behind11 : (before rest : List Call) → calls ≡ before ++ Drain ∷ rest → Chained (tokens_at before) (issued_at before Drain)
-
--- the theorem of crate ledger, on the lists that the program's book holds
-pub demand_3 : (token id : ℕ) (calls : List Call) → Demand3 token id calls
-demand_3 token id calls = record {
-  next_token = rw e a.next_token;
-  opening = a.opening;
-  tokens = a.tokens;
-  issued = grows;
-  handed = λ before rest q k. grows before Drain rest q ∙ grown_by (tokens_at token id before) (program_book token id before) k;
-  fates = a.fates;
-  retained = rw e a.retained;
-  sum = a.sum;
-  live_slots = rw e a.live_slots;
-  aside_slots = rw e a.aside_slots;
-  one_entry = rw e a.one_entry;
-  one_slot = rw e a.one_slot;
-  one_row = a.one_row;
-  predecessors = λ before rest q. named (tokens_at token id before) (program_book token id before) (chained before rest q);
-  behind11 = chained;
-}
-  where
-    a : Accounted encode_model token id calls
-    a = ledger_theorem encode_model token id calls
-
-    e : view (program_book token id calls).parts ≡ book_after encode_model calls (opened token id)
-    e = (last_link token id calls).book
-
-    grows : (before : List Call) (c : Call) (rest : List Call) → calls ≡ before ++ c ∷ rest
-        → tokens_at token id (before ++ c ∷ []) ≡ grown (issued_at token id before c) (tokens_at token id before)
-    grows before c rest q = rw (issued_by_lem token id before c) (a.issued before c rest q)
-
-    chained : (before rest : List Call) → calls ≡ before ++ Drain ∷ rest → Chained (tokens_at token id before) (issued_at token id before Drain)
-    chained before rest q = rw (issued_by_lem token id before Drain) (a.chained before Drain rest q)

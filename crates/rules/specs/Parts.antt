@@ -1,10 +1,9 @@
 -- What the rules ask of a submission: the methods of the Rust's `SubmittedTx`, and `min_expiry`.
-use Rattle.std.specs.Prelude.{ℕ, Bool, true, false, cond, not, ◌&&◌, ◌||◌, List, [], ◌∷◌, eqb, ltb}
+use Rattle.std.specs.Prelude.{ℕ, Bool, true, false, cond, not, ◌&&◌, ◌||◌, List, eqb, ltb}
 use Rattle.base_lists.specs.Bytes.{eqs}
 use Rattle.archive_bundle_form.specs.Forms.{variant_fingerprint, intent_fingerprint, kind_number}
 use Rattle.book.specs.Zero.{zero_fee_intent, is_unresolved, is_active}
 use Rattle.book.specs.Sound.{readable_bundle, is_attach}
-use Rattle.book.specs.declared.Height.{Height}
 use Rattle.book.specs.declared.OptionalHeight.{OptionalHeight}
 use Rattle.book.specs.declared.OptionalHeight.TheVariants.{NoHeight, At}
 use Rattle.book.specs.declared.SpendBundle.{SpendBundle}

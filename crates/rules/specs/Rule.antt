@@ -1,7 +1,7 @@
 -- The rules of a call as a tree of looks and steps, and its reading over any state that shows a book and on which the steps have an
 -- effect: `run`. DESIGN: "The rules of a call are a tree of looks and steps".
 use Rattle.std.specs.Prelude.{ℕ, Bool, true, false, ◌||◌, ◌&&◌, ◌≡◌, ltb, length}
-use mathlib.Core.List.{List, [], ◌∷◌, ◌++◌, append_assoc, append-nil}
+use mathlib.Core.List.{List, [], ◌++◌, append_assoc, append-nil}
 use Rattle.std.proofs.Math.Path.{refl}
 use Rattle.std.proofs.Common.{◌∙◌}
 use Rattle.book.specs.Model.{Book}

@@ -25,7 +25,7 @@ use Rattle.rules.specs.Steps.{with_submitted, with_entry, with_slots, note_book,
 use Rattle.rules.specs.Steps.Entry.{revised}
 use Rattle.rules.specs.Steps.Slots.{issue_attempt, slots_issued, handed}
 use Rattle.rules.specs.Calls.Candidate.{deliver, met, known_by, known, unknown, named, unnamed, planned_by, candidate}
-use Rattle.rules.specs.Calls.Common.{live, withdraw}
+use Rattle.rules.specs.Calls.Common.{withdraw}
 use Rattle.rules.specs.Calls.Drain.{is_one_of, one_candidate, candidates, drain}
 use Rattle.rules.specs.Calls.Plan.{Memory, blank, last64, miss_of, wanted}
 use Rattle.rules_laws.specs.Sound.Parts.{revised_id}

@@ -2,5 +2,4 @@
 -- limit; a step is one candidate or one id."
 pub mod Free
 pub mod Stays
-pub mod Paced
 pub mod Calls

@@ -1,7 +1,7 @@
 -- What a step owes: its effects on the book and on the ledger agree, it leaves the ledger tidy, and what it hands out continues the history.
 use Rattle.std.specs.Prelude.{ℕ, ◌≡◌}
 use Rattle.book.specs.Model.{Book}
-use Rattle.rules.specs.Rule.{book, Effect}
+use Rattle.rules.specs.Rule.{Effect}
 use Rattle.rules_ledger.specs.Ledger.{Ledger}
 use Rattle.rules_ledger.specs.Tidy.{history, Tidy, grown, Chained}
 use Rattle.rules_ledger.specs.View.{book_of}

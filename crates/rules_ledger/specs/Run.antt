@@ -1,16 +1,14 @@
 -- Any rules whatever, run on the book that a tidy ledger foretells and on that ledger: they come to the same, the book left is again the one
 -- foretold, the ledger left is tidy again, and what was handed out continues the history, also where the rules were stopped.
-use Rattle.std.specs.Prelude.{ℕ, Bool, true, false, ◌&&◌, List, [], ◌∷◌, ◌++◌, ◌≡◌}
+use Rattle.std.specs.Prelude.{ℕ, Bool, true, false, ◌&&◌, List, ◌≡◌}
 use Rattle.std.proofs.Math.Path.{refl}
-use Rattle.std.proofs.Common.{sym, ◌∙◌}
 use Rattle.book.specs.Model.{Book}
 use Rattle.book_answers.specs.declared.DrainedSubmission.{DrainedSubmission}
 use Rattle.rules.specs.Rule.{done, Step, Effect, Rule, undo, stop, look, act, turn, Outcome, ended, undone, stopped, logged, guarded, grows, full, run, carry, answered, left, issued_by}
-use Rattle.rules.specs.Steps.{on_book, run_book}
 use Rattle.rules_ledger.specs.Law.{map_effect}
 use Rattle.rules_ledger.specs.Ledger.{Ledger}
-use Rattle.rules_ledger.specs.Steps.{on_ledger, law}
-use Rattle.rules_ledger.specs.Tidy.{Issue, history, Tidy, issued, grown, Chained}
+use Rattle.rules_ledger.specs.Steps.{on_ledger}
+use Rattle.rules_ledger.specs.Tidy.{Issue, history, Tidy, grown, Chained}
 use Rattle.rules_ledger.specs.View.{book_of}
 
 abbrev pub run_ledger : {A : Type 0} → Rule A → Ledger → Outcome Ledger A
@@ -48,41 +46,6 @@ module _ {S T : Type 0} (show_s : S → Book) (on_s : Step → S → Effect S) (
       rw (steps p s h, shows (on_s p s).after, agree r (on_s p s).after (fits p s h))
       (logged_carry f (grows p && full (show_s (on_s p s).after)) (on_s p s).out (run show_s on_s r (on_s p s).after))
   agree (turn r) s h = agree r s h
-
-pub agrees : {A : Type 0} {o : ℕ} (r : Rule A) (l : Ledger) → Tidy o l → run_book r (book_of l) ≡ carry book_of (run_ledger r l)
-agrees {o = o} r l t = agree book_of on_ledger (λ b. b) on_book book_of (Tidy o) (λ l. refl) (λ p l t. (law p).agrees l t) (λ p l t. (law p).tidies l t) r l t
-
-chained_append : (h : List Issue) (xs ys : List DrainedSubmission) → Chained h xs → Chained (grown xs h) ys → Chained h (xs ++ ys)
-chained_append h [] ys c d = d
-chained_append h (x ∷ xs) ys c d = (c.0, chained_append (issued x ∷ h) xs ys c.1 d)
-
-grown_append : (h : List Issue) (xs ys : List DrainedSubmission) → grown (xs ++ ys) h ≡ grown ys (grown xs h)
-grown_append h [] ys = refl
-grown_append h (x ∷ xs) ys = grown_append (issued x ∷ h) xs ys
-
-continued : {o : ℕ} (h : List Issue) (l : Ledger) (xs ys : List DrainedSubmission) → Chained h xs → Continued o (grown xs h) l ys → Continued o h l (xs ++ ys)
-continued h l xs ys c k = record {
-  tidy = k.tidy;
-  chained = chained_append h xs ys c k.chained;
-  grows = k.grows ∙ sym (grown_append h xs ys);
-}
-
-good_logged : {A : Type 0} (o : ℕ) (h : List Issue) (t : Bool) (xs : List DrainedSubmission) (k : Outcome Ledger A) → Chained h xs → Good o (grown xs h) k → Good o h (guarded t (logged xs k))
-good_logged o h true xs k c g = tt
-good_logged o h false xs (ended l ys v) c g = continued h l xs ys c g
-good_logged o h false xs (undone n) c g = g
-good_logged o h false xs (stopped l ys n) c g = continued h l xs ys c g
-
-pub good : {A : Type 0} {o : ℕ} (r : Rule A) (l : Ledger) → Tidy o l → Good o (history l) (run_ledger r l)
-unfolding run
-good (done v) l t = record { tidy = t; chained = tt; grows = refl }
-good (undo n) l t = tt
-good (stop n) l t = record { tidy = t; chained = tt; grows = refl }
-good (look k) l t = good (k (book_of l)) l t
-good {o} (act p r) l t =
-    good_logged o (history l) (grows p && full (book_of (on_ledger p l).after)) (on_ledger p l).out (run_ledger r (on_ledger p l).after) ((law p).chains l t)
-    (rw ((law p).grows l) at (good r (on_ledger p l).after ((law p).tidies l t)))
-good (turn r) l t = good r l t
 
 -- the ledger that a call leaves
 pub good_left : {A : Type 0} {o : ℕ} (l : Ledger) (k : Outcome Ledger A) → Tidy o l → Good o (history l) k → Continued o (history l) (left l k) (issued_by k)

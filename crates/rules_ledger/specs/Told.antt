@@ -1,11 +1,10 @@
 -- The rules run on a ledger with its events beside it: the ledger is the one that they leave without, and its fates are those that the events tell.
-use Rattle.std.specs.Prelude.{ℕ, Bool, true, false, ◌&&◌, List, ◌≡◌, refl}
-use Rattle.book_answers.specs.declared.DrainedSubmission.{DrainedSubmission}
-use Rattle.rules.specs.Rule.{Step, Rule, done, undo, stop, look, act, turn, Outcome, ended, undone, stopped, logged, guarded, grows, full, run, carry, left}
-use Rattle.rules_ledger.specs.Account.Fates.{Settled, settles}
+use Rattle.std.specs.Prelude.{ℕ, ◌≡◌, refl}
+use Rattle.rules.specs.Rule.{Rule, carry, left}
+use Rattle.rules_ledger.specs.Account.Fates.{Settled}
 use Rattle.rules_ledger.specs.Events.{Told, on_told, told_book, run_told}
 use Rattle.rules_ledger.specs.Run.{run_ledger, agree, left_carry}
-use Rattle.rules_ledger.specs.Steps.{on_ledger, law}
+use Rattle.rules_ledger.specs.Steps.{on_ledger}
 use Rattle.rules_ledger.specs.Tidy.{Tidy}
 use Rattle.rules_ledger.specs.View.{book_of}
 
@@ -16,39 +15,6 @@ pub record Kept (o : ℕ) (s : Told) : Type 0 where
 
 same_ledger : {A : Type 0} (r : Rule A) (s : Told) → run_ledger r s.ledger ≡ carry (λ (x : Told). x.ledger) (run_told r s)
 same_ledger r s = agree told_book on_told book_of on_ledger (λ (x : Told). x.ledger) (λ _. Unit {0}) (λ x. refl) (λ p x _. unfold on_told in refl) (λ p x _. tt) r s tt
-
-abbrev Ends : {A : Type 0} → ℕ → Outcome Told A → Type 0
-Ends o (ended s xs a) = Kept o s
-Ends o (undone n) = Unit {0}
-Ends o (stopped s xs n) = Kept o s
-
-ends_logged : {A : Type 0} (o : ℕ) (t : Bool) (xs : List DrainedSubmission) (k : Outcome Told A) → Ends o k → Ends o (guarded t (logged xs k))
-ends_logged o true xs k h = tt
-ends_logged o false xs (ended s ys a) h = h
-ends_logged o false xs (undone n) h = tt
-ends_logged o false xs (stopped s ys n) h = h
-
-step_kept : {o : ℕ} (p : Step) (s : Told) → Kept o s → Kept o (on_told p s).after
-unfolding on_told
-step_kept p s h = record { tidy = (law p).tidies s.ledger h.tidy; settled = settles p s.ledger s.events h.tidy h.settled }
-
-run_kept : {A : Type 0} {o : ℕ} (r : Rule A) (s : Told) → Kept o s → Ends o (run_told r s)
-unfolding run
-run_kept (done a) s h = h
-run_kept (undo n) s h = tt
-run_kept (stop n) s h = h
-run_kept (look k) s h = run_kept (k (told_book s)) s h
-run_kept {o = o} (act p r) s h = ends_logged o (grows p && full (told_book (on_told p s).after)) (on_told p s).out (run_told r (on_told p s).after) (run_kept r (on_told p s).after (step_kept p s h))
-run_kept (turn r) s h = run_kept r s h
-
--- what a call leaves
-pub left_kept : {A : Type 0} {o : ℕ} (r : Rule A) (s : Told) → Kept o s → Kept o (left s (run_told r s))
-left_kept {A} {o} r s h = go (run_told r s) (run_kept r s h)
-  where
-    go : (k : Outcome Told A) → Ends o k → Kept o (left s k)
-    go (ended x xs a) e = e
-    go (undone n) e = h
-    go (stopped x xs n) e = e
 
 pub left_ledger : {A : Type 0} (r : Rule A) (s : Told) → (left s (run_told r s)).ledger ≡ left s.ledger (run_ledger r s.ledger)
 left_ledger r s = rw (same_ledger r s, left_carry (λ (x : Told). x.ledger) s (run_told r s))

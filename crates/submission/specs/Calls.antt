@@ -39,7 +39,8 @@ use Rattle.rules.specs.Opened.{opened}
 use Rattle.rules.specs.Rule.{Rule, ◌<$>◌, Outcome, ended, undone, stopped, mapped, run_map, Answer, answered, left}
 use Rattle.rules.specs.Steps.{on_book, run_book}
 use Rattle.rules_laws.specs.Sound.Run.{sound_call, sound_opened}
-use Rattle.rules_ledger.specs.Theorem.{Accounted, ledger_theorem}
+use Rattle.rules_ledger.specs.Theorem.{Accounted}
+use Rattle.rules_ledger.proofs.Theorem.{ledger_theorem}
 use Rattle.part_replies.specs.Reply.{outcome_of, book_left}
 use Rattle.part_sound_laws.specs.Holds.{Holds, holds_view, holds_soundb}
 use Rattle.submission.specs.declared.SubmissionBook.{SubmissionBook}

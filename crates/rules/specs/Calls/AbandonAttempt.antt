@@ -5,7 +5,7 @@ use Rattle.book.specs.Sound.{id_of}
 use Rattle.book_answers.specs.declared.SubmissionAttemptStatus.{SubmissionAttemptStatus}
 use Rattle.book_answers.specs.declared.SubmissionAttemptStatus.TheVariants.{Applied, Stale}
 use Rattle.rules.specs.Calls.Common.{with_live, withdraw}
-use Rattle.rules.specs.Rule.{done, Rule, ◌>>=◌, ◌>>◌, end_turn}
+use Rattle.rules.specs.Rule.{done, Rule, ◌>>◌, end_turn}
 
 unfoldable pub abandon_live : SubmittedTx → Rule SubmissionAttemptStatus
 unfolding withdraw

@@ -8,7 +8,7 @@ use Rattle.book_coins.specs.Coins.{expected_output_coins}
 use Rattle.rules.specs.Calls.Common.{writing}
 use Rattle.rules.specs.CoinLists.{encode_coins}
 use Rattle.rules.specs.Doors.{ids_ok, among}
-use Rattle.rules.specs.Rule.{Rule, undo, ◌>>=◌, ◌>>◌, book}
+use Rattle.rules.specs.Rule.{Rule, undo, ◌>>=◌, book}
 use Rattle.book.specs.Refusals as refusals
 
 unfoldable pub absent_outputs : List (List ℕ) → RetainedIntent → List (List ℕ)

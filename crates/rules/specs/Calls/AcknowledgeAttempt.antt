@@ -7,7 +7,7 @@ use Rattle.book_answers.specs.declared.SubmissionAttemptStatus.{SubmissionAttemp
 use Rattle.book_answers.specs.declared.SubmissionAttemptStatus.TheVariants.{Applied, Stale}
 use Rattle.rules.specs.Calls.Common.{with_live}
 use Rattle.rules.specs.Parts.{current_fingerprint}
-use Rattle.rules.specs.Rule.{done, acknowledge, unqueue, note, revise, set_aside, Rule, undo, ◌>>=◌, ◌>>◌, step}
+use Rattle.rules.specs.Rule.{done, acknowledge, unqueue, note, revise, set_aside, Rule, undo, ◌>>◌, step}
 use Rattle.rules.specs.Steps.Slots.{resolved}
 use Rattle.book.specs.Refusals as refusals
 

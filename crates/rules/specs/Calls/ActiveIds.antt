@@ -3,7 +3,7 @@ use Rattle.std.specs.Prelude.{ℕ, List, map}
 use Rattle.base_lists.specs.Lists.{filterb}
 use Rattle.book.specs.Sound.{id_of}
 use Rattle.rules.specs.Parts.{active_entry}
-use Rattle.rules.specs.Rule.{done, Rule, ◌>>=◌, ◌>>◌, book}
+use Rattle.rules.specs.Rule.{done, Rule, ◌>>=◌, book}
 
 unfoldable pub active_ids : Rule (List ℕ)
 active_ids = do

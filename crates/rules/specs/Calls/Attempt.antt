@@ -3,7 +3,7 @@ use Rattle.std.specs.Prelude.{ℕ}
 use Rattle.std.proofs.Math.Option.{Option, none, some}
 use Rattle.book.specs.declared.DeliveryAttempt.{DeliveryAttempt}
 use Rattle.rules.specs.Calls.Common.{Found, live, aside, gone, never_issued, find}
-use Rattle.rules.specs.Rule.{done, Rule, ◌>>=◌, ◌>>◌, book}
+use Rattle.rules.specs.Rule.{done, Rule, ◌>>=◌, book}
 
 abbrev pub attempt_by : Found → Option DeliveryAttempt
 attempt_by (live s) = some s.slots.active_attempt.attempt

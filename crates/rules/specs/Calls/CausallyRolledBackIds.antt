@@ -10,7 +10,7 @@ use Rattle.book.specs.Sound.{id_of}
 use Rattle.book_coins.specs.Coins.{input_coin_ids, expected_output_coins}
 use Rattle.rules.specs.Doors.{among}
 use Rattle.rules.specs.Parts.{active_entry, is_input_spent}
-use Rattle.rules.specs.Rule.{done, Rule, undo, ◌>>=◌, ◌>>◌, book}
+use Rattle.rules.specs.Rule.{done, Rule, undo, ◌>>=◌, book}
 use Rattle.book.specs.Refusals as refusals
 
 -- "Coins created and consumed inside this bundle are recreated on replay"

@@ -12,7 +12,7 @@ use Rattle.book_answers.specs.declared.SubmissionFeeSource.TheVariants.{NotReque
 use Rattle.rules.specs.Calls.Common.{with_live}
 use Rattle.rules.specs.Calls.Finalized.{unused_fee, current_final, attached_final}
 use Rattle.rules.specs.Parts.{current_fingerprint, fee_unresolved, validate}
-use Rattle.rules.specs.Rule.{done, attach, revise, finalise, Rule, undo, ◌>>=◌, ◌>>◌, step}
+use Rattle.rules.specs.Rule.{done, attach, revise, finalise, Rule, undo, ◌>>◌, step}
 use Rattle.book.specs.Refusals as refusals
 
 abbrev pub is_joined : SubmissionFeeSource → Bool

@@ -9,7 +9,7 @@ use Rattle.book_answers.specs.declared.OptionalToken.TheVariants.{NoToken, Of}
 use Rattle.book_answers.specs.declared.SubmissionLook.{SubmissionLook}
 use Rattle.rules.specs.Keyed.{pick}
 use Rattle.rules.specs.Parts.{current_acknowledged, current_applied_fee}
-use Rattle.rules.specs.Rule.{done, Rule, ◌>>=◌, ◌>>◌, book}
+use Rattle.rules.specs.Rule.{done, Rule, ◌>>=◌, book}
 
 -- the token in a slot
 abbrev pub token_in : OptionalAttempt → OptionalToken

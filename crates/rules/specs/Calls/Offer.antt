@@ -14,7 +14,7 @@ use Rattle.book.specs.Sound.{id_of}
 use Rattle.book.specs.Zero.{is_ensure_broadcast, is_protocol}
 use Rattle.rules.specs.Keyed.{pick}
 use Rattle.rules.specs.Parts.{current_acknowledged, fee_unresolved, active_entry}
-use Rattle.rules.specs.Rule.{done, enqueue, note, Rule, ◌>>=◌, ◌>>◌, book, step}
+use Rattle.rules.specs.Rule.{done, enqueue, note, Rule, ◌>>=◌, book, step}
 use Rattle.rules.specs.Steps.Notes.{is_id}
 
 -- the queue has an entry of this id

@@ -2,7 +2,7 @@
 use Rattle.std.specs.Prelude.{cond}
 use Rattle.book.specs.declared.PendingDelivery.{PendingDelivery}
 use Rattle.book.specs.Sound.{sound_delivery}
-use Rattle.rules.specs.Rule.{enqueue, note, Rule, undo, ◌>>=◌, ◌>>◌, step, end_turn}
+use Rattle.rules.specs.Rule.{enqueue, note, Rule, undo, ◌>>◌, step, end_turn}
 use Rattle.book.specs.Refusals as refusals
 
 unfoldable pub queue : PendingDelivery → Rule (Unit {0})

@@ -3,7 +3,7 @@ use Rattle.std.specs.Prelude.{ℕ}
 use Rattle.book.specs.declared.SubmissionDeliveryGoal.{SubmissionDeliveryGoal}
 use Rattle.book.specs.declared.DeliveryTrigger.{DeliveryTrigger}
 use Rattle.rules.specs.Calls.Offer.{offer}
-use Rattle.rules.specs.Rule.{Rule, ◌>>=◌, ◌>>◌, end_turn}
+use Rattle.rules.specs.Rule.{Rule, ◌>>◌, end_turn}
 
 unfoldable pub queue_retained_delivery : ℕ → DeliveryTrigger → SubmissionDeliveryGoal → Rule (Unit {0})
 unfolding offer

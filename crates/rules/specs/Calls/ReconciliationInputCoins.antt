@@ -10,7 +10,7 @@ use Rattle.rules.specs.Calls.Common.{writing}
 use Rattle.rules.specs.CoinLists.{rising_coins, encode_coins}
 use Rattle.rules.specs.Doors.{among}
 use Rattle.rules.specs.Parts.{is_landed}
-use Rattle.rules.specs.Rule.{Rule, undo, ◌>>=◌, ◌>>◌, book}
+use Rattle.rules.specs.Rule.{Rule, undo, ◌>>=◌, book}
 use Rattle.book.specs.Refusals as refusals
 
 unfoldable pub is_reconciled : List (List ℕ) → SubmittedEntry → Bool

@@ -3,7 +3,7 @@ use Rattle.std.specs.Prelude.{ℕ}
 use Rattle.book_answers.specs.declared.SubmissionAttemptStatus.{SubmissionAttemptStatus}
 use Rattle.book_answers.specs.declared.SubmissionAttemptStatus.TheVariants.{Applied, Stale}
 use Rattle.rules.specs.Calls.Common.{Found, live, aside, gone, never_issued, find}
-use Rattle.rules.specs.Rule.{done, Rule, undo, ◌>>=◌, ◌>>◌, book}
+use Rattle.rules.specs.Rule.{done, Rule, undo, ◌>>=◌, book}
 use Rattle.book.specs.Refusals as refusals
 
 abbrev pub relinquish_by : Found → Rule SubmissionAttemptStatus

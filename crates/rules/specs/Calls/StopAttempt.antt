@@ -5,7 +5,7 @@ use Rattle.book.specs.Sound.{id_of}
 use Rattle.book_answers.specs.declared.SubmissionAttemptStatus.{SubmissionAttemptStatus}
 use Rattle.book_answers.specs.declared.SubmissionAttemptStatus.TheVariants.{Applied, Stale}
 use Rattle.rules.specs.Calls.Common.{with_live}
-use Rattle.rules.specs.Rule.{done, set_aside, Rule, ◌>>=◌, ◌>>◌, step}
+use Rattle.rules.specs.Rule.{done, set_aside, Rule, ◌>>◌, step}
 
 unfoldable pub stop_live : SubmittedTx → Rule SubmissionAttemptStatus
 stop_live s = do

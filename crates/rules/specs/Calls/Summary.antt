@@ -2,7 +2,7 @@
 use Rattle.std.specs.Prelude.{length}
 use Rattle.book.specs.Model.{Book}
 use Rattle.book_answers.specs.declared.BookSummary.{BookSummary}
-use Rattle.rules.specs.Rule.{done, Rule, ◌>>=◌, ◌>>◌, book}
+use Rattle.rules.specs.Rule.{done, Rule, ◌>>=◌, book}
 
 unfoldable pub summary_of : Book → BookSummary
 summary_of b = record {

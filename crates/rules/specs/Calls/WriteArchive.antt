@@ -2,7 +2,7 @@
 use Rattle.std.specs.Prelude.{ℕ, List}
 use Rattle.book.specs.Model.{Book}
 use Rattle.rules.specs.Calls.Common.{writing}
-use Rattle.rules.specs.Rule.{Rule, ◌>>=◌, ◌>>◌, book}
+use Rattle.rules.specs.Rule.{Rule, ◌>>=◌, book}
 
 unfoldable pub write_archive : (Book → List ℕ) → ℕ → Rule (List ℕ)
 unfolding writing

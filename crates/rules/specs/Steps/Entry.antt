@@ -1,5 +1,5 @@
 -- What a revision makes of a submission's state, and what a new submission is.
-use Rattle.std.specs.Prelude.{ℕ, Bool, true, false, cond, List}
+use Rattle.std.specs.Prelude.{true, cond}
 use Rattle.book.specs.Zero.{zero_hash, base_variant}
 use Rattle.book.specs.Sound.{sound_bundle, is_attach}
 use Rattle.book.specs.declared.SubmissionId.{SubmissionId}

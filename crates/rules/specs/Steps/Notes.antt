@@ -1,8 +1,7 @@
 -- What no attempt depends on: queue, retirements, rollback height and replayed ids, and the notes on them.
-use Rattle.std.specs.Prelude.{ℕ, Bool, true, false, cond, not, ◌&&◌, List, [], ◌∷◌, ◌++◌, eqb}
+use Rattle.std.specs.Prelude.{ℕ, Bool, false, cond, not, ◌&&◌, List, [], ◌∷◌, ◌++◌, eqb}
 use Rattle.base_lists.specs.Lists.{filterb, elemb, insert_up, push_new}
 use Rattle.book.specs.Sound.{sound_delivery}
-use Rattle.book.specs.declared.SubmissionId.{SubmissionId}
 use Rattle.book.specs.declared.OptionalId.{OptionalId}
 use Rattle.book.specs.declared.OptionalId.TheVariants.{NoId, Of}
 use Rattle.book.specs.declared.OptionalHeight.{OptionalHeight}

@@ -1,8 +1,7 @@
 -- What issuing, setting aside and finalising make of the two attempt slots of a submission, and what issuing hands out.
-use Rattle.std.specs.Prelude.{ℕ, Bool, true, false, cond, List}
+use Rattle.std.specs.Prelude.{ℕ, true, cond, List}
 use Rattle.base_lists.specs.Bytes.{eqs}
 use Rattle.book.specs.Zero.{zero_hash, no_attempt, is_ensure_broadcast}
-use Rattle.book.specs.declared.Token.{Token}
 use Rattle.book.specs.declared.SubmissionDeliveryGoal.{SubmissionDeliveryGoal}
 use Rattle.book.specs.declared.DeliveryAttempt.{DeliveryAttempt}
 use Rattle.book.specs.declared.OptionalAttempt.{OptionalAttempt}

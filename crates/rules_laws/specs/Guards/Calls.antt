@@ -1,7 +1,7 @@
 -- Every call's steps are taken, so no guard ever turns anything away.
 use Rattle.std.specs.Prelude.{ℕ, suc, Bool, true, false, cond, ◌&&◌, ◌≡◌, refl, eqb, leb, length}
 use Rattle.std.proofs.Math.Bool.{not}
-use Rattle.std.proofs.Common.{true≢false, ap, sym, ◌∙◌, arith}
+use Rattle.std.proofs.Common.{ap, sym, ◌∙◌}
 use mathlib.Core.List.{List, [], ◌∷◌, map}
 use Rattle.std.proofs.Math.Option.{Option, none, some}
 use borrow.Author.Tests.{eqb-true, not-false}
@@ -25,13 +25,13 @@ use Rattle.book.specs.Model.{Book}
 use Rattle.book.specs.Sound.{readable_bundle, sound_delivery, id_of, sound_bundle, sound_entry, sound_submitted, sound_intent}
 use Rattle.book_answers.specs.declared.DrainFailureCause.{DrainFailureCause}
 use Rattle.book_answers.specs.declared.SubmissionFeeSource.{SubmissionFeeSource}
-use Rattle.rules.specs.Call.{Call, Value, no_value, failures, finalized, fee_intent_is, status_is, ids_are, flag, height_is, attempt_is, look_is, summary_is, written}
+use Rattle.rules.specs.Call.{Call, failures, finalized, fee_intent_is, status_is, ids_are, flag, height_is, attempt_is, look_is, summary_is, written}
 use Rattle.rules.specs.Calls.{rules, nothing}
 use Rattle.rules.specs.CoinLists.{encode_coins}
 use Rattle.rules.specs.Doors.{ids_ok}
 use Rattle.rules.specs.Keyed.{pick}
 use Rattle.rules.specs.Parts.{current_fingerprint, fee_unresolved, active_entry, intent_of, validate}
-use Rattle.rules.specs.Rule.{done, reopen, revise, replay, Rule, undo, turn, ◌>>=◌, ◌>>◌, step, Outcome, ended, undone, stopped, refused, answered, left, ◌<$>◌}
+use Rattle.rules.specs.Rule.{done, reopen, revise, replay, Rule, undo, turn, ◌>>=◌, ◌>>◌, step, ◌<$>◌}
 use Rattle.rules.specs.Steps.Slots.{resolved}
 use Rattle.rules.specs.Calls.AbandonAttempt.{abandon_live, abandon_attempt}
 use Rattle.rules.specs.Calls.AbsentOutputsForIds.{absent_outputs, absent_outputs_for_ids}
@@ -59,10 +59,9 @@ use Rattle.rules.specs.Calls.StopAttempt.{stop_live, stop_attempt}
 use Rattle.base_lists.specs.Laws.{and_split, and_both}
 use Rattle.base_lists.specs.Sub.{filter_sub, all_sub}
 use Rattle.book.specs.declared.SubmittedEntry.{SubmittedEntry}
-use Rattle.book.specs.SoundLaws.{sound_entry_lem, sound_submitted_lem, SoundLists, sound_lists_lem}
+use Rattle.book.specs.SoundLaws.{sound_entry_lem, sound_submitted_lem, SoundLists}
 use Rattle.book.specs.Zero.{is_zero_bundle}
-use Rattle.rules.specs.Books.{call_book, answer_book}
-use Rattle.rules.specs.Steps.{retainable, run_book}
+use Rattle.rules.specs.Steps.{retainable}
 use Rattle.rules.specs.Calls.EmitRetirement.{emit_retirement}
 use Rattle.rules.specs.Calls.DrainRetirements.{drain_retirements}
 use Rattle.rules.specs.Calls.ActiveIds.{active_ids}
@@ -71,16 +70,12 @@ use Rattle.rules.specs.Calls.Attempt.{attempt}
 use Rattle.rules.specs.Calls.Look.{look_at}
 use Rattle.rules.specs.Calls.Summary.{summary}
 use Rattle.rules.specs.Calls.WriteArchive.{write_archive}
-use Rattle.rules_laws.specs.Held.{Then, Leaves, held_bind, held_map, held_cond, held_run}
-use Rattle.rules_laws.specs.Guards.Bare.{run_bare, Taken, AtLast, TakenTo, bare_run}
-use Rattle.rules_laws.specs.Sound.Run.{SoundBook}
-use Rattle.rules_laws.specs.Sound.Steps.{sound_step}
-use Rattle.rules_laws.specs.StepRule.Free.{undoes}
-use Rattle.rules_laws.specs.StepRule.Calls.{Numbered, numbered_call}
+use Rattle.rules_laws.specs.Held.{Then, held_bind, held_map, held_cond}
+use Rattle.rules_laws.specs.Guards.Bare.{Taken, AtLast, TakenTo}
 use Rattle.book.specs.Refusals as refusals
 
 -- no demand where the rules end
-abbrev Ends : {A : Type 0} → A → Type 0
+abbrev pub Ends : {A : Type 0} → A → Type 0
 Ends v = Unit {0}
 
 abbrev pub AllTaken : {A : Type 0} → Rule A → Type 0
@@ -369,20 +364,3 @@ all_taken encode (Call.Attempt t) = taken_map attempt_is (attempt t) (λ b s. tt
 all_taken encode (Call.Look i) = taken_map look_is (look_at i) (λ b s. tt)
 all_taken encode Call.Summary = taken_map summary_is summary (λ b s. tt)
 all_taken encode (Call.WriteArchive room) = taken_map written (write_archive encode room) (λ b s. taken_writing room (encode b) b s)
-
--- on a sound book every call comes to the same with steps that take whatever they are handed: the guards never turn anything away
-pub guards_idle : (encode : Book → List ℕ) (c : Call) (b : Book) → SoundBook b → run_bare (rules encode c) b ≡ run_book (rules encode c) b
-guards_idle encode c b h = let s = sound_lists_lem b h.lists in bare_run Ends (rules encode c) b s (all_taken encode c b s)
-
--- "11: token needed, next token 2^64 − 1": a call that is refused 11 leaves a book whose next token is the last number
-pub refused_last : (encode : Book → List ℕ) (c : Call) (b : Book) → SoundBook b → answer_book encode c b ≡ refused refusals.no_token → (call_book encode c b).next_token.0 ≡ last64
-unfolding answer_book call_book
-refused_last encode c b h q =
-    let s = sound_lists_lem b h.lists in
-    let k = held_run SoundLists Taken AtLast (λ p m x y. sound_step p m x) Ends (rules encode c) b s (all_taken encode c b s) in
-    go (run_book (rules encode c) b) k (numbered_call encode c b) q
-  where
-    go : (k : Outcome Book Value) → Leaves SoundLists Taken AtLast k → Numbered undoes k → answered k ≡ refused refusals.no_token → (left b k).next_token.0 ≡ last64
-    go (ended d xs v) l n e = absurd (let z : ◌≡◌ {A = ℕ} 0 1 = cc in omega arith)
-    go (undone m) l n e = absurd (let z : m ≡ refusals.no_token = cc in true≢false (sym n ∙ ap undoes z))
-    go (stopped d xs m) l n e = l.1

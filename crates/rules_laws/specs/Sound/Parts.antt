@@ -1,7 +1,7 @@
 -- What the steps make of the parts of a submission is sound, and the tokens of its slots stay or go.
 use Rattle.std.specs.Prelude.{ℕ, Bool, true, cond, ◌&&◌, List, [], ◌∷◌, ◌≡◌, refl}
 use Rattle.std.proofs.Math.Bool.{false}
-use Rattle.base_lists.specs.Laws.{and_split, and_both, trues}
+use Rattle.base_lists.specs.Laws.{and_split, and_both}
 use Rattle.base_lists.specs.Sub.{Sub, sub_all, sub_none}
 use Rattle.book.specs.declared.SubmissionId.{SubmissionId}
 use Rattle.book.specs.declared.AttemptSlots.{AttemptSlots}

@@ -2,9 +2,9 @@
 use Rattle.std.specs.Prelude.{ℕ, Bool, true, false, cond, List, [], ◌∷◌, map, ◌≡◌, refl, eqb}
 use Rattle.std.proofs.Common.{ap}
 use Rattle.book.specs.declared.SubmittedEntry.{SubmittedEntry}
-use Rattle.book.specs.Sound.{sound_bundle, id_of}
+use Rattle.book.specs.Sound.{id_of}
 use Rattle.rules.specs.Keyed.{pick, change, pick_change_same, pick_change_other}
-use Rattle.rules.specs.Rule.{Revision, tighten, acknowledge, attach, terminality, reopen}
+use Rattle.rules.specs.Rule.{Revision}
 use Rattle.rules.specs.Steps.{with_entry, revise_book, silent}
 use Rattle.rules.specs.Steps.Entry.{revised}
 use Rattle.rules_ledger.specs.Law.{Law}

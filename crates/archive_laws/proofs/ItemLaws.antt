@@ -4,7 +4,8 @@ use Rattle.std.proofs.Common.{sym, ap, ◌∙◌, subst, append_assoc, arith}
 use Rattle.base_lists.specs.Lists.{elemb, flat_map}
 use Rattle.codec_forms.specs.Wire.{got, Parser, be, enc_many, enc_list, enc_opt, run, up_to, mapped, counted}
 use Rattle.codec_forms.specs.Lawful.{Lawful, Spans}
-use Rattle.codec_forms.specs.Items.{number_lawful, checked_lawful, up_to_lawful, list_from_lawful, mark, AllFrom}
+use Rattle.codec_forms.specs.Items.{mark, AllFrom}
+use Rattle.codec_forms.proofs.Items.{number_lawful, checked_lawful, up_to_lawful, list_from_lawful}
 use Rattle.archive_bundle_form.specs.Forms.{encode_output, encode_run, encode_spend, encode_bundle, encode_height, kind_number, attached, encode_fee_intent}
 use Rattle.book.specs.Zero.{zero_hash, no_attempt, base_variant, zero_submitted}
 use Rattle.book.specs.Sound.{spends_of, outputs_of, id_of, attempt_token, tokens_of}
@@ -45,7 +46,8 @@ use Rattle.archive_laws.specs.Entries.{GoodSlots, slots_lawful, GoodFacts, facts
 use Rattle.archive_laws.specs.Books.{GoodNumbers, enc_numbers, numbers_of, numbers_lawful, GoodRetired, GoodReplayed, retired_lawful, replayed_lawful, queue_lawful, GoodModel}
 use Rattle.archive_laws.specs.Items.{plain, number_item, ruled, limited, items_output, items_run, items_spend, items_bundle, items_height, items_id, items_attached, items_fee_intent, items_hash, items_attempt, items_slot, items_slots, items_variant}
 use Rattle.archive_laws.specs.Items.{items_facts, items_submitted, items_delivery, items_retired, items_replayed, items_model}
-use Rattle.archive_laws.specs.Stops.{Placed, then_placed, last_placed, none_placed, as_placed, run_placed, number_placed, ruled_placed, limited_placed, optional_placed, optional_by_placed, list_placed}
+use Rattle.archive_laws.specs.Stops.{Placed, then_placed, last_placed, none_placed, as_placed}
+use Rattle.archive_laws.proofs.Stops.{run_placed, number_placed, ruled_placed, limited_placed, optional_placed, optional_by_placed, list_placed}
 
 -- what a lawful parser reads of a good value
 reads : {A : Type 0} {G : A → Type 0} {enc : A → List ℕ} {p : Parser A} → Lawful G enc p → (a : A) → G a → (s : List ℕ) (at e : ℕ) → Spans s at e (enc a) → p s at ≡ got a e

@@ -1,0 +1,3 @@
+pub mod ItemLaws
+pub mod Places
+pub mod Stops
