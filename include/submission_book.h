@@ -1,4 +1,4 @@
-/* The submission book, for C11 and C++ on x86-64 Linux: link libsubmission_book.a, which is compiled by rattle-kit-5b.
+/* The submission book, for C11 and C++ on x86-64 Linux: link libsubmission_book.a, which is compiled by rattle-kit-13f.
  * Readers of answers and builders of arguments are in submission_book_answers.h.
  *
  * A submission book queues payments for a wallet. Each payment is a bundle of coin spends. Draining the queue
