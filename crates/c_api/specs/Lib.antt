@@ -1,1 +1,3 @@
+pub mod Laws
 pub mod Functions
+pub mod Arguments
