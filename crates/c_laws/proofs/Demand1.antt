@@ -30,12 +30,12 @@ use Rattle.c_calls_chain.specs.Quiet.{length_by}
 use Rattle.c_whole.specs.Whole.{read_into, GivesPlace}
 use Rattle.c_api.specs.Functions.{CCall, Returned, answered, counted, CoinIdDid}
 use Rattle.c_laws.specs.Functions.{Lent, lent, Asked, asks, bad_list, bad_value, call_of}
-use Rattle.c_laws.specs.Told.{told, told_on, told_in, Held, no_book_lem, one_book}
+use Rattle.c_laws.specs.Told.{told, told_on, told_in, Held, no_book, one_book}
 use Rattle.c_laws.proofs.Told.{did_told}
 use Rattle.c_boundary.specs.Forms.{value_form}
 use Rattle.book_answers.specs.declared.DrainedSubmission.{DrainedSubmission}
 use Rattle.book.specs.Refusals as refusals
-use Rattle.c_laws.specs.Demand1.{Function, OnBook, Open, Read, Sha256, CoinId, lent_to, Ended, call_ended, open_ended, read_ended, sha256_ended, coin_id_ended, Says, call_says, open_says, read_says, Hashes, sha256_says, coin_id_says, drain_stops, Demand1, new_book, new_answer, old_bytes, no_token_lem, no_archive_lem}
+use Rattle.c_laws.specs.Demand1.{Function, OnBook, Open, Read, Sha256, CoinId, lent_to, Ended, call_ended, open_ended, read_ended, sha256_ended, coin_id_ended, Says, call_says, open_says, read_says, Hashes, sha256_says, coin_id_says, drain_stops, Demand1, new_book, new_answer, old_bytes, no_token, no_archive}
 
 -- ---- calls
 tells : (t : Bool) (s : List ℕ) (n : ℕ) → cond (t && eqb 0 0) (length s) n ≡ cond t (length s) n
@@ -61,7 +61,7 @@ module _ (d : List ℕ) (c : CCall) (k : Call) (m : Book) (e : held_in d ≡ som
       → (t : Bool) (l : Left) → Wrote n x [] d (lent c).answer t l
       → Demand1 (OnBook c) d (counted l.number l.book l.answer (cond (asks_room (kind_of k) && eqb l.number 0) (lent c).count (lent c).count))
   unfolding overlay
-  stopped_as x xs n i j p true l (wrote h) = no_token_lem x (drain_stops c k m e q i (p ∙ ap (λ (z : ℕ). stopped x xs z) j)) j refl refl (stays (asks_room (kind_of k) && eqb n 0))
+  stopped_as x xs n i j p true l (wrote h) = no_token x (drain_stops c k m e q i (p ∙ ap (λ (z : ℕ). stopped x xs z) j)) j refl refl (stays (asks_room (kind_of k) && eqb n 0))
   stopped_as x xs n i j p false l short = old_bytes (λ z. omega arith) refl refl (stays (asks_room (kind_of k) && eqb 12 0))
 
   outcome_as : (o : Outcome Book Value) → run_book (rules encode_model k) m ≡ o → TurnedAway (is_drain (kind_of k)) (asks_room (kind_of k)) o → Demand1 (OnBook c) d (told (kind_of k) d (lent c) o)
@@ -77,7 +77,7 @@ told_as d c m e bad_value q = old_bytes (λ z. omega arith) refl refl refl
 told_as d c m e (asks k) q = outcome_as d c k m e q (run_book (rules encode_model k) m) refl (turned_away_lem encode_model k m)
 
 held_as : (d : List ℕ) (c : CCall) {x : Option Book} → Held d x → Demand1 (OnBook c) d (told_in x d c)
-held_as d c (no_book_lem e) = old_bytes (λ z. omega arith) refl refl refl
+held_as d c (no_book e) = old_bytes (λ z. omega arith) refl refl refl
 held_as d c (one_book m e h) = told_as d c m e (call_of c) refl
 
 -- ---- opening and reading
@@ -93,7 +93,7 @@ unfolding read_into
 read_as d archive place (book b) q {n} {d'} {p} g =
     subst (λ (z : ℕ). Demand1 (Read archive place) d (record { number = n; book = d'; answer = []; count = z })) (sym g.place)
     (put_as (Read archive place) d (view b) place refl (read_says archive place b q) _ _ (written_as 0 (view b) [] d []) g.number g.book)
-read_as d archive place (broken e) q g = no_archive_lem archive place refl (q ∙ ap broken (sym g.place)) g.number g.book refl
+read_as d archive place (broken e) q g = no_archive archive place refl (q ∙ ap broken (sym g.place)) g.number g.book refl
 
 -- ---- without a book
 hashed_as : (f : Function) (d s a : List ℕ) → lent_to f ≡ record { answer = a; count = 0 } → Hashes f s → {n : ℕ} {a' : List ℕ} → GivesAnswer (answer_in s a) n a'
@@ -118,7 +118,7 @@ pub demand_1 : (d : List ℕ) → Every U8 d → {f : Function} {r : Returned} �
 demand_1 d u (call_ended {c} {r} x) = go (held_in d) refl
   where
     go : (y : Option Book) → held_in d ≡ y → Demand1 (OnBook c) d r
-    go none e = subst (Demand1 (OnBook c) d) (sym (did_told d x (no_book_lem e))) (held_as d c (no_book_lem e))
+    go none e = subst (Demand1 (OnBook c) d) (sym (did_told d x (no_book e))) (held_as d c (no_book e))
     go (some m) e = subst (Demand1 (OnBook c) d) (sym (did_told d x (one_book m e (held_holds d u m e)))) (held_as d c (one_book m e (held_holds d u m e)))
 demand_1 d u (open_ended token id g) = put_as (Open token id) d (opened token id) 0 refl (open_says token id) _ _ (written_as 0 (opened token id) [] d []) g.number g.book
 demand_1 d u (read_ended archive place g) = read_as d archive place (read_archive archive) refl g

@@ -36,7 +36,7 @@ use Rattle.c_laws.specs.Functions.{Lent, lent, Asked, asks, bad_list, bad_value,
 use Rattle.rules.specs.Calls.ReconciliationInputCoins.{reconciliation_input_coins}
 use Rattle.rules.specs.Calls.AbsentOutputsForIds.{absent_outputs_for_ids}
 use Rattle.book.specs.Refusals as refusals
-use Rattle.c_laws.specs.Told.{turned_away, told, told_on, told_in, Held, no_book_lem, one_book, gives_all}
+use Rattle.c_laws.specs.Told.{turned_away, told, told_on, told_in, Held, no_book, one_book, gives_all}
 
 -- ---- a call that asks for no room itself
 abbrev Unasked : Asked → Type 0
@@ -102,7 +102,7 @@ boundary_told d l m (asks c) h e =
 module _ {A : Type 0} (d : List ℕ) (c : CCall) (t : ToldAs A) (h : Unasked (call_of c)) (r : Rule A) (q : t.value <$> r ≡ rule_of (call_of c)) where
   boundary_in : {x : Option Book} → Held d x → returned (boundary t.form r d (lent c).answer) (lent c).count ≡ told_in x d c
   unfolding boundary
-  boundary_in (no_book_lem e) = ap (λ (y : Option Book). returned (ruled t.form r d (lent c).answer y) (lent c).count) e
+  boundary_in (no_book e) = ap (λ (y : Option Book). returned (ruled t.form r d (lent c).answer y) (lent c).count) e
   boundary_in (one_book m e k) =
       ap (λ (z : Left). returned z (lent c).count)
       (sym (boundary_mapped t.value t.form value_form t.same d (lent c).answer r) ∙ ap (λ (s : Rule Value). boundary value_form s d (lent c).answer) q)
@@ -250,17 +250,17 @@ module _ (d : List ℕ) where
       back_told (CCall.ReconcileChainTerminality o s r b) refl (unasked_behind ok (flag_in r) _ (λ v. refl)) _
       (listed_on nothing ok (flag_in r) (λ v. reconcile_chain_terminality o s v b) _ (λ v. ap (λ (z : Rule (Unit {0})). nothing <$> z) (reconcile_again o s v b))) y g
   did_told (rolled_back_did {a} x i g) y = gives_told d (CCall.CausallyRolledBackIds x i a) as_ids refl _ refl y g
-  did_told (input_coins_did o a k g) (no_book_lem e) = bytes_absent d (record { answer = a; count = k }) _ _ _ e g
+  did_told (input_coins_did o a k g) (no_book e) = bytes_absent d (record { answer = a; count = k }) _ _ _ e g
   did_told (input_coins_did o a k g) (one_book m e h) =
       bytes_told d (record { answer = a; count = k }) (Call.ReconciliationInputCoins o (length a)) (reconciliation_input_coins o (length a)) refl refl m e
       (quiet_count m d a k h (reconciliation_quiet o (length a) m)) g
-  did_told (absent_outputs_did is o a k g) (no_book_lem e) = bytes_absent d (record { answer = a; count = k }) _ _ _ e g
+  did_told (absent_outputs_did is o a k g) (no_book e) = bytes_absent d (record { answer = a; count = k }) _ _ _ e g
   did_told (absent_outputs_did is o a k g) (one_book m e h) =
       bytes_told d (record { answer = a; count = k }) (Call.AbsentOutputsForIds is o (length a)) (absent_outputs_for_ids is o (length a)) refl refl m e
       (quiet_count m d a k h (absent_quiet is o (length a) m)) g
   did_told (begin_did {a} i g) y = gives_told d (CCall.BeginReplay i a) as_flag refl _ refl y g
   did_told (collect_did is g) y = back_told (CCall.CollectRollbackReplayIds is) refl refl _ refl y g
-  did_told (write_did a k g) (no_book_lem e) = unfold write_from in
+  did_told (write_did a k g) (no_book e) = unfold write_from in
       let x = ap (λ (m : Option Book). write_from m a k) e in
       counted_as d g x
   did_told (write_did a k g) (one_book m e h) =

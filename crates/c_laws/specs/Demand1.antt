@@ -79,9 +79,9 @@ pub data Demand1 (f : Function) (d : List ℕ) (r : Returned) : Type 0 where
   -- every other number: every lent byte stays
   old_bytes : (r.number ≡ 0 → ⊥) → r.book ≡ d → r.answer ≡ (lent_to f).answer → r.count ≡ (lent_to f).count → Demand1 f d r
   -- 11: the book alone
-  no_token_lem : (m : Book) → Stops d f m → r.number ≡ refusals.no_token → r.book ≡ overlay (book_bytes m) d → r.answer ≡ (lent_to f).answer → r.count ≡ (lent_to f).count → Demand1 f d r
+  no_token : (m : Book) → Stops d f m → r.number ≡ refusals.no_token → r.book ≡ overlay (book_bytes m) d → r.answer ≡ (lent_to f).answer → r.count ≡ (lent_to f).count → Demand1 f d r
   -- 13: the place alone
-  no_archive_lem : (archive : List ℕ) (place : ℕ) → f ≡ Read archive place → read_archive archive ≡ broken r.count → r.number ≡ refusals.no_archive → r.book ≡ d → r.answer ≡ (lent_to f).answer → Demand1 f d r
+  no_archive : (archive : List ℕ) (place : ℕ) → f ≡ Read archive place → read_archive archive ≡ broken r.count → r.number ≡ refusals.no_archive → r.book ≡ d → r.answer ≡ (lent_to f).answer → Demand1 f d r
 
 -- ---- the calls that only look: their rules have no step (c_boundary/Looks), and they are lent the book as constant bytes
 pub data Looking : CCall → Type 0 where

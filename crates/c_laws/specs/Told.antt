@@ -45,7 +45,7 @@ told_in (some m) d c = told_on m d (lent c) (call_of c)
 
 -- the bytes d, and what they hold
 pub data Held (d : List ℕ) : Option Book → Type 0 where
-  no_book_lem : held_in d ≡ none → Held d none
+  no_book : held_in d ≡ none → Held d none
   one_book : (m : Book) → held_in d ≡ some m → Holds m d → Held d (some m)
 
 -- ---- a call without an answer
