@@ -27,7 +27,7 @@ use Rattle.rules_typed.specs.Typing.{Within, TypedCall}
 use Rattle.rules_answers.specs.Kind.{kind_of, answer_bytes, Roomy, is_drain, asks_room}
 use Rattle.rules_answers.specs.Turned.{TurnedAway}
 use Rattle.rules_answers.proofs.Turned.{turned_away_lem}
-use Rattle.rules_answers.specs.Said.{Says, SaidIn, DrainSays, drain_says, IssuedIn, issued_typed, FinalSays, no_final, one_final, FeeIntentSays, no_intent, one_intent, AttemptSays, no_attempt_lem, one_attempt, IdsSay, ids_say, final_says, fee_intent_says, attempt_says, retain_says, retirements_say, active_say, rolled_back_say}
+use Rattle.rules_answers.specs.Said.{Says, SaidIn, DrainSays, drain_says, IssuedIn, issued_typed, FinalSays, no_final, one_final, FeeIntentSays, no_intent, one_intent, AttemptSays, no_attempt, one_attempt, IdsSay, ids_say, final_says, fee_intent_says, attempt_says, retain_says, retirements_say, active_say, rolled_back_say}
 use Rattle.rules_answers.proofs.Said.{says_run, drain_few}
 use Rattle.rules_answers.specs.Coins.{inputs_size, outputs_size}
 use Rattle.c_boundary.specs.Held.{held_in}
@@ -105,7 +105,7 @@ fee_intent_fits n xs v no_intent = fee_intent_enough xs none tt
 fee_intent_fits n xs v (one_intent f t) = fee_intent_enough xs (some f) t
 
 attempt_fits : (n : ℕ) (xs : List DrainedSubmission) (v : Option DeliveryAttempt) → AttemptSays n v → length (attempt_form xs v) ≤ 75
-attempt_fits n xs v no_attempt_lem = attempt_enough xs none tt
+attempt_fits n xs v no_attempt = attempt_enough xs none tt
 attempt_fits n xs v (one_attempt a t) = attempt_enough xs (some a) t
 
 ids_fit : (n : ℕ) (xs : List DrainedSubmission) (v : List ℕ) → IdsSay n v → length (ids_form xs v) ≤ 513

@@ -148,7 +148,7 @@ pub data FeeIntentSays (k : ℕ) : Option SubmissionFeeIntent → Type 0 where
   one_intent : (f : SubmissionFeeIntent) → TypedFeeIntent f → FeeIntentSays k (some f)
 
 pub data AttemptSays (k : ℕ) : Option DeliveryAttempt → Type 0 where
-  no_attempt_lem : AttemptSays k none
+  no_attempt : AttemptSays k none
   one_attempt : (a : DeliveryAttempt) → TypedAttempt a → AttemptSays k (some a)
 
 pub data IdsSay (k : ℕ) : List ℕ → Type 0 where
@@ -220,9 +220,9 @@ module _ (b : Book) (w : Within b) where
     where
       go : (f : Found) → LiveIn f → AttemptSays 0 (attempt_by f)
       go (live s) x = one_attempt _ x.slots.active
-      go aside x = no_attempt_lem
-      go gone x = no_attempt_lem
-      go never_issued x = no_attempt_lem
+      go aside x = no_attempt
+      go gone x = no_attempt
+      go never_issued x = no_attempt
 
 module _ (b : Book) (s : SoundBook b) where
   pub retain_says : (is : List ℕ) → Says IdsSay 0 b (retain_submitted is)
