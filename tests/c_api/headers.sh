@@ -24,8 +24,9 @@ for language in "${CC:-cc} -std=c11 -x c" "${CXX:-c++} -std=c++17 -x c++"; do
     # shellcheck disable=SC2086
     $language "${warnings[@]}" - <<<"${ignored/\{ /\{ (void)!}"
 done
-needed=$(nm -u target/libc_api_c.a | awk '$1 == "U" { print $2 }' | sort | xargs)
-[ "$needed" = "memcpy memmove memset" ] || { echo "headers: the proved part needs $needed"; exit 1; }
+# Which of the three it needs is the compiler's choice; it needs nothing else.
+needed=$(nm -u target/libc_api_c.a | awk '$1 == "U" && $2 !~ /^mem(cpy|move|set)$/ { print $2 }' | sort | xargs)
+[ -z "$needed" ] || { echo "headers: the proved part needs $needed"; exit 1; }
 # README.md shows examples/first.c whole
 awk '/^```c$/ { on = 1; next } /^```$/ { on = 0 } on' README.md | diff - examples/first.c || { echo "headers: README.md's first program is not examples/first.c"; exit 1; }
 echo "headers: C11, C++11 and C++17 without a warning, an ignored refusal warns"
