@@ -17,12 +17,12 @@ use Rattle.c_boundary.specs.Forms.{no_form, gives_book_absent, done_given_lem}
 use Rattle.c_boundary.specs.Held.{held_in, Holding}
 use Rattle.c_boundary.specs.Settle.{boundary, GivesBook, gives_book_as, finish}
 
-flag_over : (n : ℕ) → 1 < n → flag_in n ≡ none
+pub flag_over : (n : ℕ) → 1 < n → flag_in n ≡ none
 flag_over zero h = absurd (omega arith)
 flag_over (suc zero) h = absurd (omega arith)
 flag_over (suc (suc n)) h = refl
 
-flag_in_lem : (n : ℕ) → n ≤ 1 → flag_in n ≡ some (eqb n 1)
+pub flag_in_lem : (n : ℕ) → n ≤ 1 → flag_in n ≡ some (eqb n 1)
 flag_in_lem zero h = refl
 flag_in_lem (suc zero) h = refl
 flag_in_lem (suc (suc n)) h = absurd (omega arith)
