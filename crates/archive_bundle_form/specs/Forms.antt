@@ -6,8 +6,8 @@ use Rattle.codec_forms.specs.Wire.{be, enc_many}
 use Rattle.base_sha256.specs.Fips.{sha256_of}
 use Rattle.book.specs.Sound.{spends_of, outputs_of}
 use Rattle.book.specs.declared.Height.{Height}
-use Rattle.book.specs.declared.OptionalHeight.{OptionalHeight}
-use Rattle.book.specs.declared.OptionalHeight.TheVariants.{NoHeight, At}
+use Rattle.std.specs.Prelude.{Option}
+use Rattle.std.specs.Prelude.{None, Some}
 use Rattle.book.specs.declared.Output.{Output}
 use Rattle.book.specs.declared.CoinSpend.{CoinSpend}
 use Rattle.book.specs.declared.SpendBundle.{SpendBundle}
@@ -32,10 +32,10 @@ unfoldable pub encode_bundle : SpendBundle → List ℕ
 unfolding be enc_many encode_spend
 encode_bundle b = be 1 b.count ++ enc_many encode_spend (spends_of b)
 
-unfoldable pub encode_height : OptionalHeight → List ℕ
+unfoldable pub encode_height : Option Height → List ℕ
 unfolding be
-encode_height NoHeight = be 1 0
-encode_height (At h) = be 1 1 ++ be 8 h.0
+encode_height None = be 1 0
+encode_height (Some h) = be 1 1 ++ be 8 h.0
 
 abbrev pub kind_number : FeeIntentKind → ℕ
 kind_number AlreadyPaid = 0
@@ -57,6 +57,6 @@ unfolding sha256_of encode_bundle
 variant_fingerprint b = sha256_of (encode_bundle b)
 
 -- `submission_intent_fingerprint`: bundle, expiry, fee intent
-unfoldable pub intent_fingerprint : SpendBundle → OptionalHeight → SubmissionFeeIntent → List ℕ
+unfoldable pub intent_fingerprint : SpendBundle → Option Height → SubmissionFeeIntent → List ℕ
 unfolding sha256_of encode_bundle encode_height encode_fee_intent
 intent_fingerprint b e f = sha256_of (encode_bundle b ++ encode_height e ++ encode_fee_intent f)

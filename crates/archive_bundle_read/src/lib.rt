@@ -2,5 +2,6 @@
 #![tactic(auto)]
 
 pub mod bundle;
+pub mod each;
 pub mod kind;
 pub mod part;

@@ -2,32 +2,29 @@
 ghost use Rattle.codec_cursor.specs.Cursor.{Reads};
 ghost use Rattle.archive_form.specs.Parse.{parse_height, parse_id, parse_hash, parse_fee_intent};
 
-use book::{
-    FeeIntentKind, Height, OptionalHash, OptionalHeight, OptionalId, SubmissionFeeIntent,
-    SubmissionId,
-};
+use book::{FeeIntentKind, Height, OptionalHash, SubmissionFeeIntent, SubmissionId};
 use codec_cursor::{read_count, read_hash, read_number};
 
-pub fn read_height(s: &[u8], at: &mut usize) -> OptionalHeight
+pub fn read_height(s: &[u8], at: &mut usize) -> Option<Height>
     ensures { Reads parse_height s.now at.old result at.new }
 {
     let mark = read_count(s, &mut *at, 1);
     if mark == 0 {
-        return OptionalHeight::NoHeight;
+        return None;
     }
     let n = read_number(s, at);
-    OptionalHeight::At(Height(n))
+    Some(Height(n))
 }
 
-pub fn read_id(s: &[u8], at: &mut usize) -> OptionalId
+pub fn read_id(s: &[u8], at: &mut usize) -> Option<SubmissionId>
     ensures { Reads parse_id s.now at.old result at.new }
 {
     let mark = read_count(s, &mut *at, 1);
     if mark == 0 {
-        return OptionalId::NoId;
+        return None;
     }
     let n = read_number(s, at);
-    OptionalId::Of(SubmissionId(n))
+    Some(SubmissionId(n))
 }
 
 pub fn read_optional_hash(s: &[u8], at: &mut usize) -> OptionalHash
@@ -47,26 +44,22 @@ pub fn read_optional_hash(s: &[u8], at: &mut usize) -> OptionalHash
 pub fn read_fee_intent(s: &[u8], at: &mut usize) -> SubmissionFeeIntent
     ensures { Reads parse_fee_intent s.now at.old result at.new }
 {
-    let n = read_count(s, &mut *at, 2);
-    if n == 0 {
-        return SubmissionFeeIntent {
-            kind: FeeIntentKind::AlreadyPaid,
-            target: [0; 32],
-            amount: 0,
-        };
-    }
-    if n == 1 {
-        return SubmissionFeeIntent {
-            kind: FeeIntentKind::NoFeeConfigured,
-            target: [0; 32],
-            amount: 0,
-        };
-    }
-    let target = read_hash(s, &mut *at);
-    let amount = read_number(s, at);
+    let kind = match read_count(s, &mut *at, 2) {
+        0 => FeeIntentKind::AlreadyPaid,
+        1 => FeeIntentKind::NoFeeConfigured,
+        _ => {
+            let target = read_hash(s, &mut *at);
+            let amount = read_number(s, at);
+            return SubmissionFeeIntent {
+                kind: FeeIntentKind::Attach,
+                target,
+                amount,
+            };
+        }
+    };
     SubmissionFeeIntent {
-        kind: FeeIntentKind::Attach,
-        target,
-        amount,
+        kind,
+        target: [0; 32],
+        amount: 0,
     }
 }

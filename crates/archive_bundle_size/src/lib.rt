@@ -1,91 +1,73 @@
 // How many bytes a bundle, an expiry and a fee intent take in the archive.
 #![tactic(auto)]
 
-ghost use Rattle.std.specs.Prelude.{◌≡◌, take};
+ghost use Rattle.std.specs.Prelude.{◌≡◌, List, ℕ, ◌*◌, ◌^◌, ◌<◌, take};
 ghost use Rattle.codec_forms.specs.Wire.{enc_many};
 ghost use Rattle.codec_forms.specs.Puts.{Size};
 ghost use Rattle.book.specs.Sound.{outputs_of};
 ghost use Rattle.archive_bundle_form.specs.Forms.{encode_output, encode_run, encode_spend, encode_bundle, encode_height, encode_fee_intent};
 
-use base_lists::at_most;
-use book::{CoinSpend, OptionalHeight, Output, SpendBundle, SubmissionFeeIntent};
+use book::{CoinSpend, FeeIntentKind, Height, Output, SpendBundle, SubmissionFeeIntent};
 
+// The bytes of the first n of N parts. The ghost value is the form of a part, and how long it is at most.
+pub fn size_first<T, const N: usize, F: Fn(&T) -> usize>(parts: &[T; N], n: usize, size: F) -> usize
+    ghost form: { (T → List ℕ) × ℕ }
+    requires fits { N * form.1 < 2 ^ 64 }
+    requires callable { F.IsAlwaysCallable size }
+    requires sizes { (x : _) (r : _) → F.post size x r → Size (form.0 x.now) form.1 r }
+    ensures { Size (enc_many form.0 (take n parts.now)) (N * form.1) result }
+{
+    let k = n.min(N);
+    let first = &parts[..k];
+    let mut sum = 0;
+    for x in first {
+        sum += size(x);
+    }
+    sum
+}
+
+// By value, since behind a reference that nothing reads the length of the hash is not known.
 fn size_output(o: Output) -> usize
     ensures { Size (encode_output o) 40 result }
 {
     40
 }
 
-// The first n outputs.
-fn size_outputs(a: [Output; 4], n: usize) -> usize
-    ensures { Size (enc_many encode_output (take n a)) 160 result }
+fn size_run(s: &CoinSpend) -> usize
+    ensures { Size (encode_run s.now.readable (outputs_of s.now)) 162 result }
 {
-    let k = at_most(n, 4);
-    let mut r: usize = 0;
-    let mut i: usize = 0;
-    while i < k {
-        let o = a[i];
-        r += size_output(o);
-        i += 1;
+    if s.readable {
+        2 + size_first(&s.outputs, s.output_count as usize, |o| size_output(*o))
+    } else {
+        1
     }
-    r
 }
 
-fn size_run(s: CoinSpend) -> usize
-    ensures { Size (encode_run s.readable (outputs_of s)) 162 result }
+fn size_spend(s: &CoinSpend) -> usize
+    ensures { Size (encode_spend s.now) 268 result }
 {
-    let readable = s.readable;
-    if !readable {
-        return 1;
-    }
-    let outputs = s.outputs;
-    2 + size_outputs(outputs, s.output_count as usize)
-}
-
-fn size_spend(s: CoinSpend) -> usize
-    ensures { Size (encode_spend s) 268 result }
-{
-    let k = at_most(s.coin_len as usize, 73);
+    let k = (s.coin_len as usize).min(73);
     33 + k + size_run(s)
-}
-
-// The first n spends.
-fn size_spends(a: [CoinSpend; 4], n: usize) -> usize
-    ensures { Size (enc_many encode_spend (take n a)) 1072 result }
-{
-    let k = at_most(n, 4);
-    let mut r: usize = 0;
-    let mut i: usize = 0;
-    while i < k {
-        let s = a[i];
-        r += size_spend(s);
-        i += 1;
-    }
-    r
 }
 
 pub fn size_bundle(b: SpendBundle) -> usize
     ensures { Size (encode_bundle b) 1073 result }
 {
-    let spends = b.spends;
-    1 + size_spends(spends, b.count as usize)
+    1 + size_first(&b.spends, b.count as usize, size_spend)
 }
 
-pub fn size_height(h: OptionalHeight) -> usize
+pub fn size_height(h: Option<Height>) -> usize
     ensures { Size (encode_height h) 9 result }
 {
-    if h.is_none() {
-        return 1;
-    }
-    9
+    if h.is_none() { 1 } else { 9 }
 }
 
 pub fn size_fee_intent(f: SubmissionFeeIntent) -> usize
     ensures { Size (encode_fee_intent f) 41 result }
 {
-    let kind = f.kind;
-    if kind.is_attach() {
-        return 41;
+    if f.kind == FeeIntentKind::Attach {
+        41
+    } else {
+        1
     }
-    1
 }

@@ -2,7 +2,8 @@
 use Rattle.std.specs.Prelude.{ℕ, ◌≡◌, refl, Bool, true, false, cond, ◌&&◌, ◌||◌, List, [], ◌∷◌, ◌++◌, map, eqb}
 use Rattle.std.proofs.Common.{sym, ap, ◌∙◌, subst, append-nil}
 use Rattle.base_lists.specs.Laws.{elem_append}
-use Rattle.base_lists.specs.Lists.{elemb, flat_map}
+use Rattle.base_lists.specs.Lists.{elemb}
+use Rattle.std.specs.List.{flat_map, list_any}
 use Rattle.codec_forms.specs.Wire.{Parser, ◌>>=◌, done}
 use Rattle.codec_cursor.specs.Cursor.{Reads}
 use Rattle.book.specs.Zero.{no_attempt}
@@ -29,6 +30,11 @@ first_slot next held {s} {c} {e} {a} {v} q h =
     subst (λ (l : List ℕ). Reads (parse_slot next l) s c v e) (ap (λ (o : OptionalAttempt). held ++ attempt_token o) q ∙ append-nil held) h
 
 -- ---- numbers in lists
+-- what `contains` of a slice answers
+pub elem_any : (x : ℕ) (l : List ℕ) → list_any (λ y. eqb y x) l ≡ elemb x l
+elem_any x [] = refl
+elem_any x (y ∷ l) = ap (λ b. eqb y x || b) (elem_any x l)
+
 pub elem_both : (x : ℕ) (l m : List ℕ) {a b : Bool} → a ≡ elemb x l → b ≡ elemb x m → (a || b) ≡ elemb x (l ++ m)
 elem_both x l m p q = (λ i. p i || q i) ∙ sym (elem_append x l m)
 

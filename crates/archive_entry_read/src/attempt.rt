@@ -8,7 +8,6 @@ ghost use Rattle.archive_form.specs.Parse.{fresh_token, parse_slot, parse_slots}
 
 use archive_bundle_read::kind::read_goal;
 use archive_bundle_read::part::read_optional_hash;
-use base_lists::contains;
 use book::{AttemptSlots, DeliveryAttempt, OptionalAttempt, Token};
 use codec_cursor::{pass, read_count, read_hash, read_number};
 
@@ -23,7 +22,7 @@ fn slot_holds(a: OptionalAttempt, token: Token) -> bool
 fn fresh_token(next: Token, held: &[u64], live: OptionalAttempt, token: Token) -> bool
     ensures { result ≡ fresh_token next.0 (held.now ++ attempt_token live) token.0 }
 {
-    let before = contains(held, token.0);
+    let before = held.contains(&token.0);
     let twin = slot_holds(live, token);
     (token.0 < next.0) & !(before | twin)
 }

@@ -7,7 +7,6 @@ use crate::attempt::read_slots;
 use archive_bundle_read::bundle::read_bundle;
 use archive_bundle_read::kind::{read_chain, read_resolution};
 use archive_bundle_read::part::{read_fee_intent, read_height, read_optional_hash};
-use base_lists::contains;
 use book::{
     RetainedIntent, SubmissionBroadcastVariant, SubmissionId, SubmissionState, SubmissionStatus,
     SubmittedEntry, SubmittedTx, Token,
@@ -20,7 +19,7 @@ pub fn read_new_id(s: &[u8], at: &mut usize, listed: &[u64]) -> SubmissionId
 {
     let start = *at;
     let id = read_number(s, &mut *at);
-    let held = contains(listed, id);
+    let held = listed.contains(&id);
     *at = pass(!held, start, *at);
     SubmissionId(id)
 }

@@ -1,7 +1,6 @@
 -- What stands at the start of a buffer after a part was written there.
-use Rattle.std.specs.Prelude.{◌≡◌, List, ℕ, ◌-◌, ◌≤◌, length, take, drop}
+use Rattle.std.specs.Prelude.{◌≡◌, List, ℕ, ◌≤◌, length, take, drop}
 use Rattle.std.proofs.Common.{sym, ap, ◌∙◌, arith, take_at}
-use Rattle.std.proofs.Math.Nat.{sub-zero}
 use Rattle.codec_forms.specs.Wire.{overlay}
 use Rattle.codec_forms.specs.Puts.{Room, Puts, Size, puts_overlay}
 
@@ -9,7 +8,7 @@ use Rattle.codec_forms.specs.Puts.{Room, Puts, Size, puts_overlay}
 pub room_at_start : {l d : List ℕ} {most r : ℕ} → Size l most r → most ≤ length d → Room l 0 d
 room_at_start s h = record { fits = omega (arith, s.is, s.few) }
 
-pub front : {l d d' : List ℕ} {e : ℕ} (n : ℕ) → n ≡ length l → Puts l 0 d d' e → take (n - 0) (drop 0 d') ≡ l
+pub front : {l d d' : List ℕ} {e : ℕ} (n : ℕ) → n ≡ length l → Puts l 0 d d' e → take n d' ≡ l
 unfolding overlay
 front {l} {d} {d'} n h p =
-    ap (λ (k : ℕ). take k d') (sub-zero n) ∙ ap (λ (x : List ℕ). take n x) (puts_overlay p).1 ∙ take_at l (drop (length l) d) n (sym h)
+    ap (λ (x : List ℕ). take n x) (puts_overlay p).1 ∙ take_at l (drop (length l) d) n (sym h)

@@ -7,7 +7,7 @@ ghost use Rattle.archive_bundle_form.specs.Forms.{variant_fingerprint, intent_fi
 use archive_bundle_size::{size_bundle, size_fee_intent, size_height};
 use archive_bundle_write::write::{append_bundle, append_fee_intent, append_height};
 use base_sha256::sha256;
-use book::{OptionalHeight, SpendBundle, SubmissionFeeIntent};
+use book::{Height, SpendBundle, SubmissionFeeIntent};
 
 // `submission_variant_fingerprint`
 pub fn variant_fingerprint(b: SpendBundle) -> [u8; 32]
@@ -16,13 +16,13 @@ pub fn variant_fingerprint(b: SpendBundle) -> [u8; 32]
     let mut form = [0u8; 1073];
     let n = size_bundle(b);
     append_bundle(&mut form, 0, b);
-    sha256(&form[0..n])
+    sha256(&form[..n])
 }
 
 // `submission_intent_fingerprint`
 pub fn intent_fingerprint(
     b: SpendBundle,
-    expiry: OptionalHeight,
+    expiry: Option<Height>,
     f: SubmissionFeeIntent,
 ) -> [u8; 32]
     ensures { result ≡ intent_fingerprint b expiry f }
@@ -32,5 +32,5 @@ pub fn intent_fingerprint(
     let bundle_end = append_bundle(&mut form, 0, b);
     let expiry_end = append_height(&mut form, bundle_end, expiry);
     append_fee_intent(&mut form, expiry_end, f);
-    sha256(&form[0..n])
+    sha256(&form[..n])
 }

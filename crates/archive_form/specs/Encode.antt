@@ -4,8 +4,9 @@ use Rattle.std.specs.Prelude.{List, ◌++◌, ℕ}
 use Rattle.codec_forms.specs.Wire.{be, enc_many, enc_list, enc_opt}
 use Rattle.archive_bundle_form.specs.Forms.{encode_bundle, encode_height, encode_fee_intent}
 use Rattle.book.specs.Model.{Book, view}
-use Rattle.book.specs.declared.OptionalId.{OptionalId}
-use Rattle.book.specs.declared.OptionalId.TheVariants.{NoId, Of}
+use Rattle.std.specs.Prelude.{Option}
+use Rattle.book.specs.declared.SubmissionId.{SubmissionId}
+use Rattle.std.specs.Prelude.{None, Some}
 use Rattle.book.specs.declared.SubmissionDeliveryGoal.{SubmissionDeliveryGoal}
 use Rattle.book.specs.declared.SubmissionDeliveryGoal.TheVariants.{EnsureBroadcast, FeeUpgrade}
 use Rattle.book.specs.declared.DeliveryTrigger.{DeliveryTrigger}
@@ -91,10 +92,10 @@ unfolding be encode_slots encode_facts
 encode_submitted t = be 8 t.entry.id.0 ++ encode_slots t.slots ++ encode_facts t.entry.intent t.entry.state
 
 -- ---- the queue
-unfoldable pub encode_id : OptionalId → List ℕ
+unfoldable pub encode_id : Option SubmissionId → List ℕ
 unfolding be
-encode_id NoId = be 1 0
-encode_id (Of i) = be 1 1 ++ be 8 i.0
+encode_id None = be 1 0
+encode_id (Some i) = be 1 1 ++ be 8 i.0
 
 -- queue: id, bundle, expiry, fee intent, trigger, goal
 unfoldable pub encode_delivery : PendingDelivery → List ℕ

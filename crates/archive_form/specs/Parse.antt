@@ -1,7 +1,8 @@
 -- The archive as it is read, item by item. Paper 01: "The reader's refusal place is the start of the first item (number, kind, count,
 -- byte run) that is cut short or breaks a rule when read in order; bytes left over: the first of them."
 use Rattle.std.specs.Prelude.{Bool, true, false, not, ◌&&◌, ◌||◌, List, [], ◌∷◌, ◌++◌, map, ℕ, zero, suc, eqb, leb, ltb, length}
-use Rattle.base_lists.specs.Lists.{cells, elemb, flat_map}
+use Rattle.base_lists.specs.Lists.{cells, elemb}
+use Rattle.std.specs.List.{flat_map}
 use Rattle.codec_forms.specs.Wire.{Ans, got, bad, Parser, ◌>>=◌, done, and_then, run, number, checked, up_to, mapped, optional_by, optional, counted, list_from, list_of, end}
 use Rattle.book.specs.Zero.{zeros, zero_output, zero_spend, zero_hash, no_attempt, base_variant}
 use Rattle.book.specs.Sound.{id_of, attempt_token, tokens_of}
@@ -9,10 +10,8 @@ use Rattle.book.specs.Model.{Book, back}
 use Rattle.book.specs.declared.Token.{Token}
 use Rattle.book.specs.declared.SubmissionId.{SubmissionId}
 use Rattle.book.specs.declared.Height.{Height}
-use Rattle.book.specs.declared.OptionalHeight.{OptionalHeight}
-use Rattle.book.specs.declared.OptionalHeight.TheVariants.{NoHeight, At}
-use Rattle.book.specs.declared.OptionalId.{OptionalId}
-use Rattle.book.specs.declared.OptionalId.TheVariants.{NoId, Of}
+use Rattle.std.specs.Prelude.{Option}
+use Rattle.std.specs.Prelude.{None, Some}
 use Rattle.book.specs.declared.Output.{Output}
 use Rattle.book.specs.declared.CoinSpend.{CoinSpend}
 use Rattle.book.specs.declared.SpendBundle.{SpendBundle}
@@ -87,17 +86,17 @@ parse_bundle base = do
   done (record { count = length l; spends = cells 4 zero_spend l })
 
 -- ---- expiry, rollback height, an optional id, fee intent
-unfoldable pub parse_height : Parser OptionalHeight
+unfoldable pub parse_height : Parser (Option Height)
 unfolding optional number
-parse_height = optional NoHeight (do
+parse_height = optional None (do
   n ← number 8
-  done (At (record { 0 = n })))
+  done (Some (record { 0 = n })))
 
-unfoldable pub parse_id : Parser OptionalId
+unfoldable pub parse_id : Parser (Option SubmissionId)
 unfolding optional number
-parse_id = optional NoId (do
+parse_id = optional None (do
   n ← number 8
-  done (Of (record { 0 = n })))
+  done (Some (record { 0 = n })))
 
 -- what follows the kind
 unfoldable pub parse_attached : ℕ → Parser SubmissionFeeIntent

@@ -4,8 +4,8 @@ use Rattle.std.specs.Prelude.{◌≡◌, refl, true, false, List, [], ◌∷◌,
 use Rattle.base_lists.specs.Lists.{cells}
 use Rattle.book.specs.Zero.{zeros, zero_output, zero_spend, zero_hash, no_attempt, base_variant, zero_fee_intent}
 use Rattle.book.specs.Model.{Book, back, view}
-use Rattle.book.specs.declared.OptionalHeight.TheVariants.{NoHeight, At}
-use Rattle.book.specs.declared.OptionalId.TheVariants.{Of}
+use Rattle.std.specs.Prelude.{None, Some}
+use Rattle.std.specs.Prelude.{Some}
 use Rattle.book.specs.declared.CoinSpend.{CoinSpend}
 use Rattle.book.specs.declared.SpendBundle.{SpendBundle}
 use Rattle.book.specs.declared.FeeIntentKind.TheVariants.{Attach}
@@ -21,7 +21,7 @@ use Rattle.archive_form.specs.Parse.{read_archive, ArchiveRead, book, broken}
 
 -- a book just opened with two numbers: everything else is empty
 abbrev pub opened_model : ℕ → ℕ → Book
-opened_model token id = record { next_token = record { 0 = token }; next_id = record { 0 = id }; submitted = []; pending = []; retired = []; rollback = NoHeight; replayed = [] }
+opened_model token id = record { next_token = record { 0 = token }; next_id = record { 0 = id }; submitted = []; pending = []; retired = []; rollback = None; replayed = [] }
 
 unfoldable pub opened : ℕ → ℕ → BookData
 unfolding back
@@ -89,7 +89,7 @@ submission = record {
     state = record {
       current_variant = base_variant;
       wallet_acknowledged_variant = zero_hash;
-      status = record { fee_resolution = Unresolved; chain_terminality = Active; expiry = At (record { 0 = 77 }) };
+      status = record { fee_resolution = Unresolved; chain_terminality = Active; expiry = Some (record { 0 = 77 }) };
     };
   };
 }
@@ -97,7 +97,7 @@ submission = record {
 delivery : PendingDelivery
 unfolding bundle zero_fee_intent
 delivery = record {
-  intent = record { id = Of (record { 0 = 1 }); bundle = bundle; expiry = NoHeight; fee_intent = zero_fee_intent };
+  intent = record { id = Some (record { 0 = 1 }); bundle = bundle; expiry = None; fee_intent = zero_fee_intent };
   trigger = Rollback;
   goal = EnsureBroadcast;
 }
@@ -110,7 +110,7 @@ small_model = record {
   submitted = submission ∷ [];
   pending = delivery ∷ [];
   retired = 7 ∷ [];
-  rollback = At (record { 0 = 100 });
+  rollback = Some (record { 0 = 100 });
   replayed = 1 ∷ [];
 }
 

@@ -1,7 +1,8 @@
 -- The reader stops at the first broken item: one law for each part of an archive, in the order in which its items are listed.
 use Rattle.std.specs.Prelude.{◌≡◌, refl, Bool, true, false, not, ◌&&◌, ◌||◌, List, [], ◌∷◌, ◌++◌, map, ℕ, ◌≤◌, eqb, leb, length}
 use Rattle.std.proofs.Common.{sym, ap, ◌∙◌, subst, append_assoc, arith}
-use Rattle.base_lists.specs.Lists.{elemb, flat_map}
+use Rattle.base_lists.specs.Lists.{elemb}
+use Rattle.std.specs.List.{flat_map}
 use Rattle.codec_forms.specs.Wire.{got, Parser, be, enc_many, enc_list, enc_opt, run, up_to, mapped, counted}
 use Rattle.codec_forms.specs.Lawful.{Lawful, Spans}
 use Rattle.codec_forms.specs.Items.{mark, AllFrom}
@@ -15,10 +16,10 @@ use Rattle.book.specs.Typed.{TypedOutput, Bytes}
 use Rattle.book.specs.declared.Output.{Output}
 use Rattle.book.specs.declared.CoinSpend.{CoinSpend}
 use Rattle.book.specs.declared.SpendBundle.{SpendBundle}
-use Rattle.book.specs.declared.OptionalHeight.{OptionalHeight}
-use Rattle.book.specs.declared.OptionalHeight.TheVariants.{NoHeight, At}
-use Rattle.book.specs.declared.OptionalId.{OptionalId}
-use Rattle.book.specs.declared.OptionalId.TheVariants.{NoId, Of}
+use Rattle.std.specs.Prelude.{Option}
+use Rattle.book.specs.declared.Height.{Height}
+use Rattle.std.specs.Prelude.{None, Some}
+use Rattle.book.specs.declared.SubmissionId.{SubmissionId}
 use Rattle.book.specs.declared.FeeIntentKind.{FeeIntentKind}
 use Rattle.book.specs.declared.FeeIntentKind.TheVariants.{AlreadyPaid, NoFeeConfigured, Attach}
 use Rattle.book.specs.declared.SubmissionFeeIntent.{SubmissionFeeIntent}
@@ -98,15 +99,15 @@ bundle_placed base b g =
     (last_placed _ (list_placed (λ before. spend_lawful base) (λ before. spend_placed base) 4 (omega arith) (spends_of b) (from_every (GoodSpend base) [] (spends_of b) l.0, l.1)))
 
 -- ---- an optional height, an optional id, kinds, fee intent, an optional fingerprint
-height_placed : (h : OptionalHeight) → Placed parse_height (items_height h) (encode_height h)
+height_placed : (h : Option Height) → Placed parse_height (items_height h) (encode_height h)
 unfolding parse_height items_height encode_height enc_opt mark
-height_placed NoHeight = optional_placed NoHeight false (λ q. last_placed (λ n. At (record { 0 = n })) (number_placed 8 0))
-height_placed (At h) = optional_placed NoHeight true (λ q. last_placed (λ n. At (record { 0 = n })) (number_placed 8 h.0))
+height_placed None = optional_placed None false (λ q. last_placed (λ n. Some (record { 0 = n })) (number_placed 8 0))
+height_placed (Some h) = optional_placed None true (λ q. last_placed (λ n. Some (record { 0 = n })) (number_placed 8 h.0))
 
-id_placed : (i : OptionalId) → Placed parse_id (items_id i) (encode_id i)
+id_placed : (i : Option SubmissionId) → Placed parse_id (items_id i) (encode_id i)
 unfolding parse_id items_id encode_id enc_opt mark
-id_placed NoId = optional_placed NoId false (λ q. last_placed (λ n. Of (record { 0 = n })) (number_placed 8 0))
-id_placed (Of i) = optional_placed NoId true (λ q. last_placed (λ n. Of (record { 0 = n })) (number_placed 8 i.0))
+id_placed None = optional_placed None false (λ q. last_placed (λ n. Some (record { 0 = n })) (number_placed 8 0))
+id_placed (Some i) = optional_placed None true (λ q. last_placed (λ n. Some (record { 0 = n })) (number_placed 8 i.0))
 
 mapped_placed : {A : Type 0} (f : ℕ → A) (m n : ℕ) → Placed (mapped f (up_to m)) (limited m n ∷ []) (be 1 n)
 unfolding mapped

@@ -1,7 +1,8 @@
 -- The book over plain lists: the parser accepts exactly the bytes of sound ones.
 use Rattle.std.specs.Prelude.{◌≡◌, refl, true, not, ◌&&◌, List, [], ◌++◌, map, ℕ, ◌<◌, ◌≤◌, ◌^◌, eqb, length}
 use Rattle.std.proofs.Common.{sym, ap, ◌∙◌, subst, append-nil, append_assoc, arith, eqb-true}
-use Rattle.base_lists.specs.Lists.{allb, elemb, distinctb, flat_map, risingb}
+use Rattle.base_lists.specs.Lists.{elemb, distinctb, risingb}
+use Rattle.std.specs.List.{list_all, flat_map}
 use Rattle.base_lists.specs.Laws.{and_split, and_both}
 use Rattle.codec_forms.specs.Wire.{be, enc_list, list_of}
 use Rattle.codec_forms.specs.Lawful.{Lawful, step, finish, recode, regood}
@@ -13,7 +14,8 @@ use Rattle.book.specs.Sound.{sound_submitted, sound_delivery, id_of, tokens_of, 
 use Rattle.book.specs.SoundLaws.{sound_lists_lem, lists_sound}
 use Rattle.book.specs.Model.{Book}
 use Rattle.book.specs.Typed.{Every, U64, TypedOptionalHeight, TypedSubmitted, TypedDelivery}
-use Rattle.book.specs.declared.OptionalHeight.{OptionalHeight}
+use Rattle.std.specs.Prelude.{Option}
+use Rattle.book.specs.declared.Height.{Height}
 use Rattle.book.specs.declared.SubmittedTx.{SubmittedTx}
 use Rattle.book.specs.declared.PendingDelivery.{PendingDelivery}
 use Rattle.archive_form.specs.Encode.{encode_submitted, encode_delivery, encode_numbers, encode_model}
@@ -73,7 +75,7 @@ queue_lawful =
 abbrev pub numbers_of : Book → Numbers
 numbers_of m = record { token = m.next_token.0; id = m.next_id.0 }
 
-model_of : Numbers → List SubmittedTx → List PendingDelivery → List ℕ → OptionalHeight → List ℕ → Book
+model_of : Numbers → List SubmittedTx → List PendingDelivery → List ℕ → Option Height → List ℕ → Book
 model_of n s q r h p = record { next_token = record { 0 = n.token }; next_id = record { 0 = n.id }; submitted = s; pending = q; retired = r; rollback = h; replayed = p }
 
 model_bytes : (m : Book) → enc_numbers (numbers_of m) ++ (enc_list encode_submitted m.submitted ++ (enc_list encode_delivery m.pending ++ (enc_list (be 8) m.retired ++ (encode_height m.rollback ++ (enc_list (be 8) m.replayed ++ []))))) ≡ encode_model m
@@ -169,14 +171,14 @@ Rising l = risingb l ≡ true
 abbrev In : List ℕ → ℕ → Type 0
 In retained x = elemb x retained ≡ true
 
-replayed_from : (retained l : List ℕ) → Every Fits l → Rising l → allb (λ i. elemb i retained) l ≡ true → AllFrom (GoodReplayed retained) [] l
+replayed_from : (retained l : List ℕ) → Every Fits l → Rising l → list_all (λ i. elemb i retained) l ≡ true → AllFrom (GoodReplayed retained) [] l
 replayed_from retained l t r k =
     from_map (λ b x. (Fits x × In retained x) × Above b x) (GoodReplayed retained) (λ b x h. (h.0.0, and_both h.1 h.0.1)) [] l
     (from_both (λ b x. Fits x × In retained x) Above [] l
     (from_every (λ x. Fits x × In retained x) [] l (every_both Fits (In retained) l t (every_test (λ i. elemb i retained) l k)))
     (from_whole Rising Above rising_start rising_last [] l r))
 
-replayed_every : (retained l : List ℕ) → AllFrom (GoodReplayed retained) [] l → (Every Fits l × Rising l) × (allb (λ i. elemb i retained) l ≡ true)
+replayed_every : (retained l : List ℕ) → AllFrom (GoodReplayed retained) [] l → (Every Fits l × Rising l) × (list_all (λ i. elemb i retained) l ≡ true)
 replayed_every retained l g = (
   (
     every_from Fits [] l (from_map (GoodReplayed retained) (λ b x. Fits x) (λ b x h. h.0) [] l g),

@@ -2,7 +2,8 @@
 use Rattle.std.specs.Prelude.{◌≡◌, refl, Bool, true, false, not, ◌||◌, List, [], ◌∷◌, ◌++◌, ℕ, ◌≤◌, leb, length, take}
 use Rattle.std.proofs.Common.{sym, ap, ◌∙◌, append-nil, append_assoc, arith, le-leb, eqb-true, eq-eqb}
 use Rattle.std.proofs.lemmas.Bool.{false≢true}
-use Rattle.base_lists.specs.Lists.{allb, cells, tail_of, is_zero}
+use Rattle.base_lists.specs.Lists.{cells, tail_of, is_zero}
+use Rattle.std.specs.List.{list_all}
 use Rattle.base_lists.specs.Laws.{take_cells, tail_cells}
 use Rattle.codec_forms.specs.Wire.{be, enc_many, enc_list, enc_opt, run, counted, list_of}
 use Rattle.codec_forms.specs.Lawful.{Lawful, step, finish, recode, regood}
@@ -166,13 +167,13 @@ spend_lawful base =
 pub record GoodBundle (base : Bool) (b : SpendBundle) : Type 0 where
   pub typed : TypedBundle b
   pub sound : sound_bundle b ≡ true
-  pub readable : allb (λ s. not base || s.readable) (spends_of b) ≡ true
+  pub readable : list_all (λ s. not base || s.readable) (spends_of b) ≡ true
 
-facts_bundle : (b : SpendBundle) → b.count ≤ 4 → tail_of 4 is_zero_spend b.count b.spends ≡ true → allb sound_spend (spends_of b) ≡ true → sound_bundle b ≡ true
+facts_bundle : (b : SpendBundle) → b.count ≤ 4 → tail_of 4 is_zero_spend b.count b.spends ≡ true → list_all sound_spend (spends_of b) ≡ true → sound_bundle b ≡ true
 unfolding sound_bundle
-facts_bundle b a r e = all_true (leb b.count 4) (tail_of 4 is_zero_spend b.count b.spends ∷ allb sound_spend (spends_of b) ∷ []) (le-leb _ _ a) (r, (e, tt))
+facts_bundle b a r e = all_true (leb b.count 4) (tail_of 4 is_zero_spend b.count b.spends ∷ list_all sound_spend (spends_of b) ∷ []) (le-leb _ _ a) (r, (e, tt))
 
-spends_good : (base : Bool) (l : List CoinSpend) → Every TypedSpend l → allb sound_spend l ≡ true → allb (λ s. not base || s.readable) l ≡ true → Every (GoodSpend base) l
+spends_good : (base : Bool) (l : List CoinSpend) → Every TypedSpend l → list_all sound_spend l ≡ true → list_all (λ s. not base || s.readable) l ≡ true → Every (GoodSpend base) l
 spends_good base l t h k =
     every_map (λ s x. record { typed = x.0; sound = x.1.0; readable = x.1.1 }) l
     (every_both TypedSpend (λ s. (sound_spend s ≡ true) × ((not base || s.readable) ≡ true)) l t
@@ -210,8 +211,8 @@ bundle_of_good base l g few =
     let e = spends_of_lem l in
     record {
       typed = record { count = omega arith; spends = array_cells TypedSpend 4 zero_spend l few (every_map (λ s x. x.typed) l g) zero_spend_typed };
-      sound = facts_bundle (bundle_of_lem l) few (tail_cells 4 is_zero_spend zero_spend l spend_zero_is few) (ap (allb sound_spend) e ∙ test_every sound_spend l (every_map (λ s x. x.sound) l g));
-      readable = ap (allb (λ s. not base || s.readable)) e ∙ test_every (λ s. not base || s.readable) l (every_map (λ s x. x.readable) l g);
+      sound = facts_bundle (bundle_of_lem l) few (tail_cells 4 is_zero_spend zero_spend l spend_zero_is few) (ap (list_all sound_spend) e ∙ test_every sound_spend l (every_map (λ s x. x.sound) l g));
+      readable = ap (list_all (λ s. not base || s.readable)) e ∙ test_every (λ s. not base || s.readable) l (every_map (λ s x. x.readable) l g);
     }
 
 bundle_is : (b : SpendBundle) → SoundBundle b → b ≡ bundle_of_lem (spends_of b)

@@ -1,7 +1,8 @@
 -- What the elements of a list have, in counted cells and in a list that is read element by element.
 use Rattle.std.specs.Prelude.{◌≡◌, refl, Bool, true, ◌&&◌, List, [], ◌∷◌, ◌++◌, ℕ, zero, suc, ◌-◌, ◌≤◌, length, take, replicate}
 use Rattle.std.proofs.Common.{sym, append_assoc, arith, length-take-le}
-use Rattle.base_lists.specs.Lists.{allb, cells, tail_of}
+use Rattle.base_lists.specs.Lists.{cells, tail_of}
+use Rattle.std.specs.List.{list_all}
 use Rattle.base_lists.specs.Laws.{Trues, ands, and_both, and_split, length_cells, tail_length}
 use Rattle.codec_forms.specs.Wire.{run}
 use Rattle.codec_forms.specs.Lawful.{Lawful, IsBytes, regood}
@@ -49,11 +50,11 @@ module _ {A : Type 0} (P : A → Type 0) where
   from_every before (x ∷ xs) h = (h.0, from_every (before ++ (x ∷ [])) xs h.1)
 
 -- a test that every element passes
-pub every_test : {A : Type 0} (test : A → Bool) (xs : List A) → allb test xs ≡ true → Every (λ x. test x ≡ true) xs
+pub every_test : {A : Type 0} (test : A → Bool) (xs : List A) → list_all test xs ≡ true → Every (λ x. test x ≡ true) xs
 every_test test [] h = tt
-every_test test (x ∷ xs) h = let t = and_split (test x) (allb test xs) h in (t.0, every_test test xs t.1)
+every_test test (x ∷ xs) h = let t = and_split (test x) (list_all test xs) h in (t.0, every_test test xs t.1)
 
-pub test_every : {A : Type 0} (test : A → Bool) (xs : List A) → Every (λ x. test x ≡ true) xs → allb test xs ≡ true
+pub test_every : {A : Type 0} (test : A → Bool) (xs : List A) → Every (λ x. test x ≡ true) xs → list_all test xs ≡ true
 test_every test [] h = refl
 test_every test (x ∷ xs) h = and_both h.0 (test_every test xs h.1)
 

@@ -1,7 +1,8 @@
 -- Retained submissions and queue entries: the parsers accept exactly the bytes of sound ones.
 use Rattle.std.specs.Prelude.{◌≡◌, refl, true, false, not, List, [], ◌++◌, map, ℕ, ◌<◌, ◌^◌}
 use Rattle.std.proofs.Common.{sym, ap, ◌∙◌, subst, append-nil, append_assoc}
-use Rattle.base_lists.specs.Lists.{allb, elemb, flat_map}
+use Rattle.base_lists.specs.Lists.{elemb}
+use Rattle.std.specs.List.{list_all, flat_map}
 use Rattle.base_lists.specs.Laws.{and_split, and_both}
 use Rattle.codec_forms.specs.Wire.{be}
 use Rattle.codec_forms.specs.Lawful.{Lawful, step, finish, recode}
@@ -10,8 +11,9 @@ use Rattle.archive_bundle_form.specs.Forms.{encode_bundle, encode_height, encode
 use Rattle.book.specs.Sound.{sound_fee_intent, sound_attempt, sound_slots, sound_bundle, readable_bundle, sound_submitted, sound_intent, sound_delivery, id_of, attempt_token, tokens_of}
 use Rattle.book.specs.SoundLaws.{SoundEntry, sound_entry_lem, entry_sound, sound_submitted_lem, submitted_sound}
 use Rattle.book.specs.Typed.{Bytes, TypedOptionalHeight, TypedOptionalId, TypedBundle, TypedSubmitted, TypedDelivery}
-use Rattle.book.specs.declared.OptionalHeight.{OptionalHeight}
-use Rattle.book.specs.declared.OptionalId.{OptionalId}
+use Rattle.std.specs.Prelude.{Option}
+use Rattle.book.specs.declared.Height.{Height}
+use Rattle.book.specs.declared.SubmissionId.{SubmissionId}
 use Rattle.book.specs.declared.SubmissionFeeIntent.{SubmissionFeeIntent}
 use Rattle.book.specs.declared.SubmissionDeliveryGoal.{SubmissionDeliveryGoal}
 use Rattle.book.specs.declared.DeliveryTrigger.{DeliveryTrigger}
@@ -61,7 +63,7 @@ enc_facts f = encode_facts f.intent f.state
 abbrev pub facts_of : SubmittedEntry → Facts
 facts_of e = record { intent = e.intent; state = e.state }
 
-facts_as : List ℕ → SpendBundle → SubmissionBroadcastVariant → FeeResolution → SubmissionFeeIntent → OptionalHash → SubmissionChainTerminality → OptionalHeight → Facts
+facts_as : List ℕ → SpendBundle → SubmissionBroadcastVariant → FeeResolution → SubmissionFeeIntent → OptionalHash → SubmissionChainTerminality → Option Height → Facts
 facts_as p b v r f a c e = record {
   intent = record { intent_fingerprint = p; base_bundle = b; fee_intent = f };
   state = record { current_variant = v; wallet_acknowledged_variant = a; status = record { fee_resolution = r; chain_terminality = c; expiry = e } };
@@ -101,8 +103,8 @@ pub record GoodSubmitted (next : ℕ) (before : List SubmittedTx) (t : Submitted
   pub typed : TypedSubmitted t
   pub sound : sound_submitted t ≡ true
   pub new : not (elemb (id_of t) (map id_of before)) ≡ true
-  pub live : allb (fresh_token next (held_by before)) (attempt_token t.slots.active_attempt) ≡ true
-  pub aside : allb (fresh_token next (held_by before ++ attempt_token t.slots.active_attempt)) (attempt_token t.slots.completed_attempt) ≡ true
+  pub live : list_all (fresh_token next (held_by before)) (attempt_token t.slots.active_attempt) ≡ true
+  pub aside : list_all (fresh_token next (held_by before ++ attempt_token t.slots.active_attempt)) (attempt_token t.slots.completed_attempt) ≡ true
 
 pub record SubmittedFacts (t : SubmittedTx) : Type 0 where
   pub active : sound_attempt t.slots.active_attempt ≡ true
@@ -202,10 +204,10 @@ pub delivery_facts : (d : PendingDelivery) → sound_delivery d ≡ true → (so
 unfolding sound_delivery sound_intent
 delivery_facts d h = and_split (sound_bundle d.intent.bundle) (sound_fee_intent d.intent.fee_intent) h
 
-delivery_of : OptionalId → SpendBundle → OptionalHeight → SubmissionFeeIntent → DeliveryTrigger → SubmissionDeliveryGoal → PendingDelivery
+delivery_of : Option SubmissionId → SpendBundle → Option Height → SubmissionFeeIntent → DeliveryTrigger → SubmissionDeliveryGoal → PendingDelivery
 delivery_of i b e f t g = record { intent = record { id = i; bundle = b; expiry = e; fee_intent = f }; trigger = t; goal = g }
 
-delivery_good : (i : OptionalId) (b : SpendBundle) (e : OptionalHeight) (f : SubmissionFeeIntent) (t : DeliveryTrigger) (g : SubmissionDeliveryGoal) → TypedOptionalId i → GoodBundle false b → TypedOptionalHeight e → GoodFeeIntent f → GoodDelivery (delivery_of i b e f t g)
+delivery_good : (i : Option SubmissionId) (b : SpendBundle) (e : Option Height) (f : SubmissionFeeIntent) (t : DeliveryTrigger) (g : SubmissionDeliveryGoal) → TypedOptionalId i → GoodBundle false b → TypedOptionalHeight e → GoodFeeIntent f → GoodDelivery (delivery_of i b e f t g)
 unfolding sound_delivery sound_intent delivery_of
 delivery_good i b e f t g gi gb ge gf = record { typed = record { id = gi; bundle = gb.typed; expiry = ge; fee_intent = gf.typed }; sound = and_both gb.sound gf.sound }
 

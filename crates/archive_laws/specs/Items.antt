@@ -1,16 +1,17 @@
 -- The items of an archive in order, each with the bytes it has there and the rule that any bytes in its place must meet. Paper 01: an item
 -- is a number, kind, count or byte run; "Archive form" lists them, and "Sound" says the rules between them.
 use Rattle.std.specs.Prelude.{Bool, true, false, not, cond, ◌&&◌, ◌||◌, List, [], ◌∷◌, ◌++◌, map, ℕ, eqb, leb, length, take}
-use Rattle.base_lists.specs.Lists.{elemb, flat_map}
+use Rattle.base_lists.specs.Lists.{elemb}
+use Rattle.std.specs.List.{flat_map}
 use Rattle.codec_forms.specs.Wire.{be, be_from}
 use Rattle.codec_forms.specs.Items.{mark}
 use Rattle.archive_bundle_form.specs.Forms.{kind_number}
 use Rattle.book.specs.Sound.{spends_of, outputs_of, id_of, attempt_token, tokens_of}
 use Rattle.book.specs.Model.{Book, view}
-use Rattle.book.specs.declared.OptionalHeight.{OptionalHeight}
-use Rattle.book.specs.declared.OptionalHeight.TheVariants.{NoHeight, At}
-use Rattle.book.specs.declared.OptionalId.{OptionalId}
-use Rattle.book.specs.declared.OptionalId.TheVariants.{NoId, Of}
+use Rattle.std.specs.Prelude.{Option}
+use Rattle.book.specs.declared.Height.{Height}
+use Rattle.std.specs.Prelude.{None, Some}
+use Rattle.book.specs.declared.SubmissionId.{SubmissionId}
 use Rattle.book.specs.declared.Output.{Output}
 use Rattle.book.specs.declared.CoinSpend.{CoinSpend}
 use Rattle.book.specs.declared.SpendBundle.{SpendBundle}
@@ -91,13 +92,13 @@ unfolding items_list items_spend
 items_bundle base b = items_list 4 (λ before. items_spend base) (spends_of b)
 
 -- ---- expiry, rollback height, an optional id, fee intent, an optional fingerprint
-unfoldable pub items_height : OptionalHeight → List Item
-items_height NoHeight = limited 1 0 ∷ []
-items_height (At h) = limited 1 1 ∷ number_item 8 h.0 ∷ []
+unfoldable pub items_height : Option Height → List Item
+items_height None = limited 1 0 ∷ []
+items_height (Some h) = limited 1 1 ∷ number_item 8 h.0 ∷ []
 
-unfoldable pub items_id : OptionalId → List Item
-items_id NoId = limited 1 0 ∷ []
-items_id (Of i) = limited 1 1 ∷ number_item 8 i.0 ∷ []
+unfoldable pub items_id : Option SubmissionId → List Item
+items_id None = limited 1 0 ∷ []
+items_id (Some i) = limited 1 1 ∷ number_item 8 i.0 ∷ []
 
 abbrev pub items_attached : FeeIntentKind → SubmissionFeeIntent → List Item
 items_attached AlreadyPaid f = []

@@ -2,7 +2,8 @@
 use Rattle.std.specs.Prelude.{◌≡◌, refl, Bool, true, false, cond, ◌&&◌, ◌||◌, List, [], ◌∷◌, ◌++◌, ℕ, zero, suc, ◌<◌, ◌≤◌, ◌^◌}
 use Rattle.std.proofs.Common.{sym, ap, ◌∙◌, append-nil, append_assoc, arith, eqb-true}
 use Rattle.std.proofs.lemmas.Bool.{false≢true}
-use Rattle.base_lists.specs.Lists.{allb, is_zero}
+use Rattle.base_lists.specs.Lists.{is_zero}
+use Rattle.std.specs.List.{list_all}
 use Rattle.base_lists.specs.Laws.{and_split, and_both, full_eq}
 use Rattle.codec_forms.specs.Wire.{be, enc_opt, run, number, mapped}
 use Rattle.codec_forms.specs.Lawful.{Lawful, step, finish, recode}
@@ -12,10 +13,10 @@ use Rattle.archive_bundle_form.specs.Forms.{encode_bundle, encode_height, encode
 use Rattle.book.specs.Zero.{zeros, zero_hash, zero_attempt, no_attempt, base_variant, is_zero32, is_zero_hash, is_no_attempt, is_base_variant, is_zero_attempt}
 use Rattle.book.specs.Sound.{is_attach, sound_fee_intent, sound_hash, sound_attempt, sound_variant, sound_bundle, attempt_token, spends_of}
 use Rattle.book.specs.Typed.{U8, Bytes, TypedOptionalHeight, TypedOptionalId, TypedFeeIntent, TypedHash, TypedOptionalAttempt, TypedVariant, TypedBundle}
-use Rattle.book.specs.declared.OptionalHeight.{OptionalHeight}
-use Rattle.book.specs.declared.OptionalHeight.TheVariants.{NoHeight, At}
-use Rattle.book.specs.declared.OptionalId.{OptionalId}
-use Rattle.book.specs.declared.OptionalId.TheVariants.{NoId, Of}
+use Rattle.std.specs.Prelude.{Option}
+use Rattle.book.specs.declared.Height.{Height}
+use Rattle.std.specs.Prelude.{None, Some}
+use Rattle.book.specs.declared.SubmissionId.{SubmissionId}
 use Rattle.book.specs.declared.FeeIntentKind.{FeeIntentKind}
 use Rattle.book.specs.declared.FeeIntentKind.TheVariants.{AlreadyPaid, NoFeeConfigured, Attach}
 use Rattle.book.specs.declared.SubmissionFeeIntent.{SubmissionFeeIntent}
@@ -39,66 +40,66 @@ use Rattle.archive_laws.specs.Cells.{every_replicate, bytes_lawful}
 use Rattle.archive_laws.specs.Bundles.{GoodBundle, bundle_lawful, zero_bundle_typed}
 
 -- a test that every element passes
-pub all_always : {A : Type 0} (xs : List A) → allb (λ x. true) xs ≡ true
+pub all_always : {A : Type 0} (xs : List A) → list_all (λ x. true) xs ≡ true
 all_always [] = refl
 all_always (x ∷ xs) = all_always xs
 
 -- ---- an optional height, an optional id
-abbrev is_height : OptionalHeight → Bool
-is_height NoHeight = false
-is_height (At h) = true
+abbrev is_height : Option Height → Bool
+is_height None = false
+is_height (Some h) = true
 
-abbrev height_number : OptionalHeight → ℕ
-height_number NoHeight = 0
-height_number (At h) = h.0
+abbrev height_number : Option Height → ℕ
+height_number None = 0
+height_number (Some h) = h.0
 
-height_bytes : (h : OptionalHeight) → enc_opt (is_height h) (be 8 (height_number h)) ≡ encode_height h
+height_bytes : (h : Option Height) → enc_opt (is_height h) (be 8 (height_number h)) ≡ encode_height h
 unfolding enc_opt encode_height
-height_bytes NoHeight = refl
-height_bytes (At h) = refl
+height_bytes None = refl
+height_bytes (Some h) = refl
 
-height_back : (h : OptionalHeight) → TypedOptionalHeight h × (is_height h ≡ true) → (height_number h < 256 ^ 8) × (At (record { 0 = height_number h }) ≡ h)
-height_back NoHeight x = absurd (false≢true x.1)
-height_back (At h) x = (x.0, refl)
+height_back : (h : Option Height) → TypedOptionalHeight h × (is_height h ≡ true) → (height_number h < 256 ^ 8) × (Some (record { 0 = height_number h }) ≡ h)
+height_back None x = absurd (false≢true x.1)
+height_back (Some h) x = (x.0, refl)
 
-height_only : (h : OptionalHeight) → TypedOptionalHeight h → is_height h ≡ false → h ≡ NoHeight
-height_only NoHeight g e = refl
-height_only (At h) g e = absurd (false≢true (sym e))
+height_only : (h : Option Height) → TypedOptionalHeight h → is_height h ≡ false → h ≡ None
+height_only None g e = refl
+height_only (Some h) g e = absurd (false≢true (sym e))
 
-height_there : Lawful (λ h. TypedOptionalHeight h × (is_height h ≡ true)) (λ h. be 8 (height_number h)) (mapped (λ n. At (record { 0 = n })) (number 8))
-height_there = mapped_lawful (λ n. At (record { 0 = n })) height_number (number_lawful 8) height_back (λ n g. ((g, refl), refl))
+height_there : Lawful (λ h. TypedOptionalHeight h × (is_height h ≡ true)) (λ h. be 8 (height_number h)) (mapped (λ n. Some (record { 0 = n })) (number 8))
+height_there = mapped_lawful (λ n. Some (record { 0 = n })) height_number (number_lawful 8) height_back (λ n g. ((g, refl), refl))
 
 pub height_lawful : Lawful TypedOptionalHeight encode_height parse_height
 unfolding parse_height mapped
-height_lawful = recode encode_height (λ h x. height_bytes h) (optional_lawful is_height TypedOptionalHeight NoHeight height_there (tt, refl) height_only)
+height_lawful = recode encode_height (λ h x. height_bytes h) (optional_lawful is_height TypedOptionalHeight None height_there (tt, refl) height_only)
 
-abbrev is_id : OptionalId → Bool
-is_id NoId = false
-is_id (Of i) = true
+abbrev is_id : Option SubmissionId → Bool
+is_id None = false
+is_id (Some i) = true
 
-abbrev id_number : OptionalId → ℕ
-id_number NoId = 0
-id_number (Of i) = i.0
+abbrev id_number : Option SubmissionId → ℕ
+id_number None = 0
+id_number (Some i) = i.0
 
-id_bytes : (i : OptionalId) → enc_opt (is_id i) (be 8 (id_number i)) ≡ encode_id i
+id_bytes : (i : Option SubmissionId) → enc_opt (is_id i) (be 8 (id_number i)) ≡ encode_id i
 unfolding enc_opt encode_id
-id_bytes NoId = refl
-id_bytes (Of i) = refl
+id_bytes None = refl
+id_bytes (Some i) = refl
 
-id_back : (i : OptionalId) → TypedOptionalId i × (is_id i ≡ true) → (id_number i < 256 ^ 8) × (Of (record { 0 = id_number i }) ≡ i)
-id_back NoId x = absurd (false≢true x.1)
-id_back (Of i) x = (x.0, refl)
+id_back : (i : Option SubmissionId) → TypedOptionalId i × (is_id i ≡ true) → (id_number i < 256 ^ 8) × (Some (record { 0 = id_number i }) ≡ i)
+id_back None x = absurd (false≢true x.1)
+id_back (Some i) x = (x.0, refl)
 
-id_only : (i : OptionalId) → TypedOptionalId i → is_id i ≡ false → i ≡ NoId
-id_only NoId g e = refl
-id_only (Of i) g e = absurd (false≢true (sym e))
+id_only : (i : Option SubmissionId) → TypedOptionalId i → is_id i ≡ false → i ≡ None
+id_only None g e = refl
+id_only (Some i) g e = absurd (false≢true (sym e))
 
-id_there : Lawful (λ i. TypedOptionalId i × (is_id i ≡ true)) (λ i. be 8 (id_number i)) (mapped (λ n. Of (record { 0 = n })) (number 8))
-id_there = mapped_lawful (λ n. Of (record { 0 = n })) id_number (number_lawful 8) id_back (λ n g. ((g, refl), refl))
+id_there : Lawful (λ i. TypedOptionalId i × (is_id i ≡ true)) (λ i. be 8 (id_number i)) (mapped (λ n. Some (record { 0 = n })) (number 8))
+id_there = mapped_lawful (λ n. Some (record { 0 = n })) id_number (number_lawful 8) id_back (λ n g. ((g, refl), refl))
 
 pub id_lawful : Lawful TypedOptionalId encode_id parse_id
 unfolding parse_id mapped
-id_lawful = recode encode_id (λ i x. id_bytes i) (optional_lawful is_id TypedOptionalId NoId id_there (tt, refl) id_only)
+id_lawful = recode encode_id (λ i x. id_bytes i) (optional_lawful is_id TypedOptionalId None id_there (tt, refl) id_only)
 
 -- ---- kinds
 goal_back : (k : SubmissionDeliveryGoal) → Unit {0} → (goal_number k ≤ 1) × (goal_of (goal_number k) ≡ k)
@@ -271,16 +272,16 @@ hash_lawful = optional_lawful (λ (h : OptionalHash). h.present) GoodHash zero_h
 pub record GoodSlot (next : ℕ) (held : List ℕ) (a : OptionalAttempt) : Type 0 where
   pub typed : TypedOptionalAttempt a
   pub sound : sound_attempt a ≡ true
-  pub fresh : allb (fresh_token next held) (attempt_token a) ≡ true
+  pub fresh : list_all (fresh_token next held) (attempt_token a) ≡ true
 
 -- the facts of a slot that holds an attempt
 pub slot_hash : (a : OptionalAttempt) → sound_attempt a ≡ true → a.present ≡ true → sound_hash a.attempt.finalized_variant_fingerprint ≡ true
 unfolding sound_attempt
 slot_hash a h e = ap (λ (b : Bool). cond b (sound_hash a.attempt.finalized_variant_fingerprint) (is_no_attempt a)) (sym e) ∙ h
 
-pub slot_fresh : (next : ℕ) (held : List ℕ) (a : OptionalAttempt) → allb (fresh_token next held) (attempt_token a) ≡ true → a.present ≡ true → fresh_token next held a.attempt.token.0 ≡ true
+pub slot_fresh : (next : ℕ) (held : List ℕ) (a : OptionalAttempt) → list_all (fresh_token next held) (attempt_token a) ≡ true → a.present ≡ true → fresh_token next held a.attempt.token.0 ≡ true
 slot_fresh next held a h e =
-    (and_split (fresh_token next held a.attempt.token.0) true (ap (λ (b : Bool). allb (fresh_token next held) (cond b (a.attempt.token.0 ∷ []) [])) (sym e) ∙ h)).0
+    (and_split (fresh_token next held a.attempt.token.0) true (ap (λ (b : Bool). list_all (fresh_token next held) (cond b (a.attempt.token.0 ∷ []) [])) (sym e) ∙ h)).0
 
 slot_only : (next : ℕ) (held : List ℕ) (a : OptionalAttempt) → GoodSlot next held a → a.present ≡ false → a ≡ no_attempt
 unfolding sound_attempt

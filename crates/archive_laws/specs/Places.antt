@@ -7,7 +7,8 @@ use Rattle.std.proofs.Common.{◌∙◌, zero-add, arith, drop_at, leb-true}
 use mathlib.Core.List.{List, ◌∷◌, ◌++◌, map}
 use Prim.Native.Nat.{ℕ, zero, suc, ◌≤◌, ◌<◌, zero-le}
 use Rattle.std.proofs.Math.ListN.{length, length-append}
-use Rattle.base_lists.specs.Lists.{elemb, flat_map}
+use Rattle.base_lists.specs.Lists.{elemb}
+use Rattle.std.specs.List.{flat_map}
 use Rattle.codec_forms.specs.Wire.{Ans, got, bad, and_then, pick, end}
 use Rattle.codec_forms.specs.Lawful.{Spans}
 use Rattle.codec_forms.specs.Steady.{Steady, steady_bind, steady_done, steady_mapped, end_place, end_first}
@@ -18,8 +19,7 @@ use Rattle.book.specs.Sound.{id_of, attempt_token, tokens_of, soundb}
 use Rattle.book.specs.SoundLaws.{sound, lists_sound}
 use Rattle.book.specs.Model.{Book, view}
 use Rattle.book.specs.Typed.{Typed}
-use Rattle.book.specs.declared.OptionalHeight.TheVariants.{NoHeight}
-use Rattle.book.specs.declared.OptionalId.TheVariants.{NoId}
+use Rattle.std.specs.Prelude.{None}
 use Rattle.book.specs.declared.SubmittedTx.{SubmittedTx}
 use Rattle.book.specs.declared.BookData.{BookData}
 use Rattle.archive_form.specs.Encode.{encode_model, encode_book}
@@ -47,11 +47,11 @@ bundle_steady base = steady_bind (steady_list 4 (λ before. spend_steady base)) 
 
 height_steady : Steady parse_height
 unfolding parse_height
-height_steady = steady_optional NoHeight (steady_bind (steady_number 8) (λ n. steady_done _))
+height_steady = steady_optional None (steady_bind (steady_number 8) (λ n. steady_done _))
 
 id_steady : Steady parse_id
 unfolding parse_id
-id_steady = steady_optional NoId (steady_bind (steady_number 8) (λ n. steady_done _))
+id_steady = steady_optional None (steady_bind (steady_number 8) (λ n. steady_done _))
 
 attached_steady : (k : ℕ) → Steady (parse_attached k)
 unfolding parse_attached

@@ -3,7 +3,8 @@ use Rattle.std.specs.Prelude.{◌≡◌, refl, Bool, true, false, cond, not, ◌
 use Rattle.std.proofs.Common.{sym, ap, ◌∙◌, subst, append-nil, append_assoc}
 use Rattle.std.proofs.lemmas.List.{map-append}
 use Rattle.std.proofs.lemmas.Bool.{not-true}
-use Rattle.base_lists.specs.Lists.{allb, elemb, distinctb, flat_map, risingb}
+use Rattle.base_lists.specs.Lists.{elemb, distinctb, risingb}
+use Rattle.std.specs.List.{list_all, flat_map}
 use Rattle.base_lists.specs.Laws.{and_split, and_both, or-false, all_snoc, flat_append}
 use Rattle.base_lists.specs.Sub.{Sub, sub_all, sub_none, sub_append, distinct_sub, all_sub, eqb_sym, distinct_snoc}
 use Rattle.codec_forms.specs.Items.{AllFrom}
@@ -73,23 +74,23 @@ module _ {A : Type 0} (f : A → ℕ) where
 -- ---- slot tokens: each once, and all below the next token
 pub record Held (next : ℕ) (held : List ℕ) : Type 0 where
   pub once : distinctb held ≡ true
-  pub below : allb (λ t. ltb t next) held ≡ true
+  pub below : list_all (λ t. ltb t next) held ≡ true
 
-all_last : (p : ℕ → Bool) (xs : List ℕ) (x : ℕ) → allb p (xs ++ (x ∷ [])) ≡ true → p x ≡ true
+all_last : (p : ℕ → Bool) (xs : List ℕ) (x : ℕ) → list_all p (xs ++ (x ∷ [])) ≡ true → p x ≡ true
 all_last p [] x h = (and_split (p x) true h).0
-all_last p (y ∷ xs) x h = all_last p xs x (and_split (p y) (allb p (xs ++ (x ∷ []))) h).1
+all_last p (y ∷ xs) x h = all_last p xs x (and_split (p y) (list_all p (xs ++ (x ∷ []))) h).1
 
 held_start : (next : ℕ) (xs ys : List ℕ) → Held next (xs ++ ys) → Held next xs
 held_start next xs ys h = record { once = distinct_start xs ys h.once; below = all_sub (λ t. ltb t next) (start_sub xs ys) h.below }
 
 -- one slot more, filled or not
-held_grow : (next : ℕ) (held : List ℕ) (t : ℕ) (p : Bool) → Held next held → allb (fresh_token next held) (cond p (t ∷ []) []) ≡ true → Held next (held ++ cond p (t ∷ []) [])
+held_grow : (next : ℕ) (held : List ℕ) (t : ℕ) (p : Bool) → Held next held → list_all (fresh_token next held) (cond p (t ∷ []) []) ≡ true → Held next (held ++ cond p (t ∷ []) [])
 held_grow next held t false h k = subst (Held next) (sym (append-nil held)) h
 held_grow next held t true h k =
     let f = and_split (ltb t next) (not (elemb t held)) (and_split (fresh_token next held t) true k).0 in
     record { once = distinct_grow held t h.once f.1; below = all_snoc (λ x. ltb x next) held t h.below f.0 }
 
-held_last : (next : ℕ) (held : List ℕ) (t : ℕ) (p : Bool) → Held next (held ++ cond p (t ∷ []) []) → allb (fresh_token next held) (cond p (t ∷ []) []) ≡ true
+held_last : (next : ℕ) (held : List ℕ) (t : ℕ) (p : Bool) → Held next (held ++ cond p (t ∷ []) []) → list_all (fresh_token next held) (cond p (t ∷ []) []) ≡ true
 held_last next held t false h = refl
 held_last next held t true h = and_both (and_both (all_last (λ x. ltb x next) held t h.below) (distinct_last held t h.once)) refl
 
@@ -108,8 +109,8 @@ tokens_snoc before t =
 
 abbrev pub FreshSlots : ℕ → List SubmittedTx → SubmittedTx → Type 0
 FreshSlots next before t =
-    (allb (fresh_token next (flat_map tokens_of before)) (attempt_token (live t)) ≡ true)
-    × (allb (fresh_token next (flat_map tokens_of before ++ attempt_token (live t))) (attempt_token (aside t)) ≡ true)
+    (list_all (fresh_token next (flat_map tokens_of before)) (attempt_token (live t)) ≡ true)
+    × (list_all (fresh_token next (flat_map tokens_of before ++ attempt_token (live t))) (attempt_token (aside t)) ≡ true)
 
 pub slots_grow : (next : ℕ) (before : List SubmittedTx) (t : SubmittedTx) → Held next (flat_map tokens_of before) → FreshSlots next before t → Held next (flat_map tokens_of (before ++ (t ∷ [])))
 slots_grow next before t h f =

@@ -8,8 +8,9 @@ use Rattle.archive_bundle_form.specs.Forms.{encode_output, encode_run, encode_sp
 use Rattle.book.specs.Sound.{spends_of, outputs_of}
 use Rattle.book.specs.Model.{Book, view}
 use Rattle.book.specs.Typed.{Every, Typed, TypedOutput, TypedSpend, TypedBundle, TypedFeeIntent, TypedHash, TypedAttempt, TypedOptionalAttempt, TypedSlots, TypedVariant, TypedRetainedIntent, TypedState, TypedSubmitted, TypedDelivery}
-use Rattle.book.specs.declared.OptionalHeight.{OptionalHeight}
-use Rattle.book.specs.declared.OptionalHeight.TheVariants.{NoHeight, At}
+use Rattle.std.specs.Prelude.{Option}
+use Rattle.book.specs.declared.Height.{Height}
+use Rattle.std.specs.Prelude.{None, Some}
 use Rattle.book.specs.declared.Output.{Output}
 use Rattle.book.specs.declared.CoinSpend.{CoinSpend}
 use Rattle.book.specs.declared.SpendBundle.{SpendBundle}
@@ -84,10 +85,10 @@ bundle_size b t =
       many_size encode_spend 4 268 (spends_of b) (take_few b.count 4 b.spends t.spends.long) (every_map spend_size (spends_of b) (every_take TypedSpend b.count b.spends t.spends.each)),
     )
 
-pub height_size : (h : OptionalHeight) → length (encode_height h) ≤ 9
+pub height_size : (h : Option Height) → length (encode_height h) ≤ 9
 unfolding encode_height
-height_size NoHeight = omega (arith, be_length 1 0)
-height_size (At h) = omega (arith, length-append (be 1 1) (be 8 h.0), be_length 1 1, be_length 8 h.0)
+height_size None = omega (arith, be_length 1 0)
+height_size (Some h) = omega (arith, length-append (be 1 1) (be 8 h.0), be_length 1 1, be_length 8 h.0)
 
 pub fee_intent_size : (f : SubmissionFeeIntent) → TypedFeeIntent f → length (encode_fee_intent f) ≤ 41
 unfolding encode_fee_intent

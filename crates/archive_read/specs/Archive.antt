@@ -9,12 +9,12 @@ use Rattle.codec_cursor.specs.Cells.{ReadsCells}
 use Rattle.book.specs.Zero.{zero_delivery}
 use Rattle.book.specs.Sound.{id_of}
 use Rattle.book.specs.Model.{Book, back}
-use Rattle.book.specs.declared.OptionalHeight.TheVariants.{NoHeight}
-use Rattle.book.specs.declared.OptionalHeight.{OptionalHeight}
+use Rattle.std.specs.Prelude.{None}
+use Rattle.std.specs.Prelude.{Option}
+use Rattle.book.specs.declared.Height.{Height}
 use Rattle.book.specs.declared.SubmittedTx.{SubmittedTx}
 use Rattle.book.specs.declared.PendingDelivery.{PendingDelivery}
-use Rattle.book.specs.declared.Ids16.{Ids16}
-use Rattle.book.specs.declared.Ids64.{Ids64}
+use Rattle.book.specs.declared.Ids.{Ids}
 use Rattle.book.specs.declared.BookData.{BookData}
 use Rattle.archive_form.specs.Answer as answer
 use Rattle.archive_form.specs.Parse.{parse_numbers, parse_delivery, parse_retired, parse_height, parse_replayed, parse_model, parse_whole, read_archive, archive_read, ArchiveRead, book, broken}
@@ -30,7 +30,7 @@ zero_book = back (record {
   submitted = [];
   pending = [];
   retired = [];
-  rollback = NoHeight;
+  rollback = None;
   replayed = [];
 })
 
@@ -59,7 +59,7 @@ pub record ReadsBook (s : List ℕ) (c : ℕ) (b : BookData) (e : ℕ) : Type 0 
   pub cells : back model ≡ b
 
 -- the sections one behind the other
-pub book_reads : {s : List ℕ} {c d e f g h j token id k m : ℕ} {ts : List SubmittedTx} {ids : List ℕ} {qs : List PendingDelivery} {r : Ids64} {height : OptionalHeight} {p : Ids16}
+pub book_reads : {s : List ℕ} {c d e f g h j token id k m : ℕ} {ts : List SubmittedTx} {ids : List ℕ} {qs : List PendingDelivery} {r : Ids 64} {height : Option Height} {p : Ids 16}
     → Reads parse_numbers s c (record { token = token; id = id }) d → ReadsRetained token s d k ts ids e → ReadsCells 16 zero_delivery (λ before. parse_delivery) s e m qs f
     → ReadsCells 64 0 parse_retired s f r.count r.items g → Reads parse_height s g height h → ReadsCells 16 0 (parse_replayed (take k ids)) s h p.count p.items j
     → ReadsBook s c (record {

@@ -3,7 +3,8 @@ use Rattle.std.specs.Prelude.{ℕ, suc, ◌+◌, ◌-◌, ◌≤◌, ◌<◌, �
 use Rattle.std.proofs.Common.{sym, ap, ◌∙◌, subst, append_assoc, append-nil, add-zero, add-one, arith, length-set, take-suc, take-suc-set, ne_eqb, leb-false}
 use Rattle.std.proofs.lemmas.List.{map-append, take-set-le}
 use Rattle.std.proofs.Math.Seq.{take-length}
-use Rattle.base_lists.specs.Lists.{flat_map}
+use Rattle.std.specs.List.{flat_map}
+use mir.Val.{bool_byte}
 use Rattle.base_lists.specs.Laws.{flat_append}
 use Rattle.codec_forms.specs.Wire.{Ans, got, bad, and_then, pick, checked, up_to, number}
 use Rattle.codec_cursor.specs.Cursor.{Reads, passed, reads_as, reads_checked}
@@ -47,12 +48,14 @@ one_token : (ts : List ℕ) (m t : ℕ) (b : Bool) → m < length ts → take (m
 one_token ts m t true h = ap (λ (n : ℕ). take n (set ts m t)) (add-one m) ∙ take-suc-set ts m t h
 one_token ts m t false h = ap (λ (n : ℕ). take n (set ts m t)) (add-zero m) ∙ take-set-le m ts m t (omega arith) ∙ sym (append-nil (take m ts))
 
+-- what a mark adds, as the code writes it
+pub mark_counts : (m : ℕ) (b : Bool) → m + bool_byte b ≡ m + cond b 1 0
+mark_counts m true = refl
+mark_counts m false = refl
+
 some : (b : Bool) → cond b 1 0 ≤ 1
 some true = omega arith
 some false = omega arith
-
-pub seen_room : {items : List SubmittedTx} {ids tokens : List ℕ} {m i : ℕ} (b : Bool) → Seen items ids tokens m i → i < 16 → m + cond b 1 0 < 32
-seen_room b s h = omega (arith, s.few, some b)
 
 pub seen_more : {items : List SubmittedTx} {ids tokens : List ℕ} {m i : ℕ} (x : SubmittedTx) (m₁ m₂ : ℕ) → Seen items ids tokens m i → i < 16 → length items ≡ 16
     → m₁ ≡ m + cond x.slots.active_attempt.present 1 0 → m₂ ≡ m₁ + cond x.slots.completed_attempt.present 1 0
@@ -105,10 +108,6 @@ above_last : (l : List ℕ) (y x : ℕ) → above (l ++ (y ∷ [])) x ≡ ltb y 
 above_last [] y x = refl
 above_last (a ∷ []) y x = refl
 above_last (a ∷ b ∷ l) y x = above_last (b ∷ l) y x
-
-pub above_none : (xs : List ℕ) (x : ℕ) → length xs ≡ 0 → true ≡ above xs x
-above_none [] x h = refl
-above_none (y ∷ ys) x h = absurd (omega arith)
 
 pub above_is : (xs : List ℕ) (x : ℕ) → (length xs ≡ 0 → ⊥) → ltb (get_or xs (length xs - 1) 0) x ≡ above xs x
 above_is xs x h =

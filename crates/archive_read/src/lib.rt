@@ -8,10 +8,7 @@ ghost use Rattle.archive_form.specs.Parse.{read_archive};
 ghost use Rattle.archive_read.specs.Archive.{ReadsBook, zero_book, Answered};
 
 use archive_bundle_read::part::read_height;
-use book::{
-    BookData, Ids16, Ids64, OptionalHeight, PendingDelivery, ReplayEpoch, SubmissionId,
-    SubmittedTx, Token,
-};
+use book::{BookData, Height, Ids, PendingDelivery, ReplayEpoch, SubmissionId, SubmittedTx, Token};
 use codec_cursor::FAR;
 
 // `place` is that of a refusal; with a book it is 0. With a refusal the book is zero.
@@ -28,16 +25,16 @@ fn zero_book() -> BookData
 {
     let t = SubmittedTx::zero();
     let d = PendingDelivery::zero();
-    let retired_submission_ids = Ids64 {
+    let retired_submission_ids = Ids {
         count: 0,
         items: [0; 64],
     };
-    let replayed_submission_ids = Ids16 {
+    let replayed_submission_ids = Ids {
         count: 0,
         items: [0; 16],
     };
     let replay_epoch = ReplayEpoch {
-        rollback_height: OptionalHeight::NoHeight,
+        rollback_height: None,
         replayed_submission_ids,
     };
     BookData {
@@ -74,8 +71,7 @@ fn read_book(s: &[u8], at: &mut usize) -> BookData
     let q = section::read_queue(s, &mut *at);
     let retired_submission_ids = section::read_retirements(s, &mut *at);
     let rollback_height = read_height(s, &mut *at);
-    let ids = t.ids;
-    let replayed_submission_ids = section::read_replays(s, at, ids, t.count);
+    let replayed_submission_ids = section::read_replays(s, at, &t.ids[..t.count]);
     let submitted = t.items;
     let pending_deliveries = q.items;
     let replay_epoch = ReplayEpoch {

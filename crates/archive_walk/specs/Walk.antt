@@ -15,9 +15,9 @@ use Rattle.book.specs.Sound.{id_of}
 use Rattle.book.specs.Model.{Book, back}
 use Rattle.book.specs.declared.Token.{Token}
 use Rattle.book.specs.declared.SubmissionId.{SubmissionId}
-use Rattle.book.specs.declared.OptionalHeight.{OptionalHeight}
-use Rattle.book.specs.declared.Ids16.{Ids16}
-use Rattle.book.specs.declared.Ids64.{Ids64}
+use Rattle.std.specs.Prelude.{Option}
+use Rattle.book.specs.declared.Height.{Height}
+use Rattle.book.specs.declared.Ids.{Ids}
 use Rattle.archive_bundle_form.specs.Forms.{encode_height}
 use Rattle.archive_form.specs.Encode.{encode_submitted, encode_delivery}
 use Rattle.archive_form.specs.Parse.{Numbers, parse_numbers, parse_retired, parse_height, parse_replayed, parse_model, parse_whole, read_archive, archive_read, book, broken}
@@ -90,7 +90,7 @@ numbers_long : (n : Numbers) → length (enc_numbers n) ≡ 17
 unfolding enc_numbers
 numbers_long n = omega (arith, length-append (be 1 2 ++ be 8 n.token) (be 8 n.id), length-append (be 1 2) (be 8 n.token), be_length 1 2, be_length 8 n.token, be_length 8 n.id)
 
-pub book_walks : {s : List ℕ} {c d e f g h j k m : ℕ} {token : Token} {id : SubmissionId} {ids ts qs : List ℕ} {r : Ids64} {height : OptionalHeight} {p : Ids16}
+pub book_walks : {s : List ℕ} {c d e f g h j k m : ℕ} {token : Token} {id : SubmissionId} {ids ts qs : List ℕ} {r : Ids 64} {height : Option Height} {p : Ids 16}
     → IsBytes s → Reads parse_numbers s c (record { token = token.0; id = id.0 }) d → WalksRetained token.0 s d k ids ts e → WalksQueue s e m qs f
     → ReadsCells 64 0 parse_retired s f r.count r.items g → Reads parse_height s g height h → ReadsCells 16 0 (parse_replayed (take k ids)) s h p.count p.items j
     → WalksBook s c (record {

@@ -67,8 +67,7 @@ fn walk_book(s: &[u8], at: &mut usize) -> Walk
     let rollback = *at;
     read_height(s, &mut *at);
     let replayed = *at;
-    let ids = t.ids;
-    read_replays(s, at, ids, t.count);
+    read_replays(s, at, &t.ids[..t.count]);
     let submitted = t.places;
     let pending_deliveries = q.places;
     Walk {

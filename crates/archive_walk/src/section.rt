@@ -4,7 +4,6 @@ ghost use Rattle.archive_walk.specs.Sections.{WalksSubmitted, WalksRetained, Wal
 use crate::skip::{skip_delivery, skip_facts};
 use archive_entry_read::attempt::read_slots;
 use archive_entry_read::submission::read_new_id;
-use archive_read::section::marked;
 use book::{AttemptSlots, SubmissionId, Token};
 use codec_cursor::read_count;
 
@@ -46,16 +45,15 @@ pub fn walk_retained(s: &[u8], at: &mut usize, next: Token) -> Retained
     let mut places = [0usize; 17];
     places[0] = *at;
     let mut m: usize = 0;
-    let mut i: usize = 0;
-    while i < n {
-        let x = walk_submitted(s, &mut *at, next, &ids[0..i], &tokens[0..m]);
+    // As in `read_retained`, whose items are not made here: what both keep of a submission are five lines, fewer than a type for them.
+    for i in 0..n {
+        let x = walk_submitted(s, &mut *at, next, &ids[..i], &tokens[..m]);
         ids[i] = x.id.0;
         tokens[m] = x.slots.active_attempt.attempt.token.0;
-        m = marked(m, x.slots.active_attempt.present);
+        m += x.slots.active_attempt.present as usize;
         tokens[m] = x.slots.completed_attempt.attempt.token.0;
-        m = marked(m, x.slots.completed_attempt.present);
-        i += 1;
-        places[i] = *at;
+        m += x.slots.completed_attempt.present as usize;
+        places[i + 1] = *at;
     }
     Retained {
         count: n,
@@ -68,16 +66,11 @@ pub fn walk_queue(s: &[u8], at: &mut usize) -> Queue
     ensures { WalksQueue s.now at.old result.count result.places at.new }
 {
     let n = read_count(s, &mut *at, 16) as usize;
-    let mut starts = [0usize; 17];
-    starts[0] = *at;
-    let mut i: usize = 0;
-    while i < n {
+    let mut places = [0usize; 17];
+    places[0] = *at;
+    for i in 0..n {
         skip_delivery(s, &mut *at);
-        i += 1;
-        starts[i] = *at;
+        places[i + 1] = *at;
     }
-    Queue {
-        count: n,
-        places: starts,
-    }
+    Queue { count: n, places }
 }

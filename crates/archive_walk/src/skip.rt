@@ -1,9 +1,9 @@
 // Parts that the walk passes without making their values.
-ghost use Rattle.codec_forms.specs.Wire.{run, list_of};
-ghost use Rattle.book.specs.Zero.{zero_output};
+ghost use Rattle.codec_forms.specs.Wire.{Parser, run};
 ghost use Rattle.archive_form.specs.Parse.{parse_output, parse_run, parse_spend, parse_bundle, parse_variant, parse_fee_intent, parse_facts, parse_delivery};
 ghost use Rattle.archive_walk.specs.Skips.{Skips, SkipsOptional, SkipsCells};
 
+use book::{CoinSpend, Output};
 use codec_bytes::read::has;
 use codec_cursor::{pass, read_count, refused};
 
@@ -38,14 +38,17 @@ fn skip_output(s: &[u8], at: &mut usize)
     skip(s, at, 8);
 }
 
-fn skip_outputs(s: &[u8], at: &mut usize)
-    ensures { SkipsCells 4 zero_output parse_output s.now at.old at.new }
+// A list of at most `most` items after its count. The caller names the function that skips one; the ghost value is an unused cell of the
+// reader and the parser of an item.
+fn skip_list<T, F: Fn(&[u8], &mut usize)>(s: &[u8], at: &mut usize, most: u8, skip_one: F)
+    ghost of: { T × Parser T }
+    requires callable { F.IsAlwaysCallable skip_one }
+    requires skips { (b : _) (a : _) (a' : _) → F.post skip_one b a tt a' → Skips of.1 b.now a.now a'.now }
+    ensures { SkipsCells most of.0 of.1 s.now at.old at.new }
 {
-    let n = read_count(s, &mut *at, 4) as usize;
-    let mut i: usize = 0;
-    while i < n {
-        skip_output(s, &mut *at);
-        i += 1;
+    let n = read_count(s, &mut *at, most);
+    for _i in 0..n {
+        skip_one(s, &mut *at);
     }
 }
 
@@ -59,7 +62,7 @@ fn skip_run(s: &[u8], at: &mut usize, base: bool)
         *at = pass(!base, start, *at);
         return;
     }
-    skip_outputs(s, at);
+    skip_list::<Output, _>(s, at, 4, skip_output);
 }
 
 fn skip_spend(s: &[u8], at: &mut usize, base: bool)
@@ -74,12 +77,7 @@ fn skip_spend(s: &[u8], at: &mut usize, base: bool)
 pub fn skip_bundle(s: &[u8], at: &mut usize, base: bool)
     ensures { Skips (parse_bundle base) s.now at.old at.new }
 {
-    let n = read_count(s, &mut *at, 4) as usize;
-    let mut i: usize = 0;
-    while i < n {
-        skip_spend(s, &mut *at, base);
-        i += 1;
-    }
+    skip_list::<CoinSpend, _>(s, at, 4, |s, at| skip_spend(s, at, base));
 }
 
 // The fee bundle with its applied fee.

@@ -1,12 +1,10 @@
 -- The sections as they are written: numbers, retained and queue; retirements, rollback height and replayed ids.
-use Rattle.std.specs.Prelude.{◌≡◌, refl, List, ◌∷◌, [], ◌++◌, ℕ, ◌-◌, ◌%◌, min, length, take, drop}
-use Rattle.std.proofs.Common.{sym, ap, ◌∙◌, append_assoc, arith}
-use Rattle.std.proofs.Math.Nat.{sub-zero}
-use Rattle.std.proofs.Math.Seq.{take-length}
+use Rattle.std.specs.Prelude.{◌≡◌, List, ◌++◌, ℕ, min, length, take}
+use Rattle.std.proofs.Common.{sym, ap, ◌∙◌, append_assoc}
 use Rattle.base_lists.specs.Laws.{take_cut}
-use Rattle.codec_forms.specs.Wire.{be, enc_many, enc_list}
+use Rattle.codec_forms.specs.Wire.{be, enc_list}
 use Rattle.archive_bundle_form.specs.Forms.{encode_height}
-use Rattle.book.specs.Model.{view, list16, list64}
+use Rattle.book.specs.Model.{view, id_list}
 use Rattle.book.specs.declared.Token.{Token}
 use Rattle.book.specs.declared.SubmissionId.{SubmissionId}
 use Rattle.book.specs.declared.BookData.{BookData}
@@ -22,28 +20,15 @@ front_of b =
 
 abbrev pub back_of : BookData → List ℕ
 back_of b =
-    enc_list (be 8) (list64 b.retired_submission_ids) ++ encode_height b.replay_epoch.rollback_height
-    ++ enc_list (be 8) (list16 b.replay_epoch.replayed_submission_ids)
+    enc_list (be 8) (id_list b.retired_submission_ids) ++ encode_height b.replay_epoch.rollback_height
+    ++ enc_list (be 8) (id_list b.replay_epoch.replayed_submission_ids)
 
 pub book_form : (b : BookData) → front_of b ++ back_of b ≡ encode_book b
 unfolding encode_book encode_model encode_numbers view
 book_form b =
-    sym (append_assoc (front_of b) (enc_list (be 8) (list64 b.retired_submission_ids) ++ encode_height b.replay_epoch.rollback_height) (enc_list (be 8) (list16 b.replay_epoch.replayed_submission_ids)))
-    ∙ ap (λ (l : List ℕ). l ++ enc_list (be 8) (list16 b.replay_epoch.replayed_submission_ids)) (sym (append_assoc (front_of b) (enc_list (be 8) (list64 b.retired_submission_ids)) (encode_height b.replay_epoch.rollback_height)))
-
--- a list after its count
-pub list_form : {A : Type 0} (enc : A → List ℕ) (l : List A) → be 1 (length l) ++ enc_many enc l ≡ enc_list enc l
-unfolding enc_list
-list_form enc l = refl
-
-pub whole_list : (l : List ℕ) → enc_many (be 8) (take (length l) l) ≡ enc_many (be 8) l
-whole_list l = ap (enc_many (be 8)) (take-length l)
-
--- a count as its byte
-pub count_byte : (n : ℕ) → be 1 (n % 256) ≡ be 1 n
-unfolding be
-count_byte n = let e : n % 256 % 256 ≡ n % 256 = omega arith in ap (λ (x : ℕ). x ∷ []) e
+    sym (append_assoc (front_of b) (enc_list (be 8) (id_list b.retired_submission_ids) ++ encode_height b.replay_epoch.rollback_height) (enc_list (be 8) (id_list b.replay_epoch.replayed_submission_ids)))
+    ∙ ap (λ (l : List ℕ). l ++ enc_list (be 8) (id_list b.replay_epoch.replayed_submission_ids)) (sym (append_assoc (front_of b) (enc_list (be 8) (id_list b.retired_submission_ids)) (encode_height b.replay_epoch.rollback_height)))
 
 -- the ids in use
-pub ids_cut : (N n k : ℕ) (l : List ℕ) → length l ≡ N → k ≡ min n N → enc_list (be 8) (take (k - 0) (drop 0 l)) ≡ enc_list (be 8) (take n l)
-ids_cut N n k l h e = ap (λ (x : ℕ). enc_list (be 8) (take x l)) (sub-zero k) ∙ ap (enc_list (be 8)) (take_cut N n k l h e)
+pub ids_cut : (N n k : ℕ) (l : List ℕ) → length l ≡ N → k ≡ min n N → enc_list (be 8) (take k l) ≡ enc_list (be 8) (take n l)
+ids_cut N n k l h e = ap (enc_list (be 8)) (take_cut N n k l h e)

@@ -1,16 +1,15 @@
 // The sections of an archive. Each section writer gets the rest of the buffer from its start, and returns how many bytes it wrote.
 #![tactic(auto)]
 
-ghost use Rattle.std.specs.Prelude.{◌≡◌, ◌++◌, take};
-ghost use Rattle.codec_forms.specs.Wire.{be, enc_many, enc_list};
+ghost use Rattle.codec_forms.specs.Wire.{be, enc_list};
 ghost use Rattle.codec_append.specs.Fits.{Fits};
-ghost use Rattle.archive_form.specs.Encode.{encode_submitted, encode_delivery, encode_book};
+ghost use Rattle.archive_form.specs.Encode.{encode_book};
 ghost use Rattle.archive_write.specs.Sections.{front_of, back_of, numbers_form};
 
+use archive_bundle_write::each::append_list;
 use archive_bundle_write::write::append_height;
 use archive_entry_write::{append_delivery, append_submitted};
-use base_lists::at_most;
-use book::{BookData, PendingDelivery, SubmissionId, SubmittedTx, Token};
+use book::{BookData, SubmissionId, Token};
 use codec_append::{append_byte, append_number};
 
 // Numbers (count 2): next token, next submission id.
@@ -22,78 +21,32 @@ fn write_numbers(out: &mut [u8], token: Token, id: SubmissionId) -> usize
     append_number(out, token_end, id.0)
 }
 
-// The first n submissions.
-fn append_submissions(out: &mut [u8], at: usize, a: [SubmittedTx; 16], n: usize) -> usize
-    ensures { Fits (enc_many encode_submitted (take n a)) at out.old out.new result }
-{
-    let k = at_most(n, 16);
-    let mut e = at;
-    let mut i: usize = 0;
-    while i < k {
-        let t = a[i];
-        e = append_submitted(&mut *out, e, t);
-        i += 1;
-    }
-    e
-}
-
-fn write_retained(out: &mut [u8], a: [SubmittedTx; 16], n: usize) -> usize
-    ensures { Fits (enc_list encode_submitted (take n a)) 0 out.old out.new result }
-{
-    let k = at_most(n, 16);
-    let e = append_byte(&mut *out, 0, k as u8);
-    append_submissions(out, e, a, n)
-}
-
-// The first n queue entries.
-fn append_deliveries(out: &mut [u8], at: usize, a: [PendingDelivery; 16], n: usize) -> usize
-    ensures { Fits (enc_many encode_delivery (take n a)) at out.old out.new result }
-{
-    let k = at_most(n, 16);
-    let mut e = at;
-    let mut i: usize = 0;
-    while i < k {
-        let d = a[i];
-        e = append_delivery(&mut *out, e, d);
-        i += 1;
-    }
-    e
-}
-
-fn write_queue(out: &mut [u8], a: [PendingDelivery; 16], n: usize) -> usize
-    ensures { Fits (enc_list encode_delivery (take n a)) 0 out.old out.new result }
-{
-    let k = at_most(n, 16);
-    let e = append_byte(&mut *out, 0, k as u8);
-    append_deliveries(out, e, a, n)
-}
-
 // Retirements, or replayed ids.
 fn write_ids(out: &mut [u8], ids: &[u64]) -> usize
     ensures { Fits (enc_list (be 8) ids.now) 0 out.old out.new result }
 {
-    let n = ids.len();
-    let mut e = append_byte(&mut *out, 0, (n % 256) as u8);
-    let mut i: usize = 0;
-    while i < n {
-        e = append_number(&mut *out, e, ids[i]);
-        i += 1;
-    }
-    e
+    append_list(out, 0, ids, |out, at, id| append_number(out, at, *id))
 }
 
 // Numbers, retained submissions and queue.
 fn write_front(out: &mut [u8], b: BookData) -> usize
     ensures { Fits (front_of b) 0 out.old out.new result }
 {
-    let submitted = b.submitted;
-    let pending = b.pending_deliveries;
-    let token = b.next_delivery_attempt_token;
-    let id = b.next_submission_id;
-    let at = write_numbers(&mut *out, token, id);
-    let retained = write_retained(&mut out[at..], submitted, b.submitted_count);
+    let n = b.submitted_count.min(16);
+    let q = b.pending_count.min(16);
+    let at = write_numbers(
+        &mut *out,
+        b.next_delivery_attempt_token,
+        b.next_submission_id,
+    );
+    let retained = append_list(&mut out[at..], 0, &b.submitted[..n], append_submitted);
     let next = at + retained;
-    let queue = write_queue(&mut out[next..], pending, b.pending_count);
+    let queue = append_list(
+        &mut out[next..],
+        0,
+        &b.pending_deliveries[..q],
+        append_delivery,
+    );
     next + queue
 }
 
@@ -102,17 +55,14 @@ fn write_back(out: &mut [u8], b: BookData) -> usize
     ensures { Fits (back_of b) 0 out.old out.new result }
 {
     let retired = b.retired_submission_ids;
-    let retired_ids = retired.items;
     let epoch = b.replay_epoch;
-    let height = epoch.rollback_height;
     let replayed = epoch.replayed_submission_ids;
-    let replayed_ids = replayed.items;
-    let r = at_most(retired.count, 64);
-    let p = at_most(replayed.count, 16);
-    let at = write_ids(&mut *out, &retired_ids[0..r]);
-    let rollback = append_height(&mut out[at..], 0, height);
+    let r = retired.count.min(64);
+    let p = replayed.count.min(16);
+    let at = write_ids(&mut *out, &retired.items[..r]);
+    let rollback = append_height(&mut out[at..], 0, epoch.rollback_height);
     let next = at + rollback;
-    let last = write_ids(&mut out[next..], &replayed_ids[0..p]);
+    let last = write_ids(&mut out[next..], &replayed.items[..p]);
     next + last
 }
 

@@ -1,6 +1,6 @@
 -- The amount atom is two's complement, and the shortest; what the code's steps use of it.
-use Rattle.std.specs.Prelude.{◌≡◌, refl, Bool, true, false, cond, List, ℕ, zero, suc, ◌+◌, ◌-◌, ◌*◌, ◌^◌, ◌≤◌, ◌<◌, ltb, length, take, drop}
-use Rattle.std.proofs.Common.{ap, ◌∙◌, subst, add-zero, zero-add, le_refl, arith, ltb-true, ltb-false}
+use Rattle.std.specs.Prelude.{◌≡◌, refl, Bool, true, false, cond, List, ℕ, zero, suc, ◌+◌, ◌-◌, ◌*◌, ◌/◌, ◌^◌, ◌≤◌, ◌<◌, ltb, length, take, drop}
+use Rattle.std.proofs.Common.{ap, ◌∙◌, subst, add-zero, zero-add, le_refl, arith, ltb-true, ltb-false, pow_mono, pow-add}
 use Rattle.std.proofs.Math.Nat.{pow-le-pow_right}
 use Rattle.base_lists.specs.Laws.{array_part}
 use Rattle.base_coin_string.specs.Amount.{bound, fewest, atom_length, big_endian, atom_of}
@@ -45,12 +45,19 @@ atom_least n m h = fewest_least 9 0 m n h (omega arith)
 pub atom_fits : (n : ℕ) → n < 2 ^ 64 → n < bound (atom_length n)
 atom_fits n h = fewest_fits 9 0 n (omega arith)
 
--- the code's tests
-pub length_is : (n k : ℕ) → bound k ≤ n → n < bound (suc k) → n < 2 ^ 64 → suc k ≡ atom_length n
+length_is : (n k : ℕ) → bound k ≤ n → n < bound (suc k) → n < 2 ^ 64 → suc k ≡ atom_length n
 length_is n k h l m = omega (arith, bound_lt n k (atom_length n) (atom_fits n m) h, atom_least n (suc k) l)
 
-pub length_zero : (n : ℕ) → n ≡ 0 → 0 ≡ atom_length n
-length_zero n h = omega (arith, atom_least n 0 (omega arith))
+bound_le_pow : (k i : ℕ) → 8 * k ≤ i + 1 → bound k ≤ 2 ^ i
+bound_le_pow zero i h = pow_mono {i = 0} {j = i} (omega arith)
+bound_le_pow (suc k) i h = pow_mono {i = 8 * k + 7} {j = i} (omega arith)
+
+-- by the place of the first bit that is set
+pub length_by_log : (n i : ℕ) → 2 ^ i ≤ n → n < 2 * 2 ^ i → n < 2 ^ 64 → (i + 1) / 8 + 1 ≡ atom_length n
+length_by_log n i h l m =
+    let k = (i + 1) / 8 in
+    let q : 2 ^ (i + 1) ≤ 2 ^ (8 * k + 7) = pow_mono {i = i + 1} {j = 8 * k + 7} (omega arith) in
+    omega (arith, length_is n k (omega (arith, bound_le_pow k i (omega arith))) (omega (arith, pow-add 2 i 1)) m)
 
 -- ---- the bytes
 pub big_length : (k n : ℕ) → length (big_endian k n) ≡ k

@@ -1,7 +1,8 @@
 -- The parts builder: a cell that gets a byte more, or a list of bytes more.
-use Rattle.std.specs.Prelude.{◌≡◌, refl, List, [], ◌∷◌, ◌++◌, ℕ, ◌+◌, ◌≤◌, ◌<◌, length, take, get_or, set}
-use Rattle.std.proofs.Common.{sym, ap, ◌∙◌, append-nil, append_assoc, arith, add-one, length-append, take-suc}
-use Rattle.base_lists.specs.Laws.{push_cells}
+use Rattle.std.specs.Prelude.{◌≡◌, refl, List, [], ◌∷◌, ◌++◌, ℕ, ◌+◌, ◌≤◌, ◌<◌, suc, length, take, drop, set}
+use Rattle.std.proofs.Common.{sym, ap, ◌∙◌, append-nil, append_assoc, arith, length-append, length-set, take-append-drop, add-zero, drop-drop}
+use Rattle.std.proofs.lemmas.List.{drop-set-lt}
+use Rattle.base_lists.specs.Laws.{push_cells, store_step, snoc_append}
 use Rattle.base_coin_string.specs.declared.CoinString.{CoinString}
 use Rattle.base_coin_string.specs.Amount.{atom_of}
 use Rattle.base_coin_string.specs.AmountLaws.{atom_le}
@@ -22,10 +23,23 @@ pub pushes_len : (c : CoinString) (xs : List ℕ) → (pushes c xs).len ≡ c.le
 pushes_len c [] = omega arith
 pushes_len c (x ∷ xs) = pushes_len (pushed c x) xs ∙ omega arith
 
--- a loop's turn
-pub pushes_step : (c : CoinString) (xs : List ℕ) (i : ℕ) → i < length xs → pushed (pushes c (take i xs)) (get_or xs i 0) ≡ pushes c (take (i + 1) xs)
-pushes_step c xs i h =
-    sym (pushes_append c (take i xs) (get_or xs i 0 ∷ [])) ∙ ap (pushes c) (sym (take-suc xs i 0 h) ∙ ap (λ (k : ℕ). take k xs) (sym (add-one i)))
+-- bytes stored in one go, of which the cell has room
+pub pushes_is : (c : CoinString) (s : List ℕ) → c.len + length s ≤ length c.bytes
+    → record { bytes = take c.len c.bytes ++ (s ++ drop (length s) (drop c.len c.bytes)); len = c.len + length s } ≡ pushes c s
+pushes_is c [] h = λ j. record { bytes = take-append-drop c.len c.bytes j; len = add-zero c.len j }
+pushes_is c (b ∷ s) h = (λ j. record { bytes = stored j; len = more j }) ∙ pushes_is (pushed c b) s (simp length-set (omega arith))
+  where
+    xs : List ℕ
+    xs = c.bytes
+
+    more : c.len + suc (length s) ≡ c.len + 1 + length s
+    more = omega arith
+
+    one : 1 + length s ≡ suc (length s)
+    one = omega arith
+
+    stored : take c.len xs ++ ((b ∷ s) ++ drop (suc (length s)) (drop c.len xs)) ≡ take (c.len + 1) (set xs c.len b) ++ (s ++ drop (length s) (drop (c.len + 1) (set xs c.len b)))
+    stored = sym (rw (store_step xs c.len b (omega arith), drop-set-lt (c.len + 1) xs c.len b (omega arith), snoc_append, ← drop-drop 1 c.len xs, drop-drop (length s) 1 (drop c.len xs)) (ap (λ (k : ℕ). take c.len xs ++ (b ∷ (s ++ drop k (drop c.len xs)))) one))
 
 pub pushed_cell : (xs : List ℕ) (b : ℕ) → length xs < 73 → pushed (cell_of xs) b ≡ cell_of (xs ++ (b ∷ []))
 pushed_cell xs b h = λ j. record { bytes = push_cells 73 0 xs b h j; len = grown j }

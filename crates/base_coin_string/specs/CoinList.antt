@@ -1,5 +1,5 @@
 -- Coins listed in bytes: a count in two bytes, the high one first, and then coins, each led by its length in one byte.
-use Rattle.std.specs.Prelude.{◌≡◌, refl, Bool, true, false, cond, ◌&&◌, List, [], ◌∷◌, ℕ, zero, suc, ◌+◌, ◌*◌, leb, ltb, length, get_or, take, drop}
+use Rattle.std.specs.Prelude.{Option, Some, None, ◌≡◌, refl, Bool, true, false, cond, ◌&&◌, List, [], ◌∷◌, ℕ, zero, suc, ◌+◌, ◌*◌, leb, ltb, length, get_or, take, drop}
 
 abbrev pub count_of : List ℕ → ℕ
 count_of [] = 0
@@ -30,9 +30,9 @@ coins_from (suc n) (k ∷ s) = cond (stands k s) (take k s ∷ coins_from n (dro
 abbrev pub coins_in : List ℕ → List (List ℕ)
 coins_in s = coins_from (count_of s) (drop 2 s)
 
--- the end of the coin whose length stands at a place, or 0 where none stands whole
-abbrev pub end_at : List ℕ → ℕ → ℕ
-end_at s at = cond (ltb at (length s)) (cond (stands (get_or s at 0) (drop (at + 1) s)) (at + 1 + get_or s at 0) 0) 0
+-- the end of the coin whose length stands at a place, if one stands whole
+abbrev pub end_at : List ℕ → ℕ → Option ℕ
+end_at s at = cond (ltb at (length s)) (cond (stands (get_or s at 0) (drop (at + 1) s)) (Some (at + 1 + get_or s at 0)) None) None
 
 -- two coins, one of them empty; a list cut short; a byte left over; a length of 74
 two : coins_in (0 ∷ 2 ∷ 0 ∷ 3 ∷ 7 ∷ 8 ∷ 5 ∷ []) ≡ [] ∷ (7 ∷ 8 ∷ 5 ∷ []) ∷ []

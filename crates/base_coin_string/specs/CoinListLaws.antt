@@ -1,10 +1,10 @@
 -- What a loop over a coin list uses: a whole coin at a place is the first of those from there on.
-use Rattle.std.specs.Prelude.{◌≡◌, refl, Bool, true, false, cond, ◌&&◌, List, [], ◌∷◌, ℕ, zero, suc, ◌+◌, ◌-◌, ◌*◌, ◌≤◌, ◌<◌, leb, ltb, eqb, length, get_or, take, drop}
-use Rattle.std.proofs.Common.{sym, ap, ◌∙◌, arith, length-drop, drop_of_length-le, drop-drop, ltb-true, ltb-false, leb-true, le-leb, eqb-true}
+use Rattle.std.specs.Prelude.{Some, None, ◌≡◌, refl, Bool, true, false, cond, ◌&&◌, List, [], ◌∷◌, ℕ, zero, suc, ◌+◌, ◌-◌, ◌≤◌, ◌<◌, leb, ltb, eqb, length, get_or, take, drop}
+use Rattle.std.proofs.Common.{sym, ap, ◌∙◌, arith, length-drop, drop_of_length-le, drop-drop, ltb-true, ltb-false, leb-true, eqb-true}
 use Rattle.std.proofs.Math.Numerals.{lt_of_le_of_ne}
-use Rattle.std.proofs.lemmas.Bool.{lt-leb, eqb-false}
+use Rattle.std.proofs.lemmas.Bool.{eqb-false}
 use Rattle.base_lists.specs.Laws.{rest_step, and_split}
-use Rattle.base_coin_string.specs.CoinList.{count_of, stands, used_up, coin_listb, coins_from, end_at}
+use Rattle.base_coin_string.specs.CoinList.{stands, used_up, coins_from, end_at}
 
 -- what an end at a place tells of what stands there
 pub record Whole (s : List ℕ) (at to : ℕ) : Type 0 where
@@ -18,6 +18,9 @@ pub record Whole (s : List ℕ) (at to : ℕ) : Type 0 where
 pub record Broken (s : List ℕ) (at : ℕ) : Type 0 where
   pub coins : (n : ℕ) → coins_from n (drop at s) ≡ []
   pub used : (n : ℕ) → 0 < n → used_up n (drop at s) ≡ false
+
+some_is : {a b : ℕ} → Some a ≡ Some b → a ≡ b
+some_is e = cc
 
 module _ (s : List ℕ) (at : ℕ) where
   module _ (l : at < length s) where
@@ -73,25 +76,25 @@ module _ (s : List ℕ) (at : ℕ) where
       unused zero p = absurd (omega arith)
       unused (suc n) p = ap (used_up (suc n)) (drop_of_length-le s {i = at} h)
 
-  pub whole : (to : ℕ) → to ≡ end_at s at → (to ≡ 0 → ⊥) → Whole s at to
-  whole to e h = go (ltb at (length s)) refl e
+  pub whole : (to : ℕ) → Some to ≡ end_at s at → Whole s at to
+  whole to e = go (ltb at (length s)) refl e
     where
-      inside : (b : Bool) → stands (get_or s at 0) (drop (at + 1) s) ≡ b → at < length s → to ≡ cond b (at + 1 + get_or s at 0) 0 → Whole s at to
-      inside true q l e = whole_at l to q e
-      inside false q l e = absurd (h e)
+      inside : (b : Bool) → stands (get_or s at 0) (drop (at + 1) s) ≡ b → at < length s → Some to ≡ cond b (Some (at + 1 + get_or s at 0)) None → Whole s at to
+      inside true q l e = whole_at l to q (some_is e)
+      inside false q l e = absurd (let z : ◌≡◌ {A = ℕ} 0 1 = cc in omega arith)
 
-      go : (b : Bool) → ltb at (length s) ≡ b → to ≡ cond b (cond (stands (get_or s at 0) (drop (at + 1) s)) (at + 1 + get_or s at 0) 0) 0 → Whole s at to
+      go : (b : Bool) → ltb at (length s) ≡ b → Some to ≡ cond b (cond (stands (get_or s at 0) (drop (at + 1) s)) (Some (at + 1 + get_or s at 0)) None) None → Whole s at to
       go true q e = inside (stands (get_or s at 0) (drop (at + 1) s)) refl (ltb-true _ _ q) e
-      go false q e = absurd (h e)
+      go false q e = absurd (let z : ◌≡◌ {A = ℕ} 0 1 = cc in omega arith)
 
-  pub broken : (to : ℕ) → to ≡ end_at s at → to ≡ 0 → Broken s at
-  broken to e h = go (ltb at (length s)) refl e
+  pub broken : None ≡ end_at s at → Broken s at
+  broken e = go (ltb at (length s)) refl e
     where
-      inside : (b : Bool) → stands (get_or s at 0) (drop (at + 1) s) ≡ b → at < length s → to ≡ cond b (at + 1 + get_or s at 0) 0 → Broken s at
-      inside true q l e = absurd (omega arith)
+      inside : (b : Bool) → stands (get_or s at 0) (drop (at + 1) s) ≡ b → at < length s → None ≡ cond b (Some (at + 1 + get_or s at 0)) None → Broken s at
+      inside true q l e = absurd (let z : ◌≡◌ {A = ℕ} 0 1 = cc in omega arith)
       inside false q l e = broken_at_lem l q
 
-      go : (b : Bool) → ltb at (length s) ≡ b → to ≡ cond b (cond (stands (get_or s at 0) (drop (at + 1) s)) (at + 1 + get_or s at 0) 0) 0 → Broken s at
+      go : (b : Bool) → ltb at (length s) ≡ b → None ≡ cond b (cond (stands (get_or s at 0) (drop (at + 1) s)) (Some (at + 1 + get_or s at 0)) None) None → Broken s at
       go true q e = inside (stands (get_or s at 0) (drop (at + 1) s)) refl (ltb-true _ _ q) e
       go false q e = past_end (ltb-false _ _ q)
 
@@ -102,31 +105,6 @@ used_end s at h = go (eqb at (length s)) refl
     go : (b : Bool) → eqb at (length s) ≡ b → used_up 0 (drop at s) ≡ b
     go true e = ap (used_up 0) (drop_of_length-le s {i = at} (let q = eqb-true at (length s) e in omega arith))
     go false e = ap (used_up 0) (rest_step s at 0 (lt_of_le_of_ne h (eqb-false at (length s) e)))
-
--- the count of two bytes or more
-pub count_of_lem : (s : List ℕ) → 2 ≤ length s → get_or s 0 0 * 256 + get_or s 1 0 ≡ count_of s
-count_of_lem [] h = absurd (omega arith)
-count_of_lem (a ∷ []) h = absurd (omega arith)
-count_of_lem (a ∷ b ∷ s) h = refl
-
-pub count_none : (s : List ℕ) → length s < 2 → 0 ≡ count_of s
-count_none [] h = refl
-count_none (a ∷ []) h = refl
-count_none (a ∷ b ∷ s) h = absurd (omega arith)
-
--- ---- the test of a whole list
-pub list_short : (s : List ℕ) → length s < 2 → false ≡ coin_listb s
-list_short s h = sym (ap (λ (b : Bool). b && leb (count_of s) 800 && used_up (count_of s) (drop 2 s)) (lt-leb 2 (length s) h))
-
-module _ (s : List ℕ) (n : ℕ) (h : 2 ≤ length s) (e : n ≡ count_of s) where
-  long_enough : coin_listb s ≡ (leb n 800 && used_up n (drop 2 s))
-  long_enough = ap (λ (b : Bool). b && leb (count_of s) 800 && used_up (count_of s) (drop 2 s)) (le-leb 2 (length s) h) ∙ ap (λ (k : ℕ). leb k 800 && used_up k (drop 2 s)) (sym e)
-
-  pub list_many : 800 < n → false ≡ coin_listb s
-  list_many l = sym (long_enough ∙ ap (λ (b : Bool). b && used_up n (drop 2 s)) (lt-leb n 800 l))
-
-  pub list_start : n ≤ 800 → coin_listb s ≡ used_up n (drop 2 s)
-  list_start l = long_enough ∙ ap (λ (b : Bool). b && used_up n (drop 2 s)) (le-leb n 800 l)
 
 -- no coin is left
 pub coins_end : (s : List ℕ) (left : ℕ) → left ≤ 0 → coins_from left s ≡ []

@@ -3,7 +3,6 @@ pub mod AmountLaws
 pub mod Shortest
 pub mod Coin
 pub mod Build
-pub mod Part
 pub mod CoinList
 pub mod CoinListLaws
 pub mod CoinIds

@@ -1,36 +1,28 @@
--- The order of byte lists is total: equal only what is equal, turned round by a swap, and transitive. And what a loop that compares uses.
-use Rattle.std.specs.Prelude.{◌≡◌, refl, Bool, true, false, cond, List, [], ◌∷◌, ℕ, ◌<◌, ◌≤◌, ltb}
-use Rattle.std.proofs.Common.{sym, ap, ◌∙◌, arith, lt-ltb, le-ltb, ltb-true, ltb-false}
-use Rattle.base_coin_string.specs.declared.Ordering.{Ordering}
-use Rattle.base_coin_string.specs.declared.Ordering.TheVariants.{Less, Equal, Greater}
+-- The order of byte lists is total: equal only what is equal, turned round by a swap, and transitive.
+use Rattle.std.specs.Prelude.{◌≡◌, refl, Bool, true, false, cond, List, [], ◌∷◌, ℕ, ◌<◌, ◌≤◌, eqb, ltb}
+use Rattle.std.proofs.Common.{ap, ◌∙◌, arith, lt-ltb, le-ltb, ltb-true, ltb-false, eq-eqb, ne_eqb}
+use Rattle.std.specs.Cmp.Lexicographic.{slice_cmp}
+use Rattle.std.specs.Ordering.{nat_cmp, ordering_then}
+use Rattle.std.specs.declared.cmp.Ordering.{Ordering}
+use Rattle.std.specs.declared.cmp.Ordering.TheVariants.{Less, Equal, Greater}
 use Rattle.base_coin_string.specs.Order.{order_of}
 
--- ---- a loop's turn: what is left gives the order w of the whole
-pub record Left (w : Ordering) (xs ys : List ℕ) : Type 0 where
-  pub is : w ≡ order_of xs ys
-
-module _ {w : Ordering} {xs ys : List ℕ} (h : Left w xs ys) where
-  pub longer : {x : ℕ} {xs' : List ℕ} → xs ≡ x ∷ xs' → ys ≡ [] → Greater ≡ w
-  longer {x} {xs'} p q = sym (h.is ∙ ap (λ (l : List ℕ). order_of l ys) p ∙ ap (order_of (x ∷ xs')) q)
-
-  pub shorter : {y : ℕ} {ys' : List ℕ} → xs ≡ [] → ys ≡ y ∷ ys' → Less ≡ w
-  shorter {y} {ys'} p q = sym (h.is ∙ ap (λ (l : List ℕ). order_of l ys) p ∙ ap (order_of []) q)
-
-  pub as_long : xs ≡ [] → ys ≡ [] → Equal ≡ w
-  as_long p q = sym (h.is ∙ ap (λ (l : List ℕ). order_of l ys) p ∙ ap (order_of []) q)
-
-  module _ {x y : ℕ} {xs' ys' : List ℕ} (p : xs ≡ x ∷ xs') (q : ys ≡ y ∷ ys') where
-    both : w ≡ cond (ltb x y) Less (cond (ltb y x) Greater (order_of xs' ys'))
-    both = h.is ∙ ap (λ (l : List ℕ). order_of l ys) p ∙ ap (order_of (x ∷ xs')) q
-
-    pub below : x < y → Less ≡ w
-    below l = sym (both ∙ ap (λ (b : Bool). cond b Less (cond (ltb y x) Greater (order_of xs' ys'))) (lt-ltb x y l))
-
-    pub above : y < x → y ≤ x → Greater ≡ w
-    above l m = sym (both ∙ ap (λ (b : Bool). cond b Less (cond (ltb y x) Greater (order_of xs' ys'))) (le-ltb x y m) ∙ ap (λ (b : Bool). cond b Greater (order_of xs' ys')) (lt-ltb y x l))
-
-    pub equal : y ≤ x → x ≤ y → Left w xs' ys'
-    equal m l = record { is = both ∙ ap (λ (b : Bool). cond b Less (cond (ltb y x) Greater (order_of xs' ys'))) (le-ltb x y m) ∙ ap (λ (b : Bool). cond b Greater (order_of xs' ys')) (le-ltb y x l) }
+-- ---- it is std's order of slices
+pub order_is : (xs ys : List ℕ) → slice_cmp nat_cmp xs ys ≡ order_of xs ys
+order_is [] [] = refl
+order_is [] (y ∷ ys) = refl
+order_is (x ∷ xs) [] = refl
+order_is (x ∷ xs) (y ∷ ys) = go (ltb x y) refl (ltb y x) refl (order_is xs ys)
+  where
+    go : (a : Bool) → ltb x y ≡ a → (b : Bool) → ltb y x ≡ b → slice_cmp nat_cmp xs ys ≡ order_of xs ys
+        → ordering_then (cond a Less (cond (eqb x y) Equal Greater)) (slice_cmp nat_cmp xs ys) ≡ cond a Less (cond b Greater (order_of xs ys))
+    go true p b q h = refl
+    go false p true q h =
+        let n : eqb x y ≡ false = ne_eqb x y (λ e. omega (arith, ltb-true y x q)) in
+        ap (λ (t : Bool). ordering_then (cond t Equal Greater) (slice_cmp nat_cmp xs ys)) n
+    go false p false q h =
+        let e : eqb x y ≡ true = eq-eqb x y (omega (arith, ltb-false x y p, ltb-false y x q)) in
+        ap (λ (t : Bool). ordering_then (cond t Equal Greater) (slice_cmp nat_cmp xs ys)) e ∙ h
 
 -- ---- the order is total
 pub order_refl : (xs : List ℕ) → order_of xs xs ≡ Equal

@@ -3,7 +3,7 @@ use Rattle.std.specs.Prelude.{◌≡◌, refl, Bool, true, false, cond, List, []
 use Rattle.std.proofs.Common.{sym, ap, ◌∙◌, subst, mul-le-mul_right, mod-eq_of_lt, add-zero, pow-add, pow_mono, shr_lt, arith, ltb-true, lt-ltb}
 use Rattle.std.proofs.Math.Nat.{mod-one}
 use Rattle.std.proofs.lemmas.Nat.{mod-pow-add}
-use Rattle.base_lists.specs.Lists.{allb}
+use Rattle.std.specs.List.{list_all}
 use Rattle.base_lists.specs.Laws.{and_split, and_both}
 use Rattle.base_coin_string.specs.Amount.{bound, atom_length, big_endian, atom_of}
 use Rattle.base_coin_string.specs.AmountLaws.{big_length, atom_least, atom_fits}
@@ -23,7 +23,7 @@ abbrev pub TwosComplement : List ℕ → ℕ → Type 0
 TwosComplement bs n = unsigned bs ≡ n + sign_of bs
 
 abbrev pub bytes : List ℕ → Bool
-bytes bs = allb (λ b. ltb b 256) bs
+bytes bs = list_all (λ b. ltb b 256) bs
 
 -- ---- k bytes are below 2 ^ (8 k), and below bound k where the first bit is not set
 byte_pow : (l : ℕ) → 2 ^ (8 * suc l) ≡ 256 * 2 ^ (8 * l)

@@ -7,21 +7,16 @@ ghost use Rattle.base_coin_string.specs.Coin.{FromParts, cell_of, coin_id_of};
 ghost use Rattle.base_coin_string.specs.Build.{pushed, pushes};
 ghost use Rattle.base_coin_string.specs.CoinList.{count_of, end_at, coin_listb, coins_in};
 ghost use Rattle.base_coin_string.specs.CoinIds.{id_listb, ids_in};
-ghost use Rattle.base_coin_string.specs.Order.{order_of, cell_order};
+ghost use Rattle.base_coin_string.specs.Order.{cell_order};
 ghost use Rattle.base_lists.specs.Bytes.{eqs, is_in};
+
+use std::cmp::Ordering;
 
 // The first len bytes are the coin's, and the others zero.
 #[derive(Clone, Copy)]
 pub struct CoinString {
     pub bytes: [u8; 73],
     pub len: u8,
-}
-
-#[derive(Clone, Copy)]
-pub enum Ordering {
-    Less,
-    Equal,
-    Greater,
 }
 
 // How many bytes the amount's atom has.
@@ -31,62 +26,16 @@ fn atom_len(amount: u64) -> usize
     if amount == 0 {
         return 0;
     }
-    if amount < 0x80 {
-        return 1;
-    }
-    if amount < 0x8000 {
-        return 2;
-    }
-    if amount < 0x80_0000 {
-        return 3;
-    }
-    if amount < 0x8000_0000 {
-        return 4;
-    }
-    if amount < 0x80_0000_0000 {
-        return 5;
-    }
-    if amount < 0x8000_0000_0000 {
-        return 6;
-    }
-    if amount < 0x80_0000_0000_0000 {
-        return 7;
-    }
-    if amount < 0x8000_0000_0000_0000 {
-        return 8;
-    }
-    9
+    (amount.ilog2() as usize + 1) / 8 + 1
 }
 
 // The amount in nine bytes of two's complement: the first is zero.
 fn nine_bytes(amount: u64) -> [u8; 9]
     ensures { result ≡ big_endian 9 amount }
 {
-    [
-        0,
-        ((amount >> 56) % 256) as u8,
-        ((amount >> 48) % 256) as u8,
-        ((amount >> 40) % 256) as u8,
-        ((amount >> 32) % 256) as u8,
-        ((amount >> 24) % 256) as u8,
-        ((amount >> 16) % 256) as u8,
-        ((amount >> 8) % 256) as u8,
-        (amount % 256) as u8,
-    ]
-}
-
-// One byte more.
-fn push(c: CoinString, b: u8) -> CoinString
-    requires { c.len < 73 }
-    ensures { result ≡ pushed c b }
-{
-    let at = c.len as usize;
-    let mut bytes = c.bytes;
-    bytes[at] = b;
-    CoinString {
-        bytes,
-        len: c.len + 1,
-    }
+    let mut b = [0; 9];
+    b[1..].copy_from_slice(&amount.to_be_bytes());
+    b
 }
 
 // The bytes of a slice behind the coin's.
@@ -94,12 +43,10 @@ fn push_all(c: CoinString, s: &[u8]) -> CoinString
     requires { c.len + length s.now ≤ 73 }
     ensures { result ≡ pushes c s.now }
 {
+    let at = usize::from(c.len);
     let mut out = c;
-    let mut i = 0;
-    while i < s.len() {
-        out = push(out, s[i]);
-        i += 1;
-    }
+    out.bytes[at..at + s.len()].copy_from_slice(s);
+    out.len += s.len() as u8;
     out
 }
 
@@ -110,7 +57,7 @@ fn push_amount(c: CoinString, amount: u64) -> CoinString
 {
     let b = nine_bytes(amount);
     let z = 9 - atom_len(amount);
-    push_all(c, &b[z..9])
+    push_all(c, &b[z..])
 }
 
 // No bytes yet.
@@ -136,10 +83,7 @@ pub fn from_parts(parent: [u8; 32], puzzle_hash: [u8; 32], amount: u64) -> CoinS
 fn within(len: u8) -> usize
     ensures { result ≡ min len 73 }
 {
-    if len < 73 {
-        return len as usize;
-    }
-    73
+    usize::from(len).min(73)
 }
 
 // The coin's id: SHA-256 of its first len bytes.
@@ -147,23 +91,14 @@ pub fn to_coin_id(coin: [u8; 73], len: u8) -> [u8; 32]
     ensures { result ≡ coin_id_of (take len coin) }
 {
     let end = within(len);
-    base_sha256::sha256(&coin[0..end])
+    base_sha256::sha256(&coin[..end])
 }
 
 // The bytes of s from one place to another, as far as they are there.
 fn part(s: &[u8], from: usize, to: usize) -> &[u8]
     ensures { result.now ≡ take (to - from) (drop from s.now) }
 {
-    if to <= from {
-        return &s[0..0];
-    }
-    if s.len() <= from {
-        return &s[0..0];
-    }
-    if s.len() <= to {
-        return &s[from..];
-    }
-    &s[from..to]
+    s.get(from..to.min(s.len())).unwrap_or(&[])
 }
 
 // The first 73 bytes of a slice in a cell.
@@ -173,38 +108,27 @@ pub fn from_bytes(s: &[u8]) -> CoinString
     push_all(empty(), part(s, 0, 73))
 }
 
-fn wide(x: u8) -> usize
-    ensures { (result ≡ x) × (result < 256) }
-{
-    x as usize
-}
-
 // How many coins a list says it has.
 pub fn list_count(s: &[u8]) -> usize
     ensures { result ≡ count_of s.now }
 {
-    if s.len() < 2 {
-        return 0;
+    match s {
+        [high, low, ..] => usize::from(*high) * 256 + usize::from(*low),
+        _ => 0,
     }
-    wide(s[0]) * 256 + wide(s[1])
 }
 
-// The end of the coin whose length stands at a place of a list, or 0 where none stands whole.
-pub fn coin_end(s: &[u8], at: usize) -> usize
+// The end of the coin whose length stands at a place of a list, if one stands whole.
+pub fn coin_end(s: &[u8], at: usize) -> Option<usize>
     ensures { result ≡ end_at s.now at }
 {
-    if s.len() <= at {
-        return 0;
-    }
-    let n = wide(s[at]);
+    let n = usize::from(*s.get(at)?);
     let from = at + 1;
-    if 73 < n {
-        return 0;
+    if n <= 73 && n <= s.len() - from {
+        Some(from + n)
+    } else {
+        None
     }
-    if s.len() - from < n {
-        return 0;
-    }
-    from + n
 }
 
 // The bytes of s from one place to another are the coin's.
@@ -212,28 +136,23 @@ pub fn coin_is(s: &[u8], from: usize, to: usize, coin: [u8; 73], len: u8) -> boo
     ensures { result ≡ eqs (take (to - from) (drop from s.now)) (take len coin) }
 {
     let n = within(len);
-    base_lists::same(part(s, from, to), &coin[0..n])
+    part(s, from, to) == &coin[..n]
 }
 
 // The bytes are a coin list, of at most 800 coins.
 pub fn is_coin_list(s: &[u8]) -> bool
     ensures { result ≡ coin_listb s.now }
 {
-    let mut left = list_count(s);
-    if s.len() < 2 {
-        return false;
-    }
-    if 800 < left {
+    let count = list_count(s);
+    if s.len() < 2 || 800 < count {
         return false;
     }
     let mut at = 2;
-    while 0 < left {
-        let to = coin_end(s, at);
-        if to == 0 {
+    for _i in 0..count {
+        let Some(to) = coin_end(s, at) else {
             return false;
-        }
+        };
         at = to;
-        left -= 1;
     }
     at == s.len()
 }
@@ -242,18 +161,16 @@ pub fn is_coin_list(s: &[u8]) -> bool
 pub fn has_coin(s: &[u8], coin: [u8; 73], len: u8) -> bool
     ensures { result ≡ is_in (coins_in s.now) (take len coin) }
 {
-    let mut left = list_count(s);
+    let count = list_count(s);
     let mut at = 2;
-    while 0 < left {
-        let to = coin_end(s, at);
-        if to == 0 {
+    for _i in 0..count {
+        let Some(to) = coin_end(s, at) else {
             return false;
-        }
+        };
         if coin_is(s, at + 1, to, coin, len) {
             return true;
         }
         at = to;
-        left -= 1;
     }
     false
 }
@@ -262,47 +179,19 @@ pub fn has_coin(s: &[u8], coin: [u8; 73], len: u8) -> bool
 pub fn is_id_list(s: &[u8]) -> bool
     ensures { result ≡ id_listb s.now }
 {
-    (s.len() % 32 == 0) & (s.len() / 32 <= 800)
+    s.len() % 32 == 0 && s.len() / 32 <= 800
 }
 
 // The id is one of those that s lists.
 pub fn has_id(s: &[u8], id: &[u8; 32]) -> bool
     ensures { result ≡ is_in (ids_in s.now) id.now }
 {
-    let mut left = s.len() / 32;
-    let mut at = 0;
-    while 0 < left {
-        let to = at + 32;
-        if base_lists::same(part(s, at, to), id) {
+    for x in s.chunks_exact(32) {
+        if x == id.as_slice() {
             return true;
         }
-        at = to;
-        left -= 1;
     }
     false
-}
-
-// By the first byte that differs, and a beginning before what goes on.
-pub fn compare(a: &[u8], b: &[u8]) -> Ordering
-    ensures { result ≡ order_of a.now b.now }
-{
-    let mut i = 0;
-    while i < a.len() {
-        if b.len() <= i {
-            return Ordering::Greater;
-        }
-        if a[i] < b[i] {
-            return Ordering::Less;
-        }
-        if b[i] < a[i] {
-            return Ordering::Greater;
-        }
-        i += 1;
-    }
-    if i < b.len() {
-        return Ordering::Less;
-    }
-    Ordering::Equal
 }
 
 // The order of two coins' bytes.
@@ -311,7 +200,5 @@ pub fn compare_coins(a: CoinString, b: CoinString) -> Ordering
 {
     let m = within(a.len);
     let n = within(b.len);
-    let x = a.bytes;
-    let y = b.bytes;
-    compare(&x[0..m], &y[0..n])
+    a.bytes[..m].cmp(&b.bytes[..n])
 }

@@ -29,18 +29,6 @@ eqs_lengths (x ∷ xs) (y ∷ ys) h = go (eqb x y) (eqs_lengths xs ys (λ e. h (
     go true k = k
     go false k = refl
 
--- a loop that compares: the answer of the whole w is the answer of what is left
-pub eqs_turn : {w : Bool} {x y : ℕ} {xs ys xs' ys' : List ℕ} → xs ≡ x ∷ xs' → ys ≡ y ∷ ys' → x ≡ y → w ≡ eqs xs ys → w ≡ eqs xs' ys'
-eqs_turn {w} {x} {y} {xs} {ys} {xs'} {ys'} p q e h =
-    h ∙ ap (λ (l : List ℕ). eqs l ys) p ∙ ap (λ (l : List ℕ). eqs (x ∷ xs') l) q ∙ ap (λ (b : Bool). b && eqs xs' ys') (eq-eqb x y e)
-
-pub eqs_differ : {w : Bool} {x y : ℕ} {xs ys xs' ys' : List ℕ} → xs ≡ x ∷ xs' → ys ≡ y ∷ ys' → (x ≡ y → ⊥) → w ≡ eqs xs ys → false ≡ w
-eqs_differ {w} {x} {y} {xs} {ys} {xs'} {ys'} p q e h =
-    sym (h ∙ ap (λ (l : List ℕ). eqs l ys) p ∙ ap (λ (l : List ℕ). eqs (x ∷ xs') l) q ∙ ap (λ (b : Bool). b && eqs xs' ys') (ne_eqb x y e))
-
-pub eqs_done : {w : Bool} {xs ys : List ℕ} → xs ≡ [] → ys ≡ [] → w ≡ eqs xs ys → true ≡ w
-eqs_done {w} {xs} {ys} p q h = sym (h ∙ ap (λ (l : List ℕ). eqs l ys) p ∙ ap (λ (l : List ℕ). eqs [] l) q)
-
 -- c is one of the lists
 abbrev pub is_in : List (List ℕ) → List ℕ → Bool
 is_in [] c = false

@@ -6,7 +6,8 @@ use Rattle.std.proofs.Math.Bool.{and_assoc, and-true}
 use Rattle.std.proofs.Math.Dec.{leb-suc-suc}
 use Rattle.std.proofs.lemmas.List.{length-replicate, set-append_left}
 use Rattle.std.proofs.Math.Seq.{set-append_seam}
-use Rattle.base_lists.specs.Lists.{allb, anyb, filterb, index_of, cells, full_of, foldl, flat_map, elemb, distinctb, insert_up, rising, risingb, push_new, tail_of}
+use Rattle.base_lists.specs.Lists.{index_of, cells, full_of, elemb, distinctb, insert_up, rising, risingb, push_new, tail_of}
+use Rattle.std.specs.List.{list_all, list_any, filter, fold, flat_map}
 
 -- ---- a loop's turn
 module _ {A : Type 0} where
@@ -32,33 +33,8 @@ module _ {A : Type 0} where
   pub length_snoc : (xs : List A) (x : A) → length (xs ++ (x ∷ [])) ≡ length xs + 1
   length_snoc xs x = length-append xs (x ∷ [])
 
--- a loop that tests every element: ok is what the passed ones gave. w is the answer of the whole
-module _ {A : Type 0} (p : A → Bool) where
-  pub all_turn : {w : Bool} (ok : Bool) {x : A} {rest rest' : List A} → rest ≡ x ∷ rest' → w ≡ (ok && allb p rest) → w ≡ (ok && p x && allb p rest')
-  all_turn {w} ok {x} {rest} {rest'} e h = h ∙ ap (λ (l : List A). ok && allb p l) e ∙ sym (and_assoc ok (p x) (allb p rest'))
-
-  -- the same where a call gave the element's answer
-  pub all_turn_by : {w : Bool} (ok : Bool) {r : Bool} {x : A} {rest rest' : List A} → r ≡ p x → rest ≡ x ∷ rest' → w ≡ (ok && allb p rest) → w ≡ (ok && r && allb p rest')
-  all_turn_by {w} ok {r} {x} {rest} {rest'} q e h = all_turn ok e h ∙ ap (λ (b : Bool). ok && b && allb p rest') (sym q)
-
-  pub all_done : {w : Bool} (ok : Bool) {rest : List A} → rest ≡ [] → w ≡ (ok && allb p rest) → ok ≡ w
-  all_done {w} ok {rest} e h = sym (h ∙ ap (λ (l : List A). ok && allb p l) e ∙ and-true ok)
-
--- a search: the answer of the whole is the answer of what is left
-pub elem_turn : (x : ℕ) {w : Bool} {y : ℕ} {rest rest' : List ℕ} → rest ≡ y ∷ rest' → (y ≡ x → ⊥) → w ≡ elemb x rest → w ≡ elemb x rest'
-elem_turn x {w} {y} {rest} {rest'} e n h = h ∙ ap (elemb x) e ∙ ap (λ (b : Bool). b || elemb x rest') (ne_eqb y x n)
-
-pub elem_hit : (x : ℕ) {w : Bool} {y : ℕ} {rest rest' : List ℕ} → rest ≡ y ∷ rest' → y ≡ x → w ≡ elemb x rest → true ≡ w
-elem_hit x {w} {y} {rest} {rest'} e q h = sym (h ∙ ap (elemb x) e ∙ ap (λ (b : Bool). b || elemb x rest') (eq-eqb y x q))
-
-pub distinct_turn : {w : Bool} {x : ℕ} {rest rest' : List ℕ} → rest ≡ x ∷ rest' → elemb x rest' ≡ false → w ≡ distinctb rest → w ≡ distinctb rest'
-distinct_turn {w} {x} {rest} {rest'} e n h = h ∙ ap distinctb e ∙ ap (λ (b : Bool). not b && distinctb rest') n
-
-pub distinct_hit : {w : Bool} {x : ℕ} {rest rest' : List ℕ} → rest ≡ x ∷ rest' → elemb x rest' ≡ true → w ≡ distinctb rest → false ≡ w
-distinct_hit {w} {x} {rest} {rest'} e n h = sym (h ∙ ap distinctb e ∙ ap (λ (b : Bool). not b && distinctb rest') n)
-
-pub full_of_lem : {A : Type 0} (p : A → Bool) (xs : List A) (n : ℕ) {r : Bool} → length xs ≡ n → r ≡ allb p xs → r ≡ full_of n p xs
-full_of_lem p xs n e h = h ∙ sym (ap (λ (b : Bool). b && allb p xs) (eq-eqb (length xs) n e))
+pub full_of_lem : {A : Type 0} (p : A → Bool) (xs : List A) (n : ℕ) {r : Bool} → length xs ≡ n → r ≡ list_all p xs → r ≡ full_of n p xs
+full_of_lem p xs n e h = h ∙ sym (ap (λ (b : Bool). b && list_all p xs) (eq-eqb (length xs) n e))
 
 -- the part from i to the end
 pub part_to_end : {A : Type 0} (xs : List A) (i : ℕ) → take (length xs - i) (drop i xs) ≡ drop i xs
@@ -93,27 +69,27 @@ trues a (b ∷ bs) h =
     (u.0, (u.1, t.1))
 
 -- cells that all pass a test that only z passes are so many times z
-all_eq : {A : Type 0} (p : A → Bool) (z : A) → ((x : A) → p x ≡ true → x ≡ z) → (ys : List A) → allb p ys ≡ true → ys ≡ replicate (length ys) z
+all_eq : {A : Type 0} (p : A → Bool) (z : A) → ((x : A) → p x ≡ true → x ≡ z) → (ys : List A) → list_all p ys ≡ true → ys ≡ replicate (length ys) z
 all_eq p z only [] h = refl
 all_eq p z only (y ∷ ys) h =
-    let t = and_split (p y) (allb p ys) h in
+    let t = and_split (p y) (list_all p ys) h in
     λ i. only y t.0 i ∷ all_eq p z only ys t.1 i
 
 pub full_eq : {A : Type 0} (p : A → Bool) (z : A) → ((x : A) → p x ≡ true → x ≡ z) → (n : ℕ) (xs : List A) → full_of n p xs ≡ true → xs ≡ replicate n z
 full_eq p z only n xs h =
-    let t = and_split (eqb (length xs) n) (allb p xs) h in
+    let t = and_split (eqb (length xs) n) (list_all p xs) h in
     all_eq p z only xs t.1 ∙ ap (λ (k : ℕ). replicate k z) (eqb-true (length xs) n t.0)
 
-pub all_replicate : {A : Type 0} (p : A → Bool) (z : A) → p z ≡ true → (n : ℕ) → allb p (replicate n z) ≡ true
+pub all_replicate : {A : Type 0} (p : A → Bool) (z : A) → p z ≡ true → (n : ℕ) → list_all p (replicate n z) ≡ true
 all_replicate p z h zero = refl
-all_replicate p z h (suc n) = ap (λ (x : Bool). x && allb p (replicate n z)) h ∙ all_replicate p z h n
+all_replicate p z h (suc n) = ap (λ (x : Bool). x && list_all p (replicate n z)) h ∙ all_replicate p z h n
 
 -- ---- counted cells
 module _ {A : Type 0} (p : A → Bool) (z : A) (only : (x : A) → p x ≡ true → x ≡ z) where
   -- an array whose unused cells are z is the counted cells of its used part
   pub cells_take : (N n : ℕ) (xs : List A) → tail_of N p n xs ≡ true → n ≤ N → cells N z (take n xs) ≡ xs
   cells_take N n xs h k =
-      let t = and_split (eqb (length xs) N) (allb p (drop n xs)) h in
+      let t = and_split (eqb (length xs) N) (list_all p (drop n xs)) h in
       let e : length xs ≡ N = eqb-true (length xs) N t.0 in
       let l : length (take n xs) ≡ n = length-take-le n xs (omega arith) in
       let d : length (drop n xs) ≡ N - n = length-drop n xs ∙ ap (λ (j : ℕ). j - n) e in
@@ -124,7 +100,7 @@ module _ {A : Type 0} (p : A → Bool) (z : A) (only : (x : A) → p x ≡ true 
 module _ {A : Type 0} where
   -- the length that a tail test tells
   pub tail_length : (N : ℕ) (p : A → Bool) (n : ℕ) (xs : List A) → tail_of N p n xs ≡ true → length xs ≡ N
-  tail_length N p n xs h = eqb-true (length xs) N (and_split (eqb (length xs) N) (allb p (drop n xs)) h).0
+  tail_length N p n xs h = eqb-true (length xs) N (and_split (eqb (length xs) N) (list_all p (drop n xs)) h).0
 
   pub length_cells : (N : ℕ) (z : A) (xs : List A) → length xs ≤ N → length (cells N z xs) ≡ N
   length_cells N z xs h = length-append xs (replicate (N - length xs) z) ∙ ap (λ (j : ℕ). length xs + j) (length-replicate (N - length xs) z) ∙ omega arith
@@ -137,7 +113,7 @@ module _ {A : Type 0} where
 
   pub tail_cells : (N : ℕ) (p : A → Bool) (z : A) (xs : List A) → p z ≡ true → length xs ≤ N → tail_of N p (length xs) (cells N z xs) ≡ true
   tail_cells N p z xs h k =
-      and_both (eq-eqb (length (cells N z xs)) N (length_cells N z xs k)) (ap (allb p) (drop_cells N z xs) ∙ all_replicate p z h (N - length xs))
+      and_both (eq-eqb (length (cells N z xs)) N (length_cells N z xs k)) (ap (list_all p) (drop_cells N z xs) ∙ all_replicate p z h (N - length xs))
 
   -- a store into a used cell
   pub set_cells : (N : ℕ) (z : A) (xs : List A) (i : ℕ) (x : A) → i < length xs → set (cells N z xs) i x ≡ cells N z (set xs i x)
@@ -163,25 +139,16 @@ module _ {A : Type 0} (p : A → Bool) where
       go true h = omega arith
       go false h = omega arith
 
-  pub any_index : (xs : List A) → anyb p xs ≡ ltb (index_of p xs) (length xs)
+  pub any_index : (xs : List A) → list_any p xs ≡ ltb (index_of p xs) (length xs)
   any_index [] = refl
   any_index (x ∷ xs) = go (p x) (any_index xs)
     where
-      go : (b : Bool) → anyb p xs ≡ ltb (index_of p xs) (length xs) → (b || anyb p xs) ≡ ltb (cond b 0 (suc (index_of p xs))) (suc (length xs))
+      go : (b : Bool) → list_any p xs ≡ ltb (index_of p xs) (length xs) → (b || list_any p xs) ≡ ltb (cond b 0 (suc (index_of p xs))) (suc (length xs))
       go true h = sym (lt-ltb 0 (suc (length xs)) (omega arith))
       go false h = h ∙ sym (leb-suc-suc (suc (index_of p xs)) (length xs))
 
-  -- a loop's turn: k elements were passed
-  pub index_turn : {w : ℕ} {x : A} {rest rest' : List A} (k : ℕ) → rest ≡ x ∷ rest' → p x ≡ false → w ≡ k + index_of p rest → w ≡ k + 1 + index_of p rest'
-  index_turn {w} {x} {rest} {rest'} k e n h =
-      h ∙ ap (λ (l : List A). k + index_of p l) e ∙ ap (λ (b : Bool). k + cond b 0 (suc (index_of p rest'))) n ∙ omega arith
-
-  pub index_hit : {w : ℕ} {x : A} {rest rest' : List A} (k : ℕ) → rest ≡ x ∷ rest' → p x ≡ true → w ≡ k + index_of p rest → k ≡ w
-  index_hit {w} {x} {rest} {rest'} k e y h =
-      sym (h ∙ ap (λ (l : List A). k + index_of p l) e ∙ ap (λ (b : Bool). k + cond b 0 (suc (index_of p rest'))) y ∙ add-zero k)
-
-pub tail_of_lem : {A : Type 0} (N : ℕ) (p : A → Bool) (n : ℕ) (xs : List A) {r : Bool} → length xs ≡ N → r ≡ allb p (drop n xs) → r ≡ tail_of N p n xs
-tail_of_lem N p n xs e h = h ∙ sym (ap (λ (b : Bool). b && allb p (drop n xs)) (eq-eqb (length xs) N e))
+pub tail_of_lem : {A : Type 0} (N : ℕ) (p : A → Bool) (n : ℕ) (xs : List A) {r : Bool} → length xs ≡ N → r ≡ list_all p (drop n xs) → r ≡ tail_of N p n xs
+tail_of_lem N p n xs e h = h ∙ sym (ap (λ (b : Bool). b && list_all p (drop n xs)) (eq-eqb (length xs) N e))
 
 -- a loop that appends f x of each x: what is done and what is left make up the whole w
 module _ {A B : Type 0} where
@@ -199,9 +166,6 @@ module _ {A B : Type 0} where
   pub flat_done : (f : A → List B) {w : List B} {rest : List A} (done : List B) → rest ≡ [] → done ++ flat_map f rest ≡ w → done ≡ w
   flat_done f {w} {rest} done e h = sym (append-nil done) ∙ sym (ap (λ (l : List A). done ++ flat_map f l) e) ∙ h
 
-pub push_twice : {A : Type 0} (d : List A) {a b : List A} (x y : List A) → a ≡ d ++ x → b ≡ a ++ y → b ≡ d ++ (x ++ y)
-push_twice {A} d {a} {b} x y p q = q ∙ ap (λ (l : List A). l ++ y) p ∙ append_assoc d x y
-
 -- the part from i to the end of an array
 pub array_part : {A : Type 0} (N : ℕ) (xs : List A) (i : ℕ) → length xs ≡ N → take (N - i) (drop i xs) ≡ drop i xs
 array_part N xs i e = ap (λ (k : ℕ). take (k - i) (drop i xs)) (sym e) ∙ part_to_end xs i
@@ -209,23 +173,23 @@ array_part N xs i e = ap (λ (k : ℕ). take (k - i) (drop i xs)) (sym e) ∙ pa
 -- ---- filters and insertions
 module _ {A : Type 0} (p : A → Bool) where
   -- a loop that keeps what passes: what is done and what is left make up the whole w
-  pub filter_keep : {w : List A} {x : A} {rest rest' : List A} (done : List A) → rest ≡ x ∷ rest' → p x ≡ true → done ++ filterb p rest ≡ w → (done ++ (x ∷ [])) ++ filterb p rest' ≡ w
+  pub filter_keep : {w : List A} {x : A} {rest rest' : List A} (done : List A) → rest ≡ x ∷ rest' → p x ≡ true → done ++ filter p rest ≡ w → (done ++ (x ∷ [])) ++ filter p rest' ≡ w
   filter_keep {w} {x} {rest} {rest'} done e y h =
-      append_assoc done (x ∷ []) (filterb p rest')
-      ∙ sym (ap (λ (l : List A). done ++ filterb p l) e ∙ ap (λ (b : Bool). done ++ cond b (x ∷ filterb p rest') (filterb p rest')) y) ∙ h
+      append_assoc done (x ∷ []) (filter p rest')
+      ∙ sym (ap (λ (l : List A). done ++ filter p l) e ∙ ap (λ (b : Bool). done ++ cond b (x ∷ filter p rest') (filter p rest')) y) ∙ h
 
-  pub filter_skip : {w : List A} {x : A} {rest rest' : List A} (done : List A) → rest ≡ x ∷ rest' → p x ≡ false → done ++ filterb p rest ≡ w → done ++ filterb p rest' ≡ w
+  pub filter_skip : {w : List A} {x : A} {rest rest' : List A} (done : List A) → rest ≡ x ∷ rest' → p x ≡ false → done ++ filter p rest ≡ w → done ++ filter p rest' ≡ w
   filter_skip {w} {x} {rest} {rest'} done e n h =
-      sym (ap (λ (l : List A). done ++ filterb p l) e ∙ ap (λ (b : Bool). done ++ cond b (x ∷ filterb p rest') (filterb p rest')) n) ∙ h
+      sym (ap (λ (l : List A). done ++ filter p l) e ∙ ap (λ (b : Bool). done ++ cond b (x ∷ filter p rest') (filter p rest')) n) ∙ h
 
-  pub filter_done : {w : List A} {rest : List A} (done : List A) → rest ≡ [] → done ++ filterb p rest ≡ w → done ≡ w
-  filter_done {w} {rest} done e h = sym (append-nil done) ∙ sym (ap (λ (l : List A). done ++ filterb p l) e) ∙ h
+  pub filter_done : {w : List A} {rest : List A} (done : List A) → rest ≡ [] → done ++ filter p rest ≡ w → done ≡ w
+  filter_done {w} {rest} done e h = sym (append-nil done) ∙ sym (ap (λ (l : List A). done ++ filter p l) e) ∙ h
 
-  pub filter_length : (xs : List A) → length (filterb p xs) ≤ length xs
+  pub filter_length : (xs : List A) → length (filter p xs) ≤ length xs
   filter_length [] = le_refl _
   filter_length (x ∷ xs) = go (p x) (filter_length xs)
     where
-      go : (b : Bool) → length (filterb p xs) ≤ length xs → length (cond b (x ∷ filterb p xs) (filterb p xs)) ≤ suc (length xs)
+      go : (b : Bool) → length (filter p xs) ≤ length xs → length (cond b (x ∷ filter p xs) (filter p xs)) ≤ suc (length xs)
       go true h = omega arith
       go false h = omega arith
 
@@ -257,7 +221,7 @@ insert_length x (y ∷ ys) = go (ltb x y) (insert_length x ys)
     go true h = refl
     go false h = ap suc h
 
-insertions_length : (acc xs : List ℕ) → length (foldl (λ ys x. insert_up x ys) acc xs) ≡ length acc + length xs
+insertions_length : (acc xs : List ℕ) → length (fold (λ ys x. insert_up x ys) acc xs) ≡ length acc + length xs
 insertions_length acc [] = omega arith
 insertions_length acc (x ∷ xs) = insertions_length (insert_up x acc) xs ∙ omega (arith, insert_length x acc)
 
@@ -266,11 +230,11 @@ rising_length xs = insertions_length [] xs ∙ omega arith
 
 -- a loop that folds: the answer of the whole w is the answer from here on
 module _ {A B : Type 0} (f : B → A → B) where
-  pub fold_turn : {w : B} (acc : B) {acc' : B} {x : A} {rest rest' : List A} → rest ≡ x ∷ rest' → acc' ≡ f acc x → foldl f acc rest ≡ w → foldl f acc' rest' ≡ w
-  fold_turn acc {acc'} {x} {rest} {rest'} e a h = ap (λ (b : B). foldl f b rest') a ∙ sym (ap (foldl f acc) e) ∙ h
+  pub fold_turn : {w : B} (acc : B) {acc' : B} {x : A} {rest rest' : List A} → rest ≡ x ∷ rest' → acc' ≡ f acc x → fold f acc rest ≡ w → fold f acc' rest' ≡ w
+  fold_turn acc {acc'} {x} {rest} {rest'} e a h = ap (λ (b : B). fold f b rest') a ∙ sym (ap (fold f acc) e) ∙ h
 
-  pub fold_done : {w : B} (acc : B) {rest : List A} → rest ≡ [] → foldl f acc rest ≡ w → acc ≡ w
-  fold_done acc {rest} e h = sym (ap (foldl f acc) e) ∙ h
+  pub fold_done : {w : B} (acc : B) {rest : List A} → rest ≡ [] → fold f acc rest ≡ w → acc ≡ w
+  fold_done acc {rest} e h = sym (ap (fold f acc) e) ∙ h
 
 pub push_new_grows : (xs : List ℕ) (x : ℕ) → length xs ≤ length (push_new xs x)
 push_new_grows xs x = go (elemb x xs)
@@ -279,7 +243,7 @@ push_new_grows xs x = go (elemb x xs)
     go true = le_refl _
     go false = rw length-append (omega arith)
 
-pub fold_grows : (xs ys : List ℕ) → length xs ≤ length (foldl push_new xs ys)
+pub fold_grows : (xs ys : List ℕ) → length xs ≤ length (fold push_new xs ys)
 fold_grows xs [] = le_refl _
 fold_grows xs (y ∷ ys) =
     let h = push_new_grows xs y in
@@ -309,27 +273,27 @@ count_cut N n k xs e h = h ∙ ap (min n) (sym e) ∙ sym (length-take n xs)
 
 -- ---- a test of every element, and of each
 module _ {A : Type 0} (p : A → Bool) where
-  pub all_at : (xs : List A) (i : ℕ) (d : A) → allb p xs ≡ true → i < length xs → p (get_or xs i d) ≡ true
+  pub all_at : (xs : List A) (i : ℕ) (d : A) → list_all p xs ≡ true → i < length xs → p (get_or xs i d) ≡ true
   all_at [] i d h l = absurd (omega arith)
-  all_at (x ∷ xs) zero d h l = (and_split (p x) (allb p xs) h).0
-  all_at (x ∷ xs) (suc i) d h l = all_at xs i d (and_split (p x) (allb p xs) h).1 (omega arith)
+  all_at (x ∷ xs) zero d h l = (and_split (p x) (list_all p xs) h).0
+  all_at (x ∷ xs) (suc i) d h l = all_at xs i d (and_split (p x) (list_all p xs) h).1 (omega arith)
 
-  pub all_append : (xs ys : List A) → allb p xs ≡ true → allb p ys ≡ true → allb p (xs ++ ys) ≡ true
+  pub all_append : (xs ys : List A) → list_all p xs ≡ true → list_all p ys ≡ true → list_all p (xs ++ ys) ≡ true
   all_append [] ys h k = k
-  all_append (x ∷ xs) ys h k = let t = and_split (p x) (allb p xs) h in and_both t.0 (all_append xs ys t.1 k)
+  all_append (x ∷ xs) ys h k = let t = and_split (p x) (list_all p xs) h in and_both t.0 (all_append xs ys t.1 k)
 
-  pub all_snoc : (xs : List A) (x : A) → allb p xs ≡ true → p x ≡ true → allb p (xs ++ (x ∷ [])) ≡ true
+  pub all_snoc : (xs : List A) (x : A) → list_all p xs ≡ true → p x ≡ true → list_all p (xs ++ (x ∷ [])) ≡ true
   all_snoc xs x h k = all_append xs (x ∷ []) h (and_both k refl)
 
-  pub any_append : (xs ys : List A) → anyb p (xs ++ ys) ≡ (anyb p xs || anyb p ys)
+  pub any_append : (xs ys : List A) → list_any p (xs ++ ys) ≡ (list_any p xs || list_any p ys)
   any_append [] ys = refl
   any_append (x ∷ xs) ys = go (p x) (any_append xs ys)
     where
-      go : (b : Bool) → anyb p (xs ++ ys) ≡ (anyb p xs || anyb p ys) → (b || anyb p (xs ++ ys)) ≡ (b || anyb p xs || anyb p ys)
+      go : (b : Bool) → list_any p (xs ++ ys) ≡ (list_any p xs || list_any p ys) → (b || list_any p (xs ++ ys)) ≡ (b || list_any p xs || list_any p ys)
       go true h = refl
       go false h = h
 
-  pub any_same : (q : A → Bool) → ((x : A) → p x ≡ q x) → (xs : List A) → anyb p xs ≡ anyb q xs
+  pub any_same : (q : A → Bool) → ((x : A) → p x ≡ q x) → (xs : List A) → list_any p xs ≡ list_any q xs
   any_same q h [] = refl
   any_same q h (x ∷ xs) = λ i. h x i || any_same q h xs i
 
@@ -346,11 +310,6 @@ flat_append f [] ys = refl
 flat_append {B = B} f (x ∷ xs) ys = ap (λ (l : List B). f x ++ l) (flat_append f xs ys) ∙ sym (append_assoc (f x) (flat_map f xs) (flat_map f ys))
 
 -- ---- a loop that tests that each element is below the next: i are passed, and the rest starts at the last of them
-pub rising_turn : {w : Bool} (ok : Bool) {x y : ℕ} {rest rest' rest'' : List ℕ} → rest ≡ x ∷ rest' → rest' ≡ y ∷ rest'' → w ≡ (ok && risingb rest) → w ≡ (ok && ltb x y && risingb rest')
-rising_turn {w} ok {x} {y} {rest} {rest'} {rest''} e f h =
-    h ∙ ap (λ (l : List ℕ). ok && risingb l) (e ∙ ap (λ (l : List ℕ). x ∷ l) f) ∙ sym (and_assoc ok (ltb x y) (risingb (y ∷ rest'')))
-    ∙ ap (λ (l : List ℕ). ok && ltb x y && risingb l) (sym f)
-
 pub rising_short : (xs : List ℕ) → length xs ≤ 1 → risingb xs ≡ true
 rising_short [] h = refl
 rising_short (x ∷ []) h = refl

@@ -2,7 +2,8 @@
 use Rattle.std.specs.Prelude.{◌≡◌, refl, Bool, true, false, cond, not, ◌||◌, List, [], ◌∷◌, ◌++◌, map, ℕ, eqb}
 use Rattle.std.proofs.Common.{sym, ap, ◌∙◌, ne_eqb}
 use Rattle.std.proofs.lemmas.Bool.{not-true, eqb-false}
-use Rattle.base_lists.specs.Lists.{allb, filterb, flat_map, elemb, distinctb, push_new}
+use Rattle.base_lists.specs.Lists.{elemb, distinctb, push_new}
+use Rattle.std.specs.List.{list_all, filter, flat_map}
 use Rattle.base_lists.specs.Laws.{and_split, and_both, or-false, elem_append}
 
 pub data Sub {A : Type 0} : List A → List A → Type 0 where
@@ -24,18 +25,18 @@ module _ {A : Type 0} where
   sub_append (keep s) t = keep (sub_append s t)
   sub_append (skip s) t = skip (sub_append s t)
 
-  pub filter_sub : (p : A → Bool) (xs : List A) → Sub (filterb p xs) xs
+  pub filter_sub : (p : A → Bool) (xs : List A) → Sub (filter p xs) xs
   filter_sub p [] = done
   filter_sub p (x ∷ xs) = go (p x) (filter_sub p xs)
     where
-      go : (b : Bool) → Sub (filterb p xs) xs → Sub (cond b (x ∷ filterb p xs) (filterb p xs)) (x ∷ xs)
+      go : (b : Bool) → Sub (filter p xs) xs → Sub (cond b (x ∷ filter p xs) (filter p xs)) (x ∷ xs)
       go true s = keep s
       go false s = skip s
 
-  pub all_sub : (p : A → Bool) {xs ys : List A} → Sub xs ys → allb p ys ≡ true → allb p xs ≡ true
+  pub all_sub : (p : A → Bool) {xs ys : List A} → Sub xs ys → list_all p ys ≡ true → list_all p xs ≡ true
   all_sub p done h = refl
-  all_sub p (keep {x} {xs} {ys} s) h = let t = and_split (p x) (allb p ys) h in and_both t.0 (all_sub p s t.1)
-  all_sub p (skip {x} {xs} {ys} s) h = all_sub p s (and_split (p x) (allb p ys) h).1
+  all_sub p (keep {x} {xs} {ys} s) h = let t = and_split (p x) (list_all p ys) h in and_both t.0 (all_sub p s t.1)
+  all_sub p (skip {x} {xs} {ys} s) h = all_sub p s (and_split (p x) (list_all p ys) h).1
 
 module _ {A B : Type 0} where
   pub map_sub : (f : A → B) {xs ys : List A} → Sub xs ys → Sub (map f xs) (map f ys)

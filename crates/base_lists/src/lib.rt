@@ -2,109 +2,71 @@
 #![tactic(auto)]
 
 ghost use Rattle.std.specs.Prelude.{◌≡◌, min, ltb};
-ghost use Rattle.base_lists.specs.Lists.{allb, elemb, distinctb, risingb, is_zero, full_of};
+ghost use Rattle.base_lists.specs.Lists.{elemb, distinctb, risingb, is_zero, full_of};
+ghost use Rattle.std.specs.List.{list_all};
 ghost use Rattle.base_lists.specs.Bytes.{eqs};
 
 pub fn at_most(n: usize, most: usize) -> usize
     ensures { result ≡ min n most }
 {
-    if n < most { n } else { most }
+    n.min(most)
 }
 
 pub fn contains(s: &[u64], x: u64) -> bool
     ensures { result ≡ elemb x s.now }
 {
-    let mut i = 0;
-    while i < s.len() {
-        if s[i] == x {
-            return true;
-        }
-        i += 1;
-    }
-    false
+    s.contains(&x)
 }
 
 pub fn distinct(s: &[u64]) -> bool
     ensures { result ≡ distinctb s.now }
 {
-    let mut i = 0;
-    while i < s.len() {
-        let j = i + 1;
-        if contains(&s[j..], s[i]) {
+    for (i, x) in s.iter().enumerate() {
+        if contains(&s[i + 1..], *x) {
             return false;
         }
-        i = j;
     }
     true
 }
 
 pub fn all_below(s: &[u64], n: u64) -> bool
-    ensures { result ≡ allb (λ x. ltb x n) s.now }
+    ensures { result ≡ list_all (λ x. ltb x n) s.now }
 {
-    let mut ok = true;
-    let mut i = 0;
-    while i < s.len() {
-        ok = ok & (s[i] < n);
-        i += 1;
-    }
-    ok
+    s.iter().all(|x| *x < n)
 }
 
 // Each element is below the next.
 pub fn is_rising(s: &[u64]) -> bool
     ensures { result ≡ risingb s.now }
 {
-    let mut ok = true;
-    let mut i = 1;
-    while i < s.len() {
-        ok = ok & (s[i - 1] < s[i]);
-        i += 1;
+    for i in 1..s.len() {
+        if s[i] <= s[i - 1] {
+            return false;
+        }
     }
-    ok
+    true
 }
 
 pub fn zero_bytes(a: &[u8]) -> bool
-    ensures { result ≡ allb is_zero a.now }
+    ensures { result ≡ list_all is_zero a.now }
 {
-    let mut ok = true;
-    let mut i = 0;
-    while i < a.len() {
-        ok = ok & (a[i] == 0);
-        i += 1;
-    }
-    ok
+    a.iter().all(|x| *x == 0)
 }
 
-pub fn zero32(a: &[u8; 32]) -> bool
-    ensures { result ≡ full_of 32 is_zero a.now }
+pub fn zero_array<const N: usize>(a: &[u8; N]) -> bool
+    ensures { result ≡ full_of N is_zero a.now }
 {
     zero_bytes(a)
-}
-
-pub fn zero73(cell: &[u8; 73]) -> bool
-    ensures { result ≡ full_of 73 is_zero cell.now }
-{
-    zero_bytes(cell)
 }
 
 pub fn same(a: &[u8], b: &[u8]) -> bool
     ensures { result ≡ eqs a.now b.now }
 {
-    if a.len() != b.len() {
-        return false;
-    }
-    let mut i = 0;
-    while i < a.len() {
-        if a[i] != b[i] {
-            return false;
-        }
-        i += 1;
-    }
-    true
+    a == b
 }
 
 pub fn same32(a: &[u8; 32], b: &[u8; 32]) -> bool
     ensures { result ≡ eqs a.now b.now }
 {
-    same(a, b)
+    a == b
 }

@@ -1,15 +1,14 @@
 -- Laws of the definitions of specs/, as the proofs of the loops use them. Assumes nothing.
 use mathlib.Core.Path.{◌≡◌, refl, sym, ap, ◌∙◌}
 use mathlib.Core.List.{List, [], ◌∷◌, ◌++◌}
-use Prim.Native.Nat.{ℕ, suc, ◌+◌, ◌-◌, ◌*◌, ◌/◌, ◌%◌, ◌^◌, ◌≤◌, ◌<◌}
+use Prim.Native.Nat.{ℕ, min, suc, ◌+◌, ◌-◌, ◌*◌, ◌/◌, ◌%◌, ◌^◌, ◌≤◌, ◌<◌}
 use mathlib.Core.Logic.{⊎_elim}
 use native.Mathlib.Nat.{mod-add-div', add-mul-div_right, add-mul-mod_self_right, eq-zero-or-pos, eq-or-lt_of_le}
 use native.Mathlib.Numerals.{add-one}
 use native.Mathlib.Omega.{arith}
-use borrow.Author.Count.{below_more}
 use borrow.Author.Tests.{lt-ltb, le-ltb}
 use lib.ListN.{length, get_or, take, drop, set, replicate, length-append, length-replicate, length-take, length-drop, length-set, get_or-replicate, get_or-append}
-use lib.Seq.{take-suc-set, take_all, get_or-take, get_or-drop, get_or-append-add, get_or-set_same, get_or-set_other, ext_get_or, take-append-le, drop-append-le}
+use lib.Seq.{take-suc-set, get_or-take, get_or-drop, get_or-append-add, get_or-set_same, get_or-set_other, ext_get_or, take-append-le, drop-append-le, take_at, drop_at, drop-drop}
 use Rattle.base_sha256.specs.declared.State.{State}
 use Rattle.base_sha256.specs.Fips.{Words, rounds, schedule, word_at, next, hashed, compress, block_at, pad, be64, zeros, digest}
 use Rattle.base_sha256.specs.Code.{words_of, round_at, eight_at, padded, Unmarked, Behind, InBlock, digest_of}
@@ -35,10 +34,6 @@ module _ (k w : List ℕ) (s : Words) where
 pub hashed_more : (m : List ℕ) (n : ℕ) → hashed m (n + 1) ≡ compress (hashed m n) (block_at m n)
 unfolding hashed
 hashed_more m n = rw add-one
-
--- a list that is filled to its end
-pub filled : (t : ℕ) (w l : List ℕ) → length w ≤ t → take t w ≡ l → w ≡ l
-filled t w l h e = rw (← take_all t w h) e
 
 -- the schedule, of which a store adds a word
 module _ (b w : List ℕ) (t v : ℕ) (h : t < length w) (e : take t w ≡ schedule b t) where
@@ -126,35 +121,48 @@ module _ (s l : List ℕ) (end at : ℕ) (b : List ℕ) (h : length s < end) (u 
             (eq-or-lt_of_le g);
       }
 
--- the message's bytes, stored one by one
-module _ (m b : List ℕ) (at : ℕ) where
-  pub bytes_more : (j v : ℕ) → j < length b → v ≡ get_or m (at + j) 0 → ((k : ℕ) → k < j → get_or b k 0 ≡ get_or m (at + k) 0)
-      → (k : ℕ) → k < j + 1 → get_or (set b j v) k 0 ≡ get_or m (at + k) 0
-  bytes_more j v h q e =
-      below_more (λ (k : ℕ). get_or (set b j v) k 0 ≡ get_or m (at + k) 0) j (λ k i. get_or-set_other b j k v 0 (λ x. omega arith) ∙ e k i) (get_or-set_same b j v 0 h ∙ q)
+-- the message's bytes, in front of what lies behind them
+pub block_is : (m s b : List ℕ) (at j : ℕ) → at + 64 ≤ length m → Behind m (length s) at b → InBlock (length s) at j
+    → ((k : ℕ) → k < length s → get_or m k 0 ≡ get_or s k 0) → take j (drop (min at (length s)) s) ++ drop j b ≡ take 64 (drop at m)
+block_is m s b at j h u q e =
+    let front : List ℕ = take j (drop (min at (length s)) s) in
+    let z : length b ≡ 64 = u.size in
+    let f : length front ≡ j = simp (length-take, length-drop) (omega (arith, q.there)) in
+    let y : length (take 64 (drop at m)) ≡ 64 = simp (length-take, length-drop) (omega arith) in
+    ext_get_or 0 _ _ (simp (length-append, length-drop) (omega (arith, f, q.fits)) ∙ sym y)
+    (λ k i.
+    let l : k < 64 = omega (arith, i, f, length-append front (drop j b), length-drop j b, q.fits) in
+    ⊎_elim (λ d. behind k l (omega arith) f) (λ d. own k (omega arith) f) (eq-zero-or-pos (j - k))
+    ∙ sym (get_or-take 64 (drop at m) k 0 l ∙ get_or-drop at m k 0))
+  where
+    front : List ℕ
+    front = take j (drop (min at (length s)) s)
 
-  pub behind_more : (n j v : ℕ) → at + j < n → Behind m n at b → Behind m n at (set b j v)
-  behind_more n j v h u =
-      let z : length b ≡ 64 = u.size in
-      record { size = simp length-set z; bytes = λ k i g. get_or-set_other b j k v 0 (λ x. omega arith) ∙ u.bytes k i g }
+    own : (k : ℕ) → k < j → length front ≡ j → get_or (front ++ drop j b) k 0 ≡ get_or m (at + k) 0
+    own k i f =
+        let a : min at (length s) + k ≡ at + k = omega (arith, q.there) in
+        get_or-append front (drop j b) 0 k (omega arith) ∙ get_or-take j (drop (min at (length s)) s) k 0 i ∙ get_or-drop (min at (length s)) s k 0
+        ∙ ap (λ (i : ℕ). get_or s i 0) a ∙ sym (e (at + k) (omega (arith, q.there)))
 
-  pub block_is : (n j : ℕ) → at + 64 ≤ length m → Behind m n at b → InBlock n at j → ((k : ℕ) → k < j → get_or b k 0 ≡ get_or m (at + k) 0)
-      → b ≡ take 64 (drop at m)
-  block_is n j h u q e =
-      let z : length b ≡ 64 = u.size in
-      let y : length (take 64 (drop at m)) ≡ 64 = simp (length-take, length-drop) (omega arith) in
-      ext_get_or 0 b (take 64 (drop at m)) (z ∙ sym y)
-      (λ k i.
-      ⊎_elim (λ d. u.bytes k (omega arith) (q.all k (omega arith) (omega arith))) (λ d. e k (omega arith)) (eq-zero-or-pos (j - k))
-      ∙ sym (get_or-take 64 (drop at m) k 0 (omega arith) ∙ get_or-drop at m k 0))
+    behind : (k : ℕ) → k < 64 → j ≤ k → length front ≡ j → get_or (front ++ drop j b) k 0 ≡ get_or m (at + k) 0
+    behind k i g f =
+        let a : k ≡ length front + (k - j) = omega arith in
+        let d : j + (k - j) ≡ k = omega arith in
+        ap (λ (i : ℕ). get_or (front ++ drop j b) i 0) a ∙ get_or-append-add front (drop j b) (k - j) 0 ∙ get_or-drop j b (k - j) 0
+        ∙ ap (λ (i : ℕ). get_or b i 0) d ∙ u.bytes k i (q.all k i g)
 
--- a block that the message fills
-pub front_more : (s : List ℕ) (st r : Words) (k : ℕ) → k * 64 + 64 ≤ length s → st ≡ hashed (pad s) k → r ≡ compress st (take (k * 64 + 64 - k * 64) (drop (k * 64) s)) → r ≡ hashed (pad s) (k + 1)
+-- a block that the message fills: x, in front of r, where k blocks were taken
+pub front_more : (s x r : List ℕ) (k : ℕ) → drop (k * 64) s ≡ x ++ r → length x ≡ 64 → block_at (pad s) k ≡ x
 unfolding pad padded
-front_more s st r k h e q =
-    let d : k * 64 + 64 - k * 64 ≡ 64 = omega arith in
-    let i : 64 ≤ length (drop (k * 64) s) = simp length-drop (omega arith) in
-    rw (hashed_more, drop-append-le (k * 64) s _ (omega arith), take-append-le 64 (drop (k * 64) s) _ i, ← e) (rw d at q)
+front_more s x r k e l =
+    let n : k * 64 + 64 ≤ length s = omega (arith, ap length e, length-drop (k * 64) s, length-append x r) in
+    let i : 64 ≤ length (drop (k * 64) s) = omega (arith, length-drop (k * 64) s) in
+    rw (drop-append-le (k * 64) s _ (omega arith), take-append-le 64 (drop (k * 64) s) _ i, e) (take_at x r 64 l)
+
+pub front_rest : (s x r : List ℕ) (k : ℕ) → drop (k * 64) s ≡ x ++ r → length x ≡ 64 → r ≡ drop ((k + 1) * 64) s
+front_rest s x r k e l =
+    let q : k * 64 + 64 ≡ (k + 1) * 64 = omega arith in
+    sym (drop_at x r 64 l) ∙ ap (drop 64) (sym e) ∙ drop-drop 64 (k * 64) s ∙ ap (λ (i : ℕ). drop i s) q
 
 -- a byte of x modulo M, where the byte lies below M
 byte_mod : (x M a k : ℕ) → 0 < a → ((q : ℕ) → q * M ≡ q * k * 2 ^ 8 * a) → x % M / a % 2 ^ 8 ≡ x / a % 2 ^ 8

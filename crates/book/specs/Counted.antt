@@ -15,8 +15,3 @@ map_step {A} {B} n z f xs i d {out} e h k =
     ∙ ap (cells n z) (sym (map-append f (take i xs) (get_or xs i d ∷ [])) ∙ ap (map f) (sym (take-suc xs i d h) ∙ ap (λ (j : ℕ). take j xs) (sym (add-one i))))
 
 -- ---- a choice by a test
-pub chose_first : {A : Type 0} {t : Bool} {r x : A} (y : A) → t ≡ true → r ≡ x → r ≡ cond t x y
-chose_first {A} {t} {r} {x} y e h = h ∙ sym (ap (λ (s : Bool). cond s x y) e)
-
-pub chose_second : {A : Type 0} {t : Bool} {r y : A} (x : A) → t ≡ false → r ≡ y → r ≡ cond t x y
-chose_second {A} {t} {r} {y} x e h = h ∙ sym (ap (λ (s : Bool). cond s x y) e)

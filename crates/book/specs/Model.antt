@@ -4,11 +4,11 @@ use Rattle.base_lists.specs.Lists.{cells}
 use Rattle.book.specs.Zero.{zero_submitted, zero_delivery}
 use Rattle.book.specs.declared.Token.{Token}
 use Rattle.book.specs.declared.SubmissionId.{SubmissionId}
-use Rattle.book.specs.declared.OptionalHeight.{OptionalHeight}
+use Rattle.std.specs.Prelude.{Option}
+use Rattle.book.specs.declared.Height.{Height}
 use Rattle.book.specs.declared.SubmittedTx.{SubmittedTx}
 use Rattle.book.specs.declared.PendingDelivery.{PendingDelivery}
-use Rattle.book.specs.declared.Ids16.{Ids16}
-use Rattle.book.specs.declared.Ids64.{Ids64}
+use Rattle.book.specs.declared.Ids.{Ids}
 use Rattle.book.specs.declared.BookData.{BookData}
 
 -- the fields of the Rust's `SubmissionBook`, its vectors and sets as lists; ids as numbers
@@ -18,20 +18,15 @@ pub record Book : Type 0 where
   pub submitted : List SubmittedTx
   pub pending : List PendingDelivery
   pub retired : List ℕ
-  pub rollback : OptionalHeight
+  pub rollback : Option Height
   pub replayed : List ℕ
 
-abbrev pub list16 : Ids16 → List ℕ
-list16 x = take x.count x.items
+-- the ids that counted cells hold, and the cells of a list of ids
+abbrev pub id_list : {N : ℕ} → Ids N → List ℕ
+id_list x = take x.count x.items
 
-abbrev pub list64 : Ids64 → List ℕ
-list64 x = take x.count x.items
-
-abbrev pub ids16 : List ℕ → Ids16
-ids16 xs = record { count = length xs; items = cells 16 0 xs }
-
-abbrev pub ids64 : List ℕ → Ids64
-ids64 xs = record { count = length xs; items = cells 64 0 xs }
+abbrev pub id_cells : (N : ℕ) → List ℕ → Ids N
+id_cells N xs = record { count = length xs; items = cells N 0 xs }
 
 unfoldable pub view : BookData → Book
 view b = record {
@@ -39,9 +34,9 @@ view b = record {
   next_id = b.next_submission_id;
   submitted = take b.submitted_count b.submitted;
   pending = take b.pending_count b.pending_deliveries;
-  retired = list64 b.retired_submission_ids;
+  retired = id_list b.retired_submission_ids;
   rollback = b.replay_epoch.rollback_height;
-  replayed = list16 b.replay_epoch.replayed_submission_ids;
+  replayed = id_list b.replay_epoch.replayed_submission_ids;
 }
 
 unfoldable pub back : Book → BookData
@@ -53,6 +48,6 @@ back m = record {
   submitted = cells 16 zero_submitted m.submitted;
   pending_count = length m.pending;
   pending_deliveries = cells 16 zero_delivery m.pending;
-  retired_submission_ids = ids64 m.retired;
-  replay_epoch = record { rollback_height = m.rollback; replayed_submission_ids = ids16 m.replayed };
+  retired_submission_ids = id_cells 64 m.retired;
+  replay_epoch = record { rollback_height = m.rollback; replayed_submission_ids = id_cells 16 m.replayed };
 }

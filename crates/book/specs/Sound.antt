@@ -2,7 +2,8 @@
 -- readable; retirements distinct; replayed ids retained (the archive has them rising); every cell that a count or mark leaves
 -- unused is zero. That numbers are within their types and arrays of their lengths is the type's own matter.
 use Rattle.std.specs.Prelude.{Bool, true, false, cond, ◌&&◌, ◌||◌, List, [], ◌∷◌, ◌++◌, map, ℕ, leb, ltb, take}
-use Rattle.base_lists.specs.Lists.{allb, elemb, distinctb, risingb, flat_map, tail_of, is_zero}
+use Rattle.base_lists.specs.Lists.{elemb, distinctb, risingb, tail_of, is_zero}
+use Rattle.std.specs.List.{list_all, flat_map}
 use Rattle.book.specs.Zero.{is_zero32, is_zero_output, is_zero_spend, is_zero_hash, is_no_attempt, is_base_variant, is_zero_submitted, is_zero_delivery}
 use Rattle.book.specs.Model.{Book, view}
 use Rattle.book.specs.declared.Output.{Output}
@@ -40,11 +41,11 @@ outputs_of s = take s.output_count s.outputs
 
 unfoldable pub sound_bundle : SpendBundle → Bool
 unfolding is_zero_spend sound_spend
-sound_bundle b = leb b.count 4 && tail_of 4 is_zero_spend b.count b.spends && allb sound_spend (spends_of b)
+sound_bundle b = leb b.count 4 && tail_of 4 is_zero_spend b.count b.spends && list_all sound_spend (spends_of b)
 
 -- every run can be read: `expected_output_coins` succeeds
 unfoldable pub readable_bundle : SpendBundle → Bool
-readable_bundle b = allb (λ s. s.readable) (spends_of b)
+readable_bundle b = list_all (λ s. s.readable) (spends_of b)
 
 -- ---- parts
 abbrev pub is_attach : FeeIntentKind → Bool
@@ -114,9 +115,9 @@ tokens_of t = slot_tokens t.slots
 unfoldable pub sound_lists : Book → Bool
 unfolding sound_submitted sound_delivery
 sound_lists m =
-    allb sound_submitted m.submitted && distinctb (map id_of m.submitted) && distinctb (flat_map tokens_of m.submitted)
-    && allb (λ t. ltb t m.next_token.0) (flat_map tokens_of m.submitted) && allb sound_delivery m.pending && distinctb m.retired
-    && risingb m.replayed && allb (λ i. elemb i (map id_of m.submitted)) m.replayed
+    list_all sound_submitted m.submitted && distinctb (map id_of m.submitted) && distinctb (flat_map tokens_of m.submitted)
+    && list_all (λ t. ltb t m.next_token.0) (flat_map tokens_of m.submitted) && list_all sound_delivery m.pending && distinctb m.retired
+    && risingb m.replayed && list_all (λ i. elemb i (map id_of m.submitted)) m.replayed
 
 -- counts within their limits, and zero behind them
 unfoldable pub sound_cells : BookData → Bool

@@ -1,7 +1,8 @@
 -- What soundness gives, and what gives it.
 use Rattle.std.specs.Prelude.{◌≡◌, refl, Bool, true, ◌||◌, List, [], ◌∷◌, map, ℕ, ◌≤◌, leb, ltb, length, take}
 use Rattle.std.proofs.Common.{ap, ◌∙◌, arith, le-leb, leb-true, length-take-le}
-use Rattle.base_lists.specs.Lists.{allb, elemb, distinctb, flat_map, cells, tail_of, is_zero, risingb}
+use Rattle.base_lists.specs.Lists.{elemb, distinctb, cells, tail_of, is_zero, risingb}
+use Rattle.std.specs.List.{list_all, flat_map}
 use Rattle.base_lists.specs.Laws.{trues, and_split, and_both, cells_take, tail_length, take_cells, tail_cells}
 use Rattle.book.specs.Zero.{zero_output, zero_spend, zero_submitted, zero_delivery, is_zero_output, is_zero_spend, is_zero_submitted, is_zero_delivery}
 use Rattle.book.specs.ZeroLaws.{number_zero, output_zero, spend_zero, submitted_zero, delivery_zero, submitted_zero_is, delivery_zero_is}
@@ -48,12 +49,12 @@ sound_spend_lem s h =
 
 pub record SoundBundle (b : SpendBundle) : Type 0 where
   pub spends : InCells 4 zero_spend b.count b.spends
-  pub each : allb sound_spend (spends_of b) ≡ true
+  pub each : list_all sound_spend (spends_of b) ≡ true
 
 pub sound_bundle_lem : (b : SpendBundle) → sound_bundle b ≡ true → SoundBundle b
 unfolding sound_bundle
 sound_bundle_lem b h =
-    let t = trues (leb b.count 4) (tail_of 4 is_zero_spend b.count b.spends ∷ allb sound_spend (spends_of b) ∷ []) h in
+    let t = trues (leb b.count 4) (tail_of 4 is_zero_spend b.count b.spends ∷ list_all sound_spend (spends_of b) ∷ []) h in
     record { spends = in_cells 4 zero_spend is_zero_spend spend_zero b.count b.spends t.0 t.1.0; each = t.1.1.0 }
 
 -- ---- submissions
@@ -112,22 +113,22 @@ submitted_sound t s = and_both s.slots s.entry
 
 -- ---- the rules over the lists of a book
 pub record SoundLists (m : Book) : Type 0 where
-  pub submitted : allb sound_submitted m.submitted ≡ true
+  pub submitted : list_all sound_submitted m.submitted ≡ true
   pub ids : distinctb (map id_of m.submitted) ≡ true
   pub tokens : distinctb (flat_map tokens_of m.submitted) ≡ true
-  pub below : allb (λ t. ltb t m.next_token.0) (flat_map tokens_of m.submitted) ≡ true
-  pub pending : allb sound_delivery m.pending ≡ true
+  pub below : list_all (λ t. ltb t m.next_token.0) (flat_map tokens_of m.submitted) ≡ true
+  pub pending : list_all sound_delivery m.pending ≡ true
   pub retired : distinctb m.retired ≡ true
   pub rising : risingb m.replayed ≡ true
-  pub replayed : allb (λ i. elemb i (map id_of m.submitted)) m.replayed ≡ true
+  pub replayed : list_all (λ i. elemb i (map id_of m.submitted)) m.replayed ≡ true
 
 pub sound_lists_lem : (m : Book) → sound_lists m ≡ true → SoundLists m
 unfolding sound_lists
 sound_lists_lem m h =
-    let t = trues (allb sound_submitted m.submitted)
+    let t = trues (list_all sound_submitted m.submitted)
     (distinctb (map id_of m.submitted) ∷ distinctb (flat_map tokens_of m.submitted)
-    ∷ allb (λ t. ltb t m.next_token.0) (flat_map tokens_of m.submitted) ∷ allb sound_delivery m.pending ∷ distinctb m.retired
-    ∷ risingb m.replayed ∷ allb (λ i. elemb i (map id_of m.submitted)) m.replayed ∷ []) h in
+    ∷ list_all (λ t. ltb t m.next_token.0) (flat_map tokens_of m.submitted) ∷ list_all sound_delivery m.pending ∷ distinctb m.retired
+    ∷ risingb m.replayed ∷ list_all (λ i. elemb i (map id_of m.submitted)) m.replayed ∷ []) h in
     record {
       submitted = t.0;
       ids = t.1.0;

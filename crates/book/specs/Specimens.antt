@@ -1,6 +1,6 @@
 -- Soundness on small books, by evaluation.
 use Rattle.std.specs.Prelude.{◌≡◌, refl, true, false, List, [], ◌∷◌, ℕ}
-use Rattle.book.specs.declared.OptionalHeight.TheVariants.{NoHeight}
+use Rattle.std.specs.Prelude.{None}
 use Rattle.book.specs.declared.OptionalAttempt.{OptionalAttempt}
 use Rattle.book.specs.declared.SubmittedTx.{SubmittedTx}
 use Rattle.book.specs.Zero.{zero_attempt, no_attempt, zero_entry}
@@ -15,7 +15,7 @@ abbrev live : OptionalAttempt
 live = record { present = true; attempt = zero_attempt }
 
 abbrev book_of : ℕ → List SubmittedTx → List ℕ → Book
-book_of next ts replayed = record { next_token = record { 0 = next }; next_id = record { 0 = 1 }; submitted = ts; pending = []; retired = 7 ∷ []; rollback = NoHeight; replayed = replayed }
+book_of next ts replayed = record { next_token = record { 0 = next }; next_id = record { 0 = 1 }; submitted = ts; pending = []; retired = 7 ∷ []; rollback = None; replayed = replayed }
 
 one_live : soundb (back (book_of 1 (submission live ∷ []) (0 ∷ []))) ≡ true
 unfolding soundb back no_attempt

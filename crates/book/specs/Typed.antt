@@ -3,10 +3,8 @@ use Rattle.std.specs.Prelude.{◌≡◌, List, [], ◌∷◌, ℕ, ◌<◌, ◌^
 use Rattle.book.specs.declared.Token.{Token}
 use Rattle.book.specs.declared.SubmissionId.{SubmissionId}
 use Rattle.book.specs.declared.Height.{Height}
-use Rattle.book.specs.declared.OptionalHeight.{OptionalHeight}
-use Rattle.book.specs.declared.OptionalHeight.TheVariants.{NoHeight, At}
-use Rattle.book.specs.declared.OptionalId.{OptionalId}
-use Rattle.book.specs.declared.OptionalId.TheVariants.{NoId, Of}
+use Rattle.std.specs.Prelude.{Option}
+use Rattle.std.specs.Prelude.{None, Some}
 use Rattle.book.specs.declared.Output.{Output}
 use Rattle.book.specs.declared.CoinSpend.{CoinSpend}
 use Rattle.book.specs.declared.SpendBundle.{SpendBundle}
@@ -23,8 +21,7 @@ use Rattle.book.specs.declared.SubmittedEntry.{SubmittedEntry}
 use Rattle.book.specs.declared.SubmittedTx.{SubmittedTx}
 use Rattle.book.specs.declared.PendingSubmissionIntent.{PendingSubmissionIntent}
 use Rattle.book.specs.declared.PendingDelivery.{PendingDelivery}
-use Rattle.book.specs.declared.Ids16.{Ids16}
-use Rattle.book.specs.declared.Ids64.{Ids64}
+use Rattle.book.specs.declared.Ids.{Ids}
 use Rattle.book.specs.declared.ReplayEpoch.{ReplayEpoch}
 use Rattle.book.specs.declared.BookData.{BookData}
 
@@ -57,13 +54,13 @@ TypedId i = U64 i.0
 abbrev pub TypedHeight : Height → Type 0
 TypedHeight h = U64 h.0
 
-abbrev pub TypedOptionalHeight : OptionalHeight → Type 0
-TypedOptionalHeight NoHeight = Unit {0}
-TypedOptionalHeight (At h) = TypedHeight h
+abbrev pub TypedOptionalHeight : Option Height → Type 0
+TypedOptionalHeight None = Unit {0}
+TypedOptionalHeight (Some h) = TypedHeight h
 
-abbrev pub TypedOptionalId : OptionalId → Type 0
-TypedOptionalId NoId = Unit {0}
-TypedOptionalId (Of i) = TypedId i
+abbrev pub TypedOptionalId : Option SubmissionId → Type 0
+TypedOptionalId None = Unit {0}
+TypedOptionalId (Some i) = TypedId i
 
 pub record TypedOutput (o : Output) : Type 0 where
   pub hash : Bytes 32 o.puzzle_hash
@@ -134,17 +131,13 @@ pub record TypedIntent (p : PendingSubmissionIntent) : Type 0 where
 abbrev pub TypedDelivery : PendingDelivery → Type 0
 TypedDelivery d = TypedIntent d.intent
 
-pub record TypedIds16 (x : Ids16) : Type 0 where
+pub record TypedIds (N : ℕ) (x : Ids N) : Type 0 where
   pub count : U64 x.count
-  pub items : Array 16 U64 x.items
-
-pub record TypedIds64 (x : Ids64) : Type 0 where
-  pub count : U64 x.count
-  pub items : Array 64 U64 x.items
+  pub items : Array N U64 x.items
 
 pub record TypedReplay (r : ReplayEpoch) : Type 0 where
   pub rollback : TypedOptionalHeight r.rollback_height
-  pub replayed : TypedIds16 r.replayed_submission_ids
+  pub replayed : TypedIds 16 r.replayed_submission_ids
 
 pub record Typed (b : BookData) : Type 0 where
   pub next_token : TypedToken b.next_delivery_attempt_token
@@ -153,5 +146,5 @@ pub record Typed (b : BookData) : Type 0 where
   pub submitted : Array 16 TypedSubmitted b.submitted
   pub pending_count : U64 b.pending_count
   pub pending : Array 16 TypedDelivery b.pending_deliveries
-  pub retired : TypedIds64 b.retired_submission_ids
+  pub retired : TypedIds 64 b.retired_submission_ids
   pub replay : TypedReplay b.replay_epoch

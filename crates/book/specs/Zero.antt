@@ -1,10 +1,10 @@
 -- The zero of each part, which every unused cell holds, and the test for it.
 use Rattle.std.specs.Prelude.{Bool, true, false, not, ◌&&◌, List, ℕ, replicate}
 use Rattle.base_lists.specs.Lists.{full_of, is_zero}
-use Rattle.book.specs.declared.OptionalHeight.{OptionalHeight}
-use Rattle.book.specs.declared.OptionalHeight.TheVariants.{NoHeight, At}
-use Rattle.book.specs.declared.OptionalId.{OptionalId}
-use Rattle.book.specs.declared.OptionalId.TheVariants.{NoId, Of}
+use Rattle.std.specs.Prelude.{Option, is_none}
+use Rattle.book.specs.declared.Height.{Height}
+use Rattle.std.specs.Prelude.{None, Some}
+use Rattle.book.specs.declared.SubmissionId.{SubmissionId}
 use Rattle.book.specs.declared.Output.{Output}
 use Rattle.book.specs.declared.CoinSpend.{CoinSpend}
 use Rattle.book.specs.declared.SpendBundle.{SpendBundle}
@@ -74,7 +74,7 @@ unfolding zero_bundle zero_fee_intent
 zero_retained_intent = record { intent_fingerprint = zeros 32; base_bundle = zero_bundle; fee_intent = zero_fee_intent }
 
 unfoldable pub zero_status : SubmissionStatus
-zero_status = record { fee_resolution = Unresolved; chain_terminality = Active; expiry = NoHeight }
+zero_status = record { fee_resolution = Unresolved; chain_terminality = Active; expiry = None }
 
 unfoldable pub zero_state : SubmissionState
 unfolding base_variant zero_hash zero_status
@@ -90,7 +90,7 @@ zero_submitted = record { slots = no_slots; entry = zero_entry }
 
 unfoldable pub zero_intent : PendingSubmissionIntent
 unfolding zero_bundle zero_fee_intent
-zero_intent = record { id = NoId; bundle = zero_bundle; expiry = NoHeight; fee_intent = zero_fee_intent }
+zero_intent = record { id = None; bundle = zero_bundle; expiry = None; fee_intent = zero_fee_intent }
 
 unfoldable pub zero_delivery : PendingDelivery
 unfolding zero_intent
@@ -138,14 +138,6 @@ is_unresolved Unresolved = true
 is_unresolved NotRequested = false
 is_unresolved Attached = false
 
-abbrev pub is_no_height : OptionalHeight → Bool
-is_no_height NoHeight = true
-is_no_height (At h) = false
-
-abbrev pub is_no_id : OptionalId → Bool
-is_no_id NoId = true
-is_no_id (Of i) = false
-
 unfoldable pub is_zero_fee_intent : SubmissionFeeIntent → Bool
 is_zero_fee_intent f = is_already_paid f.kind && is_zero f.amount && is_zero32 f.target
 
@@ -175,7 +167,7 @@ unfolding is_zero_bundle is_zero_fee_intent
 is_zero_retained_intent p = is_zero32 p.intent_fingerprint && is_zero_bundle p.base_bundle && is_zero_fee_intent p.fee_intent
 
 unfoldable pub is_zero_status : SubmissionStatus → Bool
-is_zero_status s = is_unresolved s.fee_resolution && is_active s.chain_terminality && is_no_height s.expiry
+is_zero_status s = is_unresolved s.fee_resolution && is_active s.chain_terminality && is_none s.expiry
 
 unfoldable pub is_zero_state : SubmissionState → Bool
 unfolding is_base_variant is_zero_hash is_zero_status
@@ -191,7 +183,7 @@ is_zero_submitted t = is_no_slots t.slots && is_zero_entry t.entry
 
 unfoldable pub is_zero_intent : PendingSubmissionIntent → Bool
 unfolding is_zero_bundle is_zero_fee_intent
-is_zero_intent p = is_no_id p.id && is_zero_bundle p.bundle && is_no_height p.expiry && is_zero_fee_intent p.fee_intent
+is_zero_intent p = is_none p.id && is_zero_bundle p.bundle && is_none p.expiry && is_zero_fee_intent p.fee_intent
 
 unfoldable pub is_zero_delivery : PendingDelivery → Bool
 unfolding is_zero_intent

@@ -4,10 +4,10 @@ use Rattle.std.proofs.lemmas.Bool.{false≢true, not-true}
 use Rattle.std.proofs.Common.{eqb-true}
 use Rattle.base_lists.specs.Lists.{full_of, is_zero}
 use Rattle.base_lists.specs.Laws.{and_split, trues, full_eq}
-use Rattle.book.specs.declared.OptionalHeight.{OptionalHeight}
-use Rattle.book.specs.declared.OptionalHeight.TheVariants.{NoHeight, At}
-use Rattle.book.specs.declared.OptionalId.{OptionalId}
-use Rattle.book.specs.declared.OptionalId.TheVariants.{NoId, Of}
+use Rattle.std.specs.Prelude.{Option}
+use Rattle.book.specs.declared.Height.{Height}
+use Rattle.std.specs.Prelude.{None, Some}
+use Rattle.book.specs.declared.SubmissionId.{SubmissionId}
 use Rattle.book.specs.declared.Output.{Output}
 use Rattle.book.specs.declared.CoinSpend.{CoinSpend}
 use Rattle.book.specs.declared.SpendBundle.{SpendBundle}
@@ -34,7 +34,8 @@ use Rattle.book.specs.declared.SubmittedEntry.{SubmittedEntry}
 use Rattle.book.specs.declared.SubmittedTx.{SubmittedTx}
 use Rattle.book.specs.declared.PendingSubmissionIntent.{PendingSubmissionIntent}
 use Rattle.book.specs.declared.PendingDelivery.{PendingDelivery}
-use Rattle.book.specs.Zero.{zeros, zero_output, zero_spend, zero_bundle, zero_fee_intent, zero_hash, zero_attempt, no_attempt, no_slots, base_variant, zero_retained_intent, zero_status, zero_state, zero_entry, zero_submitted, zero_intent, zero_delivery, is_zero32, is_zero_output, is_zero_spend, is_zero_bundle, is_already_paid, is_ensure_broadcast, is_protocol, is_active, is_unresolved, is_no_height, is_no_id, is_zero_fee_intent, is_zero_hash, is_zero_attempt, is_no_attempt, is_no_slots, is_base_variant, is_zero_retained_intent, is_zero_status, is_zero_state, is_zero_entry, is_zero_submitted, is_zero_intent, is_zero_delivery}
+use Rattle.book.specs.Zero.{zeros, zero_output, zero_spend, zero_bundle, zero_fee_intent, zero_hash, zero_attempt, no_attempt, no_slots, base_variant, zero_retained_intent, zero_status, zero_state, zero_entry, zero_submitted, zero_intent, zero_delivery, is_zero32, is_zero_output, is_zero_spend, is_zero_bundle, is_already_paid, is_ensure_broadcast, is_protocol, is_active, is_unresolved, is_zero_fee_intent, is_zero_hash, is_zero_attempt, is_no_attempt, is_no_slots, is_base_variant, is_zero_retained_intent, is_zero_status, is_zero_state, is_zero_entry, is_zero_submitted, is_zero_intent, is_zero_delivery}
+use Rattle.std.specs.Prelude.{is_none}
 
 pub number_zero : (x : ℕ) → is_zero x ≡ true → x ≡ 0
 number_zero x h = eqb-true x 0 h
@@ -68,13 +69,13 @@ resolution_zero Unresolved h = refl
 resolution_zero NotRequested h = absurd (false≢true h)
 resolution_zero Attached h = absurd (false≢true h)
 
-pub height_zero : (o : OptionalHeight) → is_no_height o ≡ true → o ≡ NoHeight
-height_zero NoHeight h = refl
-height_zero (At x) h = absurd (false≢true h)
+pub height_zero : (o : Option Height) → is_none o ≡ true → o ≡ None
+height_zero None h = refl
+height_zero (Some x) h = absurd (false≢true h)
 
-pub id_zero : (o : OptionalId) → is_no_id o ≡ true → o ≡ NoId
-id_zero NoId h = refl
-id_zero (Of x) h = absurd (false≢true h)
+pub id_zero : (o : Option SubmissionId) → is_none o ≡ true → o ≡ None
+id_zero None h = refl
+id_zero (Some x) h = absurd (false≢true h)
 
 -- ---- only the zero passes
 pub output_zero : (o : Output) → is_zero_output o ≡ true → o ≡ zero_output
@@ -156,7 +157,7 @@ retained_intent_zero p h =
 pub status_zero : (s : SubmissionStatus) → is_zero_status s ≡ true → s ≡ zero_status
 unfolding is_zero_status zero_status
 status_zero s h =
-    let t = trues (is_unresolved s.fee_resolution) (is_active s.chain_terminality ∷ is_no_height s.expiry ∷ []) h in
+    let t = trues (is_unresolved s.fee_resolution) (is_active s.chain_terminality ∷ is_none s.expiry ∷ []) h in
     λ i. record { fee_resolution = resolution_zero s.fee_resolution t.0 i; chain_terminality = chain_zero s.chain_terminality t.1.0 i; expiry = height_zero s.expiry t.1.1.0 i }
 
 pub state_zero : (s : SubmissionState) → is_zero_state s ≡ true → s ≡ zero_state
@@ -188,7 +189,7 @@ submitted_zero x h =
 pub intent_zero : (p : PendingSubmissionIntent) → is_zero_intent p ≡ true → p ≡ zero_intent
 unfolding is_zero_intent zero_intent
 intent_zero p h =
-    let t = trues (is_no_id p.id) (is_zero_bundle p.bundle ∷ is_no_height p.expiry ∷ is_zero_fee_intent p.fee_intent ∷ []) h in
+    let t = trues (is_none p.id) (is_zero_bundle p.bundle ∷ is_none p.expiry ∷ is_zero_fee_intent p.fee_intent ∷ []) h in
     λ i. record { id = id_zero p.id t.0 i; bundle = bundle_zero p.bundle t.1.0 i; expiry = height_zero p.expiry t.1.1.0 i; fee_intent = fee_intent_zero p.fee_intent t.1.1.1.0 i }
 
 pub delivery_zero : (d : PendingDelivery) → is_zero_delivery d ≡ true → d ≡ zero_delivery

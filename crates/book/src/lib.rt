@@ -1,33 +1,20 @@
 // The book as plain data. Names are those of the Rust where it has them.
 // An optional part is a mark with its cell beside it, and a cell that a mark or a count leaves unused is zero;
-// an optional number is an enum.
+// an optional number is an `Option`.
 #![tactic(auto)]
 
-mod kinds;
 pub mod refusals;
 pub mod zero;
 
 // An attempt token, a submission id and a height are types of their own, so that none is taken for another.
-#[derive(Clone, Copy)]
+#[derive(Clone, Copy, PartialEq, Eq, PartialOrd, Ord)]
 pub struct Token(pub u64);
 
-#[derive(Clone, Copy)]
+#[derive(Clone, Copy, PartialEq, Eq, PartialOrd, Ord)]
 pub struct SubmissionId(pub u64);
 
-#[derive(Clone, Copy)]
+#[derive(Clone, Copy, PartialEq, Eq, PartialOrd, Ord)]
 pub struct Height(pub u64);
-
-#[derive(Clone, Copy)]
-pub enum OptionalHeight {
-    NoHeight,
-    At(Height),
-}
-
-#[derive(Clone, Copy)]
-pub enum OptionalId {
-    NoId,
-    Of(SubmissionId),
-}
 
 // A coin that a spend makes.
 #[derive(Clone, Copy)]
@@ -53,7 +40,7 @@ pub struct SpendBundle {
     pub spends: [CoinSpend; 4],
 }
 
-#[derive(Clone, Copy)]
+#[derive(Clone, Copy, PartialEq, Eq)]
 pub enum FeeIntentKind {
     AlreadyPaid,
     NoFeeConfigured,
@@ -68,13 +55,13 @@ pub struct SubmissionFeeIntent {
     pub amount: u64,
 }
 
-#[derive(Clone, Copy)]
+#[derive(Clone, Copy, PartialEq, Eq)]
 pub enum SubmissionDeliveryGoal {
     EnsureBroadcast,
     FeeUpgrade,
 }
 
-#[derive(Clone, Copy)]
+#[derive(Clone, Copy, PartialEq, Eq)]
 pub enum DeliveryTrigger {
     Protocol,
     FreshChain,
@@ -82,7 +69,7 @@ pub enum DeliveryTrigger {
     ProviderReadiness,
 }
 
-#[derive(Clone, Copy)]
+#[derive(Clone, Copy, PartialEq, Eq)]
 pub enum SubmissionChainTerminality {
     Active,
     InputSpent,
@@ -90,7 +77,7 @@ pub enum SubmissionChainTerminality {
 }
 
 // The Rust's `DurableFeeIntent` and `FeeResolution` in one mark.
-#[derive(Clone, Copy)]
+#[derive(Clone, Copy, PartialEq, Eq)]
 pub enum FeeResolution {
     Unresolved,
     NotRequested,
@@ -143,7 +130,7 @@ pub struct RetainedIntent {
 // What is revised of a submission and is no array. The expiry comes first, so that no byte of padding stands before a mark.
 #[derive(Clone, Copy)]
 pub struct SubmissionStatus {
-    pub expiry: OptionalHeight,
+    pub expiry: Option<Height>,
     pub fee_resolution: FeeResolution,
     pub chain_terminality: SubmissionChainTerminality,
 }
@@ -172,9 +159,9 @@ pub struct SubmittedTx {
 
 #[derive(Clone, Copy)]
 pub struct PendingSubmissionIntent {
-    pub id: OptionalId,
+    pub id: Option<SubmissionId>,
     pub bundle: SpendBundle,
-    pub expiry: OptionalHeight,
+    pub expiry: Option<Height>,
     pub fee_intent: SubmissionFeeIntent,
 }
 
@@ -185,23 +172,17 @@ pub struct PendingDelivery {
     pub goal: SubmissionDeliveryGoal,
 }
 
-// Up to 16 and up to 64 submission ids.
+// Up to N submission ids.
 #[derive(Clone, Copy)]
-pub struct Ids16 {
+pub struct Ids<const N: usize> {
     pub count: usize,
-    pub items: [u64; 16],
-}
-
-#[derive(Clone, Copy)]
-pub struct Ids64 {
-    pub count: usize,
-    pub items: [u64; 64],
+    pub items: [u64; N],
 }
 
 #[derive(Clone, Copy)]
 pub struct ReplayEpoch {
-    pub rollback_height: OptionalHeight,
-    pub replayed_submission_ids: Ids16,
+    pub rollback_height: Option<Height>,
+    pub replayed_submission_ids: Ids<16>,
 }
 
 // The fields of the Rust's `SubmissionBook`.
@@ -213,6 +194,6 @@ pub struct BookData {
     pub submitted: [SubmittedTx; 16],
     pub pending_count: usize,
     pub pending_deliveries: [PendingDelivery; 16],
-    pub retired_submission_ids: Ids64,
+    pub retired_submission_ids: Ids<64>,
     pub replay_epoch: ReplayEpoch,
 }

@@ -1,18 +1,20 @@
 // The zero of each part, and the test for it.
-ghost use Rattle.std.specs.Prelude.{◌≡◌};
+ghost use Rattle.std.specs.Prelude.{◌≡◌, drop};
+ghost use Rattle.std.specs.List.{list_all};
 ghost use Rattle.base_lists.specs.Lists.{tail_of};
 ghost use Rattle.book.specs.Zero.{zero_output, zero_spend, zero_bundle, zero_fee_intent, zero_hash, zero_attempt, no_attempt, no_slots, base_variant, zero_retained_intent, zero_status, zero_state, zero_entry, zero_submitted, zero_intent, zero_delivery, is_zero_output, is_zero_spend, is_zero_bundle, is_zero_fee_intent, is_zero_hash, is_zero_attempt, is_no_attempt, is_no_slots, is_base_variant, is_zero_retained_intent, is_zero_status, is_zero_state, is_zero_entry, is_zero_submitted, is_zero_intent, is_zero_delivery};
 
 use crate::{
     AttemptSlots, CoinSpend, DeliveryAttempt, DeliveryTrigger, FeeIntentKind, FeeResolution,
-    OptionalAttempt, OptionalHash, OptionalHeight, OptionalId, Output, PendingDelivery,
-    PendingSubmissionIntent, RetainedIntent, SpendBundle, SubmissionBroadcastVariant,
-    SubmissionChainTerminality, SubmissionDeliveryGoal, SubmissionFeeIntent, SubmissionId,
-    SubmissionState, SubmissionStatus, SubmittedEntry, SubmittedTx, Token,
+    OptionalAttempt, OptionalHash, Output, PendingDelivery, PendingSubmissionIntent,
+    RetainedIntent, SpendBundle, SubmissionBroadcastVariant, SubmissionChainTerminality,
+    SubmissionDeliveryGoal, SubmissionFeeIntent, SubmissionId, SubmissionState, SubmissionStatus,
+    SubmittedEntry, SubmittedTx, Token,
 };
-use base_lists::{zero32, zero73};
+use base_lists::zero_array;
 
 impl Output {
+    #[tactic(auto, unfolding(crate::specs::Zero::zero_output))]
     pub fn zero() -> Output
         ensures { result ≡ zero_output }
     {
@@ -22,92 +24,91 @@ impl Output {
         }
     }
 
-    pub fn is_zero(self) -> bool
-        ensures { result ≡ is_zero_output self }
+    #[tactic(auto, unfolding(crate::specs::Zero::is_zero_output))]
+    pub fn is_zero(&self) -> bool
+        ensures { result ≡ is_zero_output self.now }
     {
-        let hash = self.puzzle_hash;
-        let h = zero32(&hash);
-        (self.amount == 0) & h
+        zero_array(&self.puzzle_hash) && self.amount == 0
     }
+}
+
+fn zero_outputs_from(s: &[Output], n: usize) -> bool
+    ensures { result ≡ list_all is_zero_output (drop n s.now) }
+{
+    s.iter().skip(n).all(Output::is_zero)
 }
 
 // The outputs from n on are zero.
-pub fn zero_outputs(a: [Output; 4], n: usize) -> bool
-    ensures { result ≡ tail_of 4 is_zero_output n a }
+#[tactic(auto, using(base_lists::specs::Laws::tail_of_lem))]
+pub fn zero_outputs(a: &[Output; 4], n: usize) -> bool
+    ensures { result ≡ tail_of 4 is_zero_output n a.now }
 {
-    let mut ok = true;
-    let mut i = n;
-    while i < 4 {
-        let x = a[i];
-        ok = ok & x.is_zero();
-        i += 1;
-    }
-    ok
+    zero_outputs_from(a, n)
 }
 
 impl CoinSpend {
+    #[tactic(auto, unfolding(crate::specs::Zero::zero_spend))]
     pub fn zero() -> CoinSpend
         ensures { result ≡ zero_spend }
     {
-        let o = Output::zero();
         CoinSpend {
             coin_len: 0,
             coin: [0; 73],
             digest: [0; 32],
             readable: false,
             output_count: 0,
-            outputs: [o; 4],
+            outputs: [Output::zero(); 4],
         }
     }
 
-    pub fn is_zero(self) -> bool
-        ensures { result ≡ is_zero_spend self }
+    #[tactic(auto, unfolding(crate::specs::Zero::is_zero_spend))]
+    pub fn is_zero(&self) -> bool
+        ensures { result ≡ is_zero_spend self.now }
     {
-        let coin = self.coin;
-        let digest = self.digest;
-        let outputs = self.outputs;
-        let c = zero73(&coin);
-        let d = zero32(&digest);
-        let o = zero_outputs(outputs, 0);
-        (self.coin_len == 0) & !self.readable & (self.output_count == 0) & c & d & o
+        self.coin_len == 0
+            && !self.readable
+            && self.output_count == 0
+            && zero_array(&self.coin)
+            && zero_array(&self.digest)
+            && zero_outputs(&self.outputs, 0)
     }
+}
+
+fn zero_spends_from(s: &[CoinSpend], n: usize) -> bool
+    ensures { result ≡ list_all is_zero_spend (drop n s.now) }
+{
+    s.iter().skip(n).all(CoinSpend::is_zero)
 }
 
 // The spends from n on are zero.
-pub fn zero_spends(a: [CoinSpend; 4], n: usize) -> bool
-    ensures { result ≡ tail_of 4 is_zero_spend n a }
+#[tactic(auto, using(base_lists::specs::Laws::tail_of_lem))]
+pub fn zero_spends(a: &[CoinSpend; 4], n: usize) -> bool
+    ensures { result ≡ tail_of 4 is_zero_spend n a.now }
 {
-    let mut ok = true;
-    let mut i = n;
-    while i < 4 {
-        let x = a[i];
-        ok = ok & x.is_zero();
-        i += 1;
-    }
-    ok
+    zero_spends_from(a, n)
 }
 
 impl SpendBundle {
+    #[tactic(auto, unfolding(crate::specs::Zero::zero_bundle))]
     pub fn zero() -> SpendBundle
         ensures { result ≡ zero_bundle }
     {
-        let s = CoinSpend::zero();
         SpendBundle {
             count: 0,
-            spends: [s; 4],
+            spends: [CoinSpend::zero(); 4],
         }
     }
 
-    pub fn is_zero(self) -> bool
-        ensures { result ≡ is_zero_bundle self }
+    #[tactic(auto, unfolding(crate::specs::Zero::is_zero_bundle))]
+    pub fn is_zero(&self) -> bool
+        ensures { result ≡ is_zero_bundle self.now }
     {
-        let spends = self.spends;
-        let s = zero_spends(spends, 0);
-        (self.count == 0) & s
+        self.count == 0 && zero_spends(&self.spends, 0)
     }
 }
 
 impl SubmissionFeeIntent {
+    #[tactic(auto, unfolding(crate::specs::Zero::zero_fee_intent))]
     pub fn zero() -> SubmissionFeeIntent
         ensures { result ≡ zero_fee_intent }
     {
@@ -118,18 +119,16 @@ impl SubmissionFeeIntent {
         }
     }
 
-    pub fn is_zero(self) -> bool
-        ensures { result ≡ is_zero_fee_intent self }
+    #[tactic(auto, unfolding(crate::specs::Zero::is_zero_fee_intent))]
+    pub fn is_zero(&self) -> bool
+        ensures { result ≡ is_zero_fee_intent self.now }
     {
-        let kind = self.kind;
-        let target = self.target;
-        let k = kind.is_already_paid();
-        let t = zero32(&target);
-        k & (self.amount == 0) & t
+        self.kind == FeeIntentKind::AlreadyPaid && self.amount == 0 && zero_array(&self.target)
     }
 }
 
 impl OptionalHash {
+    #[tactic(auto, unfolding(crate::specs::Zero::zero_hash))]
     pub fn zero() -> OptionalHash
         ensures { result ≡ zero_hash }
     {
@@ -139,16 +138,16 @@ impl OptionalHash {
         }
     }
 
-    pub fn is_zero(self) -> bool
-        ensures { result ≡ is_zero_hash self }
+    #[tactic(auto, unfolding(crate::specs::Zero::is_zero_hash))]
+    pub fn is_zero(&self) -> bool
+        ensures { result ≡ is_zero_hash self.now }
     {
-        let hash = self.hash;
-        let h = zero32(&hash);
-        !self.present & h
+        !self.present && zero_array(&self.hash)
     }
 }
 
 impl DeliveryAttempt {
+    #[tactic(auto, unfolding(crate::specs::Zero::zero_attempt))]
     pub fn zero() -> DeliveryAttempt
         ensures { result ≡ zero_attempt }
     {
@@ -160,19 +159,19 @@ impl DeliveryAttempt {
         }
     }
 
-    pub fn is_zero(self) -> bool
-        ensures { result ≡ is_zero_attempt self }
+    #[tactic(auto, unfolding(crate::specs::Zero::is_zero_attempt))]
+    pub fn is_zero(&self) -> bool
+        ensures { result ≡ is_zero_attempt self.now }
     {
-        let goal = self.goal;
-        let drained = self.drained_variant_fingerprint;
-        let g = goal.is_ensure_broadcast();
-        let d = zero32(&drained);
-        let f = self.finalized_variant_fingerprint.is_zero();
-        (self.token.0 == 0) & g & d & f
+        self.token == Token(0)
+            && self.goal == SubmissionDeliveryGoal::EnsureBroadcast
+            && zero_array(&self.drained_variant_fingerprint)
+            && self.finalized_variant_fingerprint.is_zero()
     }
 }
 
 impl OptionalAttempt {
+    #[tactic(auto, unfolding(crate::specs::Zero::no_attempt))]
     pub fn zero() -> OptionalAttempt
         ensures { result ≡ no_attempt }
     {
@@ -182,35 +181,35 @@ impl OptionalAttempt {
         }
     }
 
-    pub fn is_zero(self) -> bool
-        ensures { result ≡ is_no_attempt self }
+    #[tactic(auto, unfolding(crate::specs::Zero::is_no_attempt))]
+    pub fn is_zero(&self) -> bool
+        ensures { result ≡ is_no_attempt self.now }
     {
-        let a = self.attempt.is_zero();
-        !self.present & a
+        !self.present && self.attempt.is_zero()
     }
 }
 
 impl AttemptSlots {
+    #[tactic(auto, unfolding(crate::specs::Zero::no_slots))]
     pub fn zero() -> AttemptSlots
         ensures { result ≡ no_slots }
     {
-        let a = OptionalAttempt::zero();
         AttemptSlots {
-            active_attempt: a,
-            completed_attempt: a,
+            active_attempt: OptionalAttempt::zero(),
+            completed_attempt: OptionalAttempt::zero(),
         }
     }
 
-    pub fn is_zero(self) -> bool
-        ensures { result ≡ is_no_slots self }
+    #[tactic(auto, unfolding(crate::specs::Zero::is_no_slots))]
+    pub fn is_zero(&self) -> bool
+        ensures { result ≡ is_no_slots self.now }
     {
-        let a = self.active_attempt.is_zero();
-        let c = self.completed_attempt.is_zero();
-        a & c
+        self.active_attempt.is_zero() && self.completed_attempt.is_zero()
     }
 }
 
 impl SubmissionBroadcastVariant {
+    #[tactic(auto, unfolding(crate::specs::Zero::base_variant))]
     pub fn zero() -> SubmissionBroadcastVariant
         ensures { result ≡ base_variant }
     {
@@ -221,15 +220,16 @@ impl SubmissionBroadcastVariant {
         }
     }
 
-    pub fn is_zero(self) -> bool
-        ensures { result ≡ is_base_variant self }
+    #[tactic(auto, unfolding(crate::specs::Zero::is_base_variant))]
+    pub fn is_zero(&self) -> bool
+        ensures { result ≡ is_base_variant self.now }
     {
-        let b = self.bundle.is_zero();
-        !self.fee_bearing & (self.applied_fee == 0) & b
+        !self.fee_bearing && self.applied_fee == 0 && self.bundle.is_zero()
     }
 }
 
 impl RetainedIntent {
+    #[tactic(auto, unfolding(crate::specs::Zero::zero_retained_intent))]
     pub fn zero() -> RetainedIntent
         ensures { result ≡ zero_retained_intent }
     {
@@ -240,42 +240,40 @@ impl RetainedIntent {
         }
     }
 
-    pub fn is_zero(self) -> bool
-        ensures { result ≡ is_zero_retained_intent self }
+    #[tactic(auto, unfolding(crate::specs::Zero::is_zero_retained_intent))]
+    pub fn is_zero(&self) -> bool
+        ensures { result ≡ is_zero_retained_intent self.now }
     {
-        let fingerprint = self.intent_fingerprint;
-        let p = zero32(&fingerprint);
-        let b = self.base_bundle.is_zero();
-        let f = self.fee_intent.is_zero();
-        p & b & f
+        zero_array(&self.intent_fingerprint)
+            && self.base_bundle.is_zero()
+            && self.fee_intent.is_zero()
     }
 }
 
 impl SubmissionStatus {
+    #[tactic(auto, unfolding(crate::specs::Zero::zero_status))]
     pub fn zero() -> SubmissionStatus
         ensures { result ≡ zero_status }
     {
         SubmissionStatus {
             fee_resolution: FeeResolution::Unresolved,
             chain_terminality: SubmissionChainTerminality::Active,
-            expiry: OptionalHeight::NoHeight,
+            expiry: None,
         }
     }
 
-    pub fn is_zero(self) -> bool
-        ensures { result ≡ is_zero_status self }
+    #[tactic(auto, unfolding(crate::specs::Zero::is_zero_status))]
+    pub fn is_zero(&self) -> bool
+        ensures { result ≡ is_zero_status self.now }
     {
-        let resolution = self.fee_resolution;
-        let chain = self.chain_terminality;
-        let expiry = self.expiry;
-        let r = resolution.is_unresolved();
-        let c = chain.is_active();
-        let e = expiry.is_none();
-        r & c & e
+        self.fee_resolution == FeeResolution::Unresolved
+            && self.chain_terminality == SubmissionChainTerminality::Active
+            && self.expiry.is_none()
     }
 }
 
 impl SubmissionState {
+    #[tactic(auto, unfolding(crate::specs::Zero::zero_state))]
     pub fn zero() -> SubmissionState
         ensures { result ≡ zero_state }
     {
@@ -286,17 +284,18 @@ impl SubmissionState {
         }
     }
 
-    pub fn is_zero(self) -> bool
-        ensures { result ≡ is_zero_state self }
+    #[tactic(auto, unfolding(crate::specs::Zero::is_zero_state))]
+    pub fn is_zero(&self) -> bool
+        ensures { result ≡ is_zero_state self.now }
     {
-        let v = self.current_variant.is_zero();
-        let w = self.wallet_acknowledged_variant.is_zero();
-        let s = self.status.is_zero();
-        v & w & s
+        self.current_variant.is_zero()
+            && self.wallet_acknowledged_variant.is_zero()
+            && self.status.is_zero()
     }
 }
 
 impl SubmittedEntry {
+    #[tactic(auto, unfolding(crate::specs::Zero::zero_entry))]
     pub fn zero() -> SubmittedEntry
         ensures { result ≡ zero_entry }
     {
@@ -307,16 +306,16 @@ impl SubmittedEntry {
         }
     }
 
-    pub fn is_zero(self) -> bool
-        ensures { result ≡ is_zero_entry self }
+    #[tactic(auto, unfolding(crate::specs::Zero::is_zero_entry))]
+    pub fn is_zero(&self) -> bool
+        ensures { result ≡ is_zero_entry self.now }
     {
-        let i = self.intent.is_zero();
-        let s = self.state.is_zero();
-        (self.id.0 == 0) & i & s
+        self.id == SubmissionId(0) && self.intent.is_zero() && self.state.is_zero()
     }
 }
 
 impl SubmittedTx {
+    #[tactic(auto, unfolding(crate::specs::Zero::zero_submitted))]
     pub fn zero() -> SubmittedTx
         ensures { result ≡ zero_submitted }
     {
@@ -326,41 +325,40 @@ impl SubmittedTx {
         }
     }
 
-    pub fn is_zero(self) -> bool
-        ensures { result ≡ is_zero_submitted self }
+    #[tactic(auto, unfolding(crate::specs::Zero::is_zero_submitted))]
+    pub fn is_zero(&self) -> bool
+        ensures { result ≡ is_zero_submitted self.now }
     {
-        let s = self.slots.is_zero();
-        let e = self.entry.is_zero();
-        s & e
+        self.slots.is_zero() && self.entry.is_zero()
     }
 }
 
 impl PendingSubmissionIntent {
+    #[tactic(auto, unfolding(crate::specs::Zero::zero_intent))]
     pub fn zero() -> PendingSubmissionIntent
         ensures { result ≡ zero_intent }
     {
         PendingSubmissionIntent {
-            id: OptionalId::NoId,
+            id: None,
             bundle: SpendBundle::zero(),
-            expiry: OptionalHeight::NoHeight,
+            expiry: None,
             fee_intent: SubmissionFeeIntent::zero(),
         }
     }
 
-    pub fn is_zero(self) -> bool
-        ensures { result ≡ is_zero_intent self }
+    #[tactic(auto, unfolding(crate::specs::Zero::is_zero_intent))]
+    pub fn is_zero(&self) -> bool
+        ensures { result ≡ is_zero_intent self.now }
     {
-        let id = self.id;
-        let expiry = self.expiry;
-        let i = id.is_none();
-        let b = self.bundle.is_zero();
-        let e = expiry.is_none();
-        let f = self.fee_intent.is_zero();
-        i & b & e & f
+        self.id.is_none()
+            && self.bundle.is_zero()
+            && self.expiry.is_none()
+            && self.fee_intent.is_zero()
     }
 }
 
 impl PendingDelivery {
+    #[tactic(auto, unfolding(crate::specs::Zero::zero_delivery))]
     pub fn zero() -> PendingDelivery
         ensures { result ≡ zero_delivery }
     {
@@ -371,14 +369,12 @@ impl PendingDelivery {
         }
     }
 
-    pub fn is_zero(self) -> bool
-        ensures { result ≡ is_zero_delivery self }
+    #[tactic(auto, unfolding(crate::specs::Zero::is_zero_delivery))]
+    pub fn is_zero(&self) -> bool
+        ensures { result ≡ is_zero_delivery self.now }
     {
-        let trigger = self.trigger;
-        let goal = self.goal;
-        let i = self.intent.is_zero();
-        let t = trigger.is_protocol();
-        let g = goal.is_ensure_broadcast();
-        i & t & g
+        self.intent.is_zero()
+            && self.trigger == DeliveryTrigger::Protocol
+            && self.goal == SubmissionDeliveryGoal::EnsureBroadcast
     }
 }

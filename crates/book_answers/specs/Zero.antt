@@ -2,14 +2,13 @@
 use Rattle.std.specs.Prelude.{false}
 use Rattle.book.specs.Zero.{zeros, zero_bundle, zero_fee_intent}
 use Rattle.book.specs.declared.FeeResolution.TheVariants.{Unresolved}
-use Rattle.book.specs.declared.OptionalHeight.TheVariants.{NoHeight}
+use Rattle.std.specs.Prelude.{None}
 use Rattle.book.specs.declared.SubmissionChainTerminality.TheVariants.{Active}
 use Rattle.book_answers.specs.declared.BookSummary.{BookSummary}
 use Rattle.book_answers.specs.declared.DrainFailureCause.TheVariants.{NoRetainedState}
 use Rattle.book_answers.specs.declared.DrainedSubmission.{DrainedSubmission}
 use Rattle.book_answers.specs.declared.FeeSourceDisposition.TheVariants.{Attached}
 use Rattle.book_answers.specs.declared.FinalizedSubmission.{FinalizedSubmission}
-use Rattle.book_answers.specs.declared.OptionalToken.TheVariants.{NoToken}
 use Rattle.book_answers.specs.declared.SubmissionAttemptRelationship.TheVariants.{Initial}
 use Rattle.book_answers.specs.declared.SubmissionDrainFailure.{SubmissionDrainFailure}
 use Rattle.book_answers.specs.declared.SubmissionLook.{SubmissionLook}
@@ -19,10 +18,10 @@ unfolding zero_bundle zero_fee_intent
 zero_drained = record {
   id = record { 0 = 0 };
   attempt_token = record { 0 = 0 };
-  predecessor_attempt_token = NoToken;
+  predecessor_attempt_token = None;
   relationship = Initial;
   bundle = zero_bundle;
-  expiry = NoHeight;
+  expiry = None;
   fee_intent = zero_fee_intent;
 }
 
@@ -47,9 +46,9 @@ zero_final = record {
 
 unfoldable pub zero_look : SubmissionLook
 zero_look = record {
-  expiry = NoHeight;
-  active_attempt_token = NoToken;
-  completed_attempt_token = NoToken;
+  expiry = None;
+  active_attempt_token = None;
+  completed_attempt_token = None;
   applied_fee = 0;
   fee_resolution = Unresolved;
   chain_terminality = Active;
@@ -64,5 +63,5 @@ zero_summary = record {
   pending_count = 0;
   retired_count = 0;
   replayed_count = 0;
-  rollback_height = NoHeight;
+  rollback_height = None;
 }

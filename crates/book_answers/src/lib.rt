@@ -5,13 +5,13 @@ ghost use Rattle.std.specs.Prelude.{◌≡◌};
 ghost use Rattle.book_answers.specs.Zero.{zero_drained, zero_failure, zero_final, zero_look, zero_summary};
 
 use book::{
-    FeeResolution, OptionalHeight, SpendBundle, SubmissionChainTerminality, SubmissionFeeIntent,
+    FeeResolution, Height, SpendBundle, SubmissionChainTerminality, SubmissionFeeIntent,
     SubmissionId, Token,
 };
 
 // ---- drain
 // How an issued attempt stands to its predecessor.
-#[derive(Clone, Copy)]
+#[derive(Clone, Copy, PartialEq, Eq)]
 pub enum SubmissionAttemptRelationship {
     Initial,
     Exact,
@@ -19,26 +19,20 @@ pub enum SubmissionAttemptRelationship {
     Other,
 }
 
-#[derive(Clone, Copy)]
-pub enum OptionalToken {
-    NoToken,
-    Of(Token),
-}
-
 // What a drain hands out for a submission that gets a token.
 #[derive(Clone, Copy)]
 pub struct DrainedSubmission {
     pub id: SubmissionId,
     pub attempt_token: Token,
-    pub predecessor_attempt_token: OptionalToken,
+    pub predecessor_attempt_token: Option<Token>,
     pub relationship: SubmissionAttemptRelationship,
     pub bundle: SpendBundle,
-    pub expiry: OptionalHeight,
+    pub expiry: Option<Height>,
     pub fee_intent: SubmissionFeeIntent,
 }
 
 // Which of the plan's misses a failure is.
-#[derive(Clone, Copy)]
+#[derive(Clone, Copy, PartialEq, Eq)]
 pub enum DrainFailureCause {
     NoRetainedState,
     FeeIntentDiffers,
@@ -50,7 +44,7 @@ pub enum DrainFailureCause {
 }
 
 // The archive form always encodes, so `Fingerprint` does not occur.
-#[derive(Clone, Copy)]
+#[derive(Clone, Copy, PartialEq, Eq)]
 pub enum SubmissionDrainFailureStage {
     Fingerprint,
     RetainedState,
@@ -68,14 +62,14 @@ pub struct SubmissionDrainFailure {
 }
 
 // ---- attempts
-#[derive(Clone, Copy)]
+#[derive(Clone, Copy, PartialEq, Eq)]
 pub enum SubmissionAttemptStatus {
     Applied,
     Stale,
 }
 
 // `SubmissionFeeSource`: `Available` with its joined bundle, or with a join that failed. The joined bundle stands beside it.
-#[derive(Clone, Copy)]
+#[derive(Clone, Copy, PartialEq, Eq)]
 pub enum SubmissionFeeSource {
     NotRequested,
     Joined,
@@ -83,7 +77,7 @@ pub enum SubmissionFeeSource {
     Failed,
 }
 
-#[derive(Clone, Copy)]
+#[derive(Clone, Copy, PartialEq, Eq)]
 pub enum FeeSourceDisposition {
     Attached,
     Unused,
@@ -105,9 +99,9 @@ pub struct FinalizedSubmission {
 // of the one that is set aside.
 #[derive(Clone, Copy)]
 pub struct SubmissionLook {
-    pub expiry: OptionalHeight,
-    pub active_attempt_token: OptionalToken,
-    pub completed_attempt_token: OptionalToken,
+    pub expiry: Option<Height>,
+    pub active_attempt_token: Option<Token>,
+    pub completed_attempt_token: Option<Token>,
     pub applied_fee: u64,
     pub fee_resolution: FeeResolution,
     pub chain_terminality: SubmissionChainTerminality,
@@ -123,27 +117,29 @@ pub struct BookSummary {
     pub pending_count: usize,
     pub retired_count: usize,
     pub replayed_count: usize,
-    pub rollback_height: OptionalHeight,
+    pub rollback_height: Option<Height>,
 }
 
 // ---- the unused cell of each
 impl DrainedSubmission {
+    #[tactic(auto, unfolding(crate::specs::Zero::zero_drained))]
     pub fn zero() -> DrainedSubmission
         ensures { result ≡ zero_drained }
     {
         DrainedSubmission {
             id: SubmissionId(0),
             attempt_token: Token(0),
-            predecessor_attempt_token: OptionalToken::NoToken,
+            predecessor_attempt_token: None,
             relationship: SubmissionAttemptRelationship::Initial,
             bundle: SpendBundle::zero(),
-            expiry: OptionalHeight::NoHeight,
+            expiry: None,
             fee_intent: SubmissionFeeIntent::zero(),
         }
     }
 }
 
 impl SubmissionDrainFailure {
+    #[tactic(auto, unfolding(crate::specs::Zero::zero_failure))]
     pub fn zero() -> SubmissionDrainFailure
         ensures { result ≡ zero_failure }
     {
@@ -157,6 +153,7 @@ impl SubmissionDrainFailure {
 }
 
 impl FinalizedSubmission {
+    #[tactic(auto, unfolding(crate::specs::Zero::zero_final))]
     pub fn zero() -> FinalizedSubmission
         ensures { result ≡ zero_final }
     {
@@ -172,13 +169,14 @@ impl FinalizedSubmission {
 }
 
 impl SubmissionLook {
+    #[tactic(auto, unfolding(crate::specs::Zero::zero_look))]
     pub fn zero() -> SubmissionLook
         ensures { result ≡ zero_look }
     {
         SubmissionLook {
-            expiry: OptionalHeight::NoHeight,
-            active_attempt_token: OptionalToken::NoToken,
-            completed_attempt_token: OptionalToken::NoToken,
+            expiry: None,
+            active_attempt_token: None,
+            completed_attempt_token: None,
             applied_fee: 0,
             fee_resolution: FeeResolution::Unresolved,
             chain_terminality: SubmissionChainTerminality::Active,
@@ -188,6 +186,7 @@ impl SubmissionLook {
 }
 
 impl BookSummary {
+    #[tactic(auto, unfolding(crate::specs::Zero::zero_summary))]
     pub fn zero() -> BookSummary
         ensures { result ≡ zero_summary }
     {
@@ -198,7 +197,7 @@ impl BookSummary {
             pending_count: 0,
             retired_count: 0,
             replayed_count: 0,
-            rollback_height: OptionalHeight::NoHeight,
+            rollback_height: None,
         }
     }
 }

@@ -1,6 +1,6 @@
 -- The coins that a bundle spends and makes: `SubmittedTx::spent_coin_ids` and `expected_output_coins`.
 use Rattle.std.specs.Prelude.{List, map, ℕ, take}
-use Rattle.base_lists.specs.Lists.{flat_map}
+use Rattle.std.specs.List.{flat_map}
 use Rattle.base_coin_string.specs.Coin.{coin_of_parts, coin_id_of}
 use Rattle.book.specs.Sound.{spends_of, outputs_of}
 use Rattle.book.specs.declared.Output.{Output}

@@ -2,7 +2,8 @@
 use Rattle.std.specs.Prelude.{◌≡◌, refl, List, [], ◌∷◌, ◌++◌, map, ℕ, ◌+◌, ◌≤◌, ◌<◌, length, set}
 use Rattle.std.proofs.Common.{sym, ap, ◌∙◌, append_assoc, append-nil, arith, length-append}
 use Rattle.std.proofs.lemmas.List.{map-append, length-map}
-use Rattle.base_lists.specs.Lists.{cells, flat_map}
+use Rattle.base_lists.specs.Lists.{cells}
+use Rattle.std.specs.List.{flat_map}
 use Rattle.base_lists.specs.Laws.{push_cells, flat_turn, flat_done}
 use Rattle.base_coin_string.specs.declared.CoinString.{CoinString}
 use Rattle.base_coin_string.specs.Coin.{cell_of}

@@ -9,17 +9,10 @@ ghost use Rattle.book.specs.Zero.{zeros};
 ghost use Rattle.book_coins.specs.Coins.{input_coin_ids, expected_output_coins};
 ghost use Rattle.book_coins.specs.Found.{found_of};
 ghost use Rattle.book_coins.specs.Laws.{spent_id, output_at, Outputs};
-ghost use Rattle.book_coins.specs.Outputs.{output_cells, pushed_coin, Pushed};
+ghost use Rattle.book_coins.specs.Outputs.{output_cells, Pushed};
 
 use base_coin_string::CoinString;
 use book::{CoinSpend, SpendBundle};
-
-// Output j of spend i.
-#[derive(Clone, Copy)]
-pub enum Found {
-    At(usize, usize),
-    Nothing,
-}
 
 // Up to 16 output coins: the first count cells are the coins, and the cells behind them are empty.
 #[derive(Clone, Copy)]
@@ -32,45 +25,34 @@ pub struct OutputCoins {
 pub fn at_most_four(n: u8) -> usize
     ensures { result ≡ min n 4 }
 {
-    if n < 4 {
-        return n as usize;
-    }
-    4
+    usize::from(n).min(4)
 }
 
 // The id of the coin that a spend spends.
 pub fn input_coin_id(s: CoinSpend) -> [u8; 32]
     ensures { result ≡ spent_id s }
 {
-    let coin = s.coin;
-    base_coin_string::to_coin_id(coin, s.coin_len)
+    base_coin_string::to_coin_id(s.coin, s.coin_len)
 }
 
 // The ids of the coins that a bundle spends, and zero rows behind them.
 pub fn input_coin_ids(b: SpendBundle) -> [[u8; 32]; 4]
     ensures { result ≡ cells 4 (zeros 32) (input_coin_ids b) }
 {
-    let spends = b.spends;
-    let n = at_most_four(b.count);
-    let mut ids = [[0u8; 32]; 4];
-    let mut i = 0;
-    while i < n {
-        let s = spends[i];
-        ids[i] = input_coin_id(s);
-        i += 1;
+    let mut ids = [[0; 32]; 4];
+    for i in 0..at_most_four(b.count) {
+        ids[i] = input_coin_id(b.spends[i]);
     }
     ids
 }
 
 // The coin of output j, whose parent is the spent coin's id.
-pub fn output_coin(s: CoinSpend, parent: [u8; 32], j: usize) -> CoinString
+fn output_coin(s: CoinSpend, parent: [u8; 32], j: usize) -> CoinString
     requires { j < 4 }
     ensures { FromParts parent (output_at s j).puzzle_hash (output_at s j).amount result }
 {
-    let outputs = s.outputs;
-    let o = outputs[j];
-    let hash = o.puzzle_hash;
-    base_coin_string::from_parts(parent, hash, o.amount)
+    let o = s.outputs[j];
+    base_coin_string::from_parts(parent, o.puzzle_hash, o.amount)
 }
 
 // How many outputs a spend has.
@@ -80,40 +62,29 @@ fn output_count(s: CoinSpend) -> usize
     at_most_four(s.output_count)
 }
 
-// The first output, in the bundle's order, among the coins that observed lists.
-pub fn first_output_among(b: SpendBundle, observed: &[u8]) -> Found
+// The first output, in the bundle's order, among the coins that observed lists: output j of spend i.
+pub fn first_output_among(b: SpendBundle, observed: &[u8]) -> Option<(usize, usize)>
     ensures { result ≡ found_of (coins_in observed.now) b }
 {
-    let spends = b.spends;
-    let count = at_most_four(b.count);
     let n = base_coin_string::list_count(observed);
-    let mut found = Found::Nothing;
-    let mut i = 0;
-    'search: while i < count {
-        let s = spends[i];
+    let mut found = None;
+    'search: for i in 0..at_most_four(b.count) {
+        let s = b.spends[i];
         let parent = input_coin_id(s);
-        let outs = output_count(s);
-        let mut j = 0;
-        while j < outs {
+        for j in 0..output_count(s) {
             let c = output_coin(s, parent, j);
-            let coin = c.bytes;
-            let mut left = n;
             let mut at = 2;
-            while 0 < left {
-                let to = base_coin_string::coin_end(observed, at);
-                if to == 0 {
+            for _ in 0..n {
+                let Some(to) = base_coin_string::coin_end(observed, at) else {
                     break;
-                }
-                if base_coin_string::coin_is(observed, at + 1, to, coin, c.len) {
-                    found = Found::At(i, j);
+                };
+                if base_coin_string::coin_is(observed, at + 1, to, c.bytes, c.len) {
+                    found = Some((i, j));
                     break 'search;
                 }
                 at = to;
-                left -= 1;
             }
-            j += 1;
         }
-        i += 1;
     }
     found
 }
@@ -131,49 +102,25 @@ fn no_outputs() -> OutputCoins
     }
 }
 
-// One coin more.
-fn push_output(o: OutputCoins, c: CoinString) -> OutputCoins
-    requires { o.count < 16 }
-    ensures { result ≡ pushed_coin o c }
-{
-    let n = o.count;
-    let mut coins = o.coins;
-    coins[n] = c;
-    OutputCoins {
-        count: n + 1,
-        coins,
-    }
-}
-
 // The output coins of a spend behind those laid out.
-fn push_outputs(o: OutputCoins, s: CoinSpend) -> OutputCoins
-    requires { o.count ≤ 12 }
-    ensures { Pushed s o result }
+fn push_outputs(o: &mut OutputCoins, s: CoinSpend)
+    requires { o.old.count ≤ 12 }
+    ensures { Pushed s o.old o.new }
 {
     let parent = input_coin_id(s);
-    let outs = output_count(s);
-    let mut acc = o;
-    let mut j = 0;
-    while j < outs {
-        let coin = output_coin(s, parent, j);
-        acc = push_output(acc, coin);
-        j += 1;
+    for j in 0..output_count(s) {
+        o.coins[o.count] = output_coin(s, parent, j);
+        o.count += 1;
     }
-    acc
 }
 
 // The coins that a bundle makes, in its order.
 pub fn expected_output_coins(b: SpendBundle) -> OutputCoins
     ensures { (result ≡ output_cells (expected_output_coins b)) × (result.count ≤ 16) }
 {
-    let spends = b.spends;
-    let n = at_most_four(b.count);
-    let mut acc = no_outputs();
-    let mut i = 0;
-    while i < n {
-        let s = spends[i];
-        acc = push_outputs(acc, s);
-        i += 1;
+    let mut coins = no_outputs();
+    for i in 0..at_most_four(b.count) {
+        push_outputs(&mut coins, b.spends[i]);
     }
-    acc
+    coins
 }

@@ -1,52 +1,34 @@
 // Tests over slices of numbers.
 ghost use Rattle.std.specs.Prelude.{◌≡◌, take, drop};
-ghost use Rattle.base_lists.specs.Lists.{allb, elemb, is_zero};
+ghost use Rattle.base_lists.specs.Lists.{elemb, is_zero};
+ghost use Rattle.std.specs.List.{list_all};
 
-use base_lists::{at_most, contains};
+use base_lists::contains;
 
 // The first n numbers, or all.
 pub fn first(s: &[u64], n: usize) -> &[u64]
     ensures { result.now ≡ take n s.now }
 {
-    let k = at_most(n, s.len());
-    &s[0..k]
+    &s[..n.min(s.len())]
 }
 
 // The numbers from n on are zero.
 pub fn zeros_from(s: &[u64], n: usize) -> bool
-    ensures { result ≡ allb is_zero (drop n s.now) }
+    ensures { result ≡ list_all is_zero (drop n s.now) }
 {
-    let mut ok = true;
-    let mut i = n;
-    while i < s.len() {
-        ok = ok & (s[i] == 0);
-        i += 1;
-    }
-    ok
+    s.iter().skip(n).all(|x| *x == 0)
 }
 
 // The bytes from n on are zero.
 pub fn zero_bytes_from(s: &[u8], n: usize) -> bool
-    ensures { result ≡ allb is_zero (drop n s.now) }
+    ensures { result ≡ list_all is_zero (drop n s.now) }
 {
-    let mut ok = true;
-    let mut i = n;
-    while i < s.len() {
-        ok = ok & (s[i] == 0);
-        i += 1;
-    }
-    ok
+    s.iter().skip(n).all(|x| *x == 0)
 }
 
 // Each number is one of ids.
 pub fn all_among(s: &[u64], ids: &[u64]) -> bool
-    ensures { result ≡ allb (λ x. elemb x ids.now) s.now }
+    ensures { result ≡ list_all (λ x. elemb x ids.now) s.now }
 {
-    let mut ok = true;
-    let mut i = 0;
-    while i < s.len() {
-        ok = ok & contains(ids, s[i]);
-        i += 1;
-    }
-    ok
+    s.iter().all(|x| contains(ids, *x))
 }

@@ -1,7 +1,7 @@
 -- The calls whose arguments are bytes that must stand for values, two of them beside lists: one law for each of their returns, in the order of
 -- the checks (1, 2, 3). Each is the law of the call on lent bytes, said of the function of the library.
 use Rattle.std.specs.Prelude.{ℕ, ◌≤◌, ◌<◌, ◌≡◌, Bool, true, false, List, [], eqb, length}
-use Rattle.std.proofs.Math.Option.{none, some}
+use Rattle.std.specs.Prelude.{None, Some}
 use Rattle.book.specs.Model.{view}
 use Rattle.book.specs.declared.BookData.{BookData}
 use Rattle.book.specs.declared.DeliveryTrigger.{DeliveryTrigger}
@@ -34,38 +34,38 @@ pub use Rattle.c_calls_chain.specs.Report.{lists_are}
 
 -- ---- queue
 module _ (d delivery : List ℕ) where
-  pub queue_absent : held_in d ≡ none → Did d (CCall.Queue delivery) (back 1 d)
+  pub queue_absent : held_in d ≡ None → Did d (CCall.Queue delivery) (back 1 d)
   queue_absent e = queue_did delivery (deliveries.queue_absent d delivery e)
 
   module _ (b : BookData) (h : Holding d b) where
-    pub queue_bad : bytes_as parse_delivery delivery ≡ none → Did d (CCall.Queue delivery) (back 3 d)
+    pub queue_bad : bytes_as parse_delivery delivery ≡ None → Did d (CCall.Queue delivery) (back 3 d)
     queue_bad e = queue_did delivery (deliveries.queue_bad d delivery b h e)
 
-    pub queue_done : {v : PendingDelivery} {n : ℕ} {d' : List ℕ} (r : DoneReply) → bytes_as parse_delivery delivery ≡ some v
+    pub queue_done : {v : PendingDelivery} {n : ℕ} {d' : List ℕ} (r : DoneReply) → bytes_as parse_delivery delivery ≡ Some v
         → r ≡ done_reply b (run_book (queue v) (view b)) → GivesBook (finish r.answer r.book [] d []) n d' → Did d (CCall.Queue delivery) (back n d')
     queue_done r e q g = queue_did delivery (deliveries.queue_done d delivery b h r e q g)
 
 -- ---- queue_retained_delivery
 module _ (d : List ℕ) (id trigger goal : ℕ) where
-  pub delivery_absent : held_in d ≡ none → Did d (CCall.QueueRetainedDelivery id trigger goal) (back 1 d)
+  pub delivery_absent : held_in d ≡ None → Did d (CCall.QueueRetainedDelivery id trigger goal) (back 1 d)
   delivery_absent e = retained_delivery_did id trigger goal (deliveries.delivery_absent d id trigger goal e)
 
   module _ (b : BookData) (h : Holding d b) where
-    pub trigger_bad : byte_as parse_trigger trigger ≡ none → Did d (CCall.QueueRetainedDelivery id trigger goal) (back 3 d)
+    pub trigger_bad : byte_as parse_trigger trigger ≡ None → Did d (CCall.QueueRetainedDelivery id trigger goal) (back 3 d)
     trigger_bad e = retained_delivery_did id trigger goal (deliveries.trigger_bad d id trigger goal b h e)
 
-    module _ {t : DeliveryTrigger} (e : byte_as parse_trigger trigger ≡ some t) where
-      pub goal_bad : byte_as parse_goal goal ≡ none → Did d (CCall.QueueRetainedDelivery id trigger goal) (back 3 d)
+    module _ {t : DeliveryTrigger} (e : byte_as parse_trigger trigger ≡ Some t) where
+      pub goal_bad : byte_as parse_goal goal ≡ None → Did d (CCall.QueueRetainedDelivery id trigger goal) (back 3 d)
       goal_bad f = retained_delivery_did id trigger goal (deliveries.goal_bad d id trigger goal b h e f)
 
-      pub delivery_done : {g : SubmissionDeliveryGoal} {n : ℕ} {d' : List ℕ} (r : DoneReply) → byte_as parse_goal goal ≡ some g
+      pub delivery_done : {g : SubmissionDeliveryGoal} {n : ℕ} {d' : List ℕ} (r : DoneReply) → byte_as parse_goal goal ≡ Some g
           → r ≡ done_reply b (run_book (queue_retained_delivery id t g) (view b)) → GivesBook (finish r.answer r.book [] d []) n d'
           → Did d (CCall.QueueRetainedDelivery id trigger goal) (back n d')
       delivery_done r f q x = retained_delivery_did id trigger goal (deliveries.delivery_done d id trigger goal b h e r f q x)
 
 -- ---- finalize_attempt
 module _ (d : List ℕ) (token source : ℕ) (joined a : List ℕ) where
-  pub finalize_absent : held_in d ≡ none → Did d (CCall.FinalizeAttempt token source joined a) (answered 1 d a)
+  pub finalize_absent : held_in d ≡ None → Did d (CCall.FinalizeAttempt token source joined a) (answered 1 d a)
   finalize_absent e = finalize_did token source joined (finalizing.finalize_absent d token source joined a e)
 
   module _ (b : BookData) (h : Holding d b) where
@@ -73,28 +73,28 @@ module _ (d : List ℕ) (token source : ℕ) (joined a : List ℕ) where
     source_bad e = finalize_did token source joined (finalizing.source_bad d token source joined a b h e)
 
     module _ (e : source ≤ 3) where
-      pub joined_bad : joined_in source joined ≡ none → Did d (CCall.FinalizeAttempt token source joined a) (answered 3 d a)
+      pub joined_bad : joined_in source joined ≡ None → Did d (CCall.FinalizeAttempt token source joined a) (answered 3 d a)
       joined_bad f = finalize_did token source joined (finalizing.joined_bad d token source joined a b h e f)
 
       pub finalize_done : {s : SubmissionFeeSource} {j : SpendBundle} {n : ℕ} {d' a' : List ℕ} (r : FinalizeReply) → s ≡ source_from source
-          → joined_in source joined ≡ some j → r ≡ finalize_reply b (run_book (finalize_attempt token s j) (view b))
+          → joined_in source joined ≡ Some j → r ≡ finalize_reply b (run_book (finalize_attempt token s j) (view b))
           → Gives (finish r.answer r.book (enc_opt r.present (encode_final r.finalized)) d a) n d' a'
           → Did d (CCall.FinalizeAttempt token source joined a) (answered n d' a')
       finalize_done r k f q g = finalize_did token source joined (finalizing.finalize_done d token source joined a b h e r k f q g)
 
 -- ---- queue_rebroadcast_epoch
 module _ (d ids : List ℕ) (trigger : ℕ) where
-  pub epoch_absent : held_in d ≡ none → Did d (CCall.QueueRebroadcastEpoch ids trigger) (back 1 d)
+  pub epoch_absent : held_in d ≡ None → Did d (CCall.QueueRebroadcastEpoch ids trigger) (back 1 d)
   epoch_absent e = rebroadcast_did ids trigger (deliveries.epoch_absent d ids trigger e)
 
   module _ (b : BookData) (h : Holding d b) where
     pub epoch_long : 64 < length ids → Did d (CCall.QueueRebroadcastEpoch ids trigger) (back 2 d)
     epoch_long k = rebroadcast_did ids trigger (deliveries.epoch_long d ids trigger b h k)
 
-    pub epoch_bad : length ids ≤ 64 → byte_as parse_trigger trigger ≡ none → Did d (CCall.QueueRebroadcastEpoch ids trigger) (back 3 d)
+    pub epoch_bad : length ids ≤ 64 → byte_as parse_trigger trigger ≡ None → Did d (CCall.QueueRebroadcastEpoch ids trigger) (back 3 d)
     epoch_bad k e = rebroadcast_did ids trigger (deliveries.epoch_bad d ids trigger b h k e)
 
-    pub epoch_done : {t : DeliveryTrigger} {n : ℕ} {d' : List ℕ} (r : DoneReply) → length ids ≤ 64 → byte_as parse_trigger trigger ≡ some t
+    pub epoch_done : {t : DeliveryTrigger} {n : ℕ} {d' : List ℕ} (r : DoneReply) → length ids ≤ 64 → byte_as parse_trigger trigger ≡ Some t
         → r ≡ done_reply b (run_book (queue_rebroadcast_epoch ids t) (view b)) → GivesBook (finish r.answer r.book [] d []) n d'
         → Did d (CCall.QueueRebroadcastEpoch ids trigger) (back n d')
     epoch_done r k e q g = rebroadcast_did ids trigger (deliveries.epoch_done d ids trigger b h r k e q g)
@@ -104,7 +104,7 @@ module _ (d observed spent : List ℕ) (reorg : ℕ) (ids : List ℕ) where
   abbrev lists : Bool
   lists = report_lists observed spent ids
 
-  pub report_absent : held_in d ≡ none → Did d (CCall.ReconcileChainTerminality observed spent reorg ids) (back 1 d)
+  pub report_absent : held_in d ≡ None → Did d (CCall.ReconcileChainTerminality observed spent reorg ids) (back 1 d)
   report_absent e = reconcile_did observed spent reorg ids (reporting.report_absent d observed spent reorg ids e)
 
   module _ (b : BookData) (h : Holding d b) where

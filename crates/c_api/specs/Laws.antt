@@ -2,7 +2,7 @@
 -- stand with their calls (c_calls_chain/Report, c_calls_attempts/Source).
 use Rattle.std.specs.Prelude.{◌≡◌}
 use Rattle.std.proofs.Common.{ap, ◌∙◌}
-use Rattle.std.proofs.Math.Option.{Option}
+use Rattle.std.specs.Prelude.{Option}
 use Rattle.book.specs.Model.{view}
 use Rattle.book.specs.declared.BookData.{BookData}
 use Rattle.rules.specs.Rule.{Rule}

@@ -2,7 +2,6 @@
 // They are made first, so that a call whose answer or book does not fit leaves every lent byte.
 #![tactic(auto)]
 
-ghost use Rattle.std.specs.Prelude.{◌≡◌, length};
 ghost use Rattle.codec_forms.specs.Wire.{enc_opt};
 ghost use Rattle.archive_bundle_form.specs.Forms.{encode_fee_intent};
 ghost use Rattle.archive_form.specs.Encode.{encode_slot};
@@ -18,22 +17,9 @@ use c_write::{settle, tell};
 use codec_answers::value::{append_optional_fee_intent, append_optional_finalized};
 use part_replies::{CallAnswer, FinalizeReply};
 
-// Says what the array's type says.
-fn hash_length(h: [u8; 32]) -> usize
-    ensures { length h ≡ 32 }
-{
-    32
-}
-
 pub fn tell_attempt(said: CallAnswer, attempt: OptionalAttempt, answer: &mut [u8]) -> u8
     ensures { GivesAnswer (told_by said (encode_slot attempt) answer.old) result answer.new }
 {
-    let live = attempt.attempt;
-    let drained = live.drained_variant_fingerprint;
-    let optional = live.finalized_variant_fingerprint;
-    let finalized = optional.hash;
-    hash_length(drained);
-    hash_length(finalized);
     let mut l = [0u8; 75];
     let n = append_slot(&mut l, 0, attempt);
     tell(said, &l[0..n], answer)
@@ -57,15 +43,9 @@ pub fn tell_fee_intent(
 pub fn settle_final(r: FinalizeReply, book: &mut [u8], answer: &mut [u8]) -> u8
     ensures { Gives (finish r.answer r.book (enc_opt r.present (encode_final r.finalized)) book.old answer.old) result book.new answer.new }
 {
-    let finalized = r.finalized;
-    let bundle = finalized.bundle;
     // at most 1073: the room that the next call asks
-    size_bundle(bundle);
-    let fingerprint = finalized.variant_fingerprint;
-    hash_length(fingerprint);
+    size_bundle(r.finalized.bundle);
     let mut l = [0u8; 1117];
-    let n = append_optional_finalized(&mut l, 0, r.present, finalized);
-    let said = r.answer;
-    let next = r.book;
-    settle(said, next, &l[0..n], book, answer)
+    let n = append_optional_finalized(&mut l, 0, r.present, r.finalized);
+    settle(r.answer, r.book, &l[0..n], book, answer)
 }

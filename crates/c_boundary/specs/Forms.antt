@@ -1,7 +1,7 @@
 -- The form of each kind of answer in bytes, and the replies of the calls told in it.
 use Rattle.std.specs.Prelude.{ℕ, zero, suc, ◌+◌, ◌-◌, ◌≤◌, ◌<◌, min, ◌≡◌, refl, Bool, true, false, List, [], ◌∷◌, ◌++◌, length, take, drop, replicate}
 use Rattle.std.proofs.Common.{zero-le, sym, ap, ◌∙◌, subst, arith, length-append, length-take, take_at}
-use Rattle.std.proofs.Math.Option.{Option, none, some}
+use Rattle.std.specs.Prelude.{Option, None, Some}
 use Rattle.std.proofs.Math.Nat.{sub-zero}
 use Rattle.base_lists.specs.Lists.{cells}
 use Rattle.codec_forms.specs.Wire.{be, enc_many, enc_opt, overlay}
@@ -14,14 +14,13 @@ use Rattle.codec_answers.specs.Forms.{flag_number, status_number, disposition_nu
 use Rattle.codec_answers.specs.Drain.{encode_failure, encode_submissions, encode_failures}
 use Rattle.part_drain_answers.specs.DrainReply.{drain_reply}
 use Rattle.part_drain_answers.specs.declared.DrainReply.{DrainReply}
-use Rattle.book.specs.Model.{Book, view, ids64}
+use Rattle.book.specs.Model.{Book, view, id_cells}
 use Rattle.book.specs.Zero.{zero_fee_intent, no_attempt}
 use Rattle.book.specs.declared.BookData.{BookData}
-use Rattle.book.specs.declared.Ids64.{Ids64}
+use Rattle.book.specs.declared.Ids.{Ids}
 use Rattle.book.specs.declared.OptionalHash.{OptionalHash}
 use Rattle.book.specs.declared.DeliveryAttempt.{DeliveryAttempt}
 use Rattle.book.specs.declared.OptionalAttempt.{OptionalAttempt}
-use Rattle.book.specs.declared.OptionalHeight.TheVariants.{NoHeight}
 use Rattle.book_answers.specs.declared.BookSummary.{BookSummary}
 use Rattle.book_answers.specs.declared.DrainedSubmission.{DrainedSubmission}
 use Rattle.book_answers.specs.declared.SubmissionLook.{SubmissionLook}
@@ -47,7 +46,7 @@ use Rattle.c_boundary.specs.Settle.{Left, Form, refusal, boundary, Gives, GivesB
 use Rattle.rules.specs.Call.{Value, no_value, failures, finalized, fee_intent_is, status_is, ids_are, flag, height_is, attempt_is, look_is, summary_is, written}
 use Rattle.rules.specs.Calls.{nothing}
 use Rattle.book_answers.specs.Zero.{zero_drained, zero_failure, zero_final, zero_look, zero_summary}
-use Rattle.book.specs.declared.OptionalHeight.{OptionalHeight}
+use Rattle.book.specs.declared.Height.{Height}
 use Rattle.book.specs.declared.SubmissionFeeIntent.{SubmissionFeeIntent}
 use Rattle.book_answers.specs.declared.SubmissionAttemptStatus.{SubmissionAttemptStatus}
 use Rattle.book_answers.specs.declared.SubmissionDrainFailure.{SubmissionDrainFailure}
@@ -64,12 +63,12 @@ status_form xs v = be 1 (status_number v)
 
 unfoldable pub ids_form : Form (List ℕ)
 unfolding encode_ids
-ids_form xs is = encode_ids (ids64 is)
+ids_form xs is = encode_ids (id_cells 64 is)
 
 abbrev pub flag_form : Form Bool
 flag_form xs v = be 1 (flag_number v)
 
-unfoldable pub height_form : Form OptionalHeight
+unfoldable pub height_form : Form (Option Height)
 unfolding encode_height
 height_form xs v = encode_height v
 
@@ -135,7 +134,7 @@ as_ids = record { value = ids_are; form = ids_form; same = λ xs v. refl }
 abbrev pub as_flag : ToldAs Bool
 as_flag = record { value = flag; form = flag_form; same = λ xs v. refl }
 
-abbrev pub as_height : ToldAs OptionalHeight
+abbrev pub as_height : ToldAs (Option Height)
 as_height = record { value = height_is; form = height_form; same = λ xs v. refl }
 
 abbrev pub as_attempt : ToldAs (Option DeliveryAttempt)
@@ -165,10 +164,10 @@ unfolding encode_submissions encode_failures
 encode_drain r = encode_submissions r.submission_count r.submissions ++ encode_failures r.failure_count r.failures
 
 -- ---- a call on bytes that hold no book
-pub gives_absent : {A : Type 0} (form : Form A) (r : Rule A) (d a : List ℕ) → held_in d ≡ none → Gives (boundary form r d a) refusals.no_book d a
+pub gives_absent : {A : Type 0} (form : Form A) (r : Rule A) (d a : List ℕ) → held_in d ≡ None → Gives (boundary form r d a) refusals.no_book d a
 gives_absent form r d a e = gives_as (sym (boundary_absent form r d a e)) (record { number = refl; book = refl; answer = refl })
 
-pub gives_book_absent : {A : Type 0} (form : Form A) (r : Rule A) (d : List ℕ) → held_in d ≡ none → GivesBook (boundary form r d []) refusals.no_book d
+pub gives_book_absent : {A : Type 0} (form : Form A) (r : Rule A) (d : List ℕ) → held_in d ≡ None → GivesBook (boundary form r d []) refusals.no_book d
 gives_book_absent form r d e = gives_book_as (sym (boundary_absent form r d [] e)) (record { number = refl; book = refl })
 
 -- ---- a call's reply, told in its form
@@ -193,25 +192,25 @@ module _ (d a : List ℕ) (b : BookData) (h : Holding d b) where
   status_given_lem rule r e g =
       gives_as (ap (λ (x : StatusReply). finish x.answer x.book (be 1 (status_number x.status)) d a) e ∙ boundary_reply status_form d a b h rule _ (tells_status (run_book rule (view b)))) g
 
-tells_ids : (o : Outcome Book (List ℕ)) → Tells ids_form o (encode_ids (ids64 (value_of [] o)))
+tells_ids : (o : Outcome Book (List ℕ)) → Tells ids_form o (encode_ids (id_cells 64 (value_of [] o)))
 unfolding ids_form
 tells_ids (ended m xs v) = refl
 tells_ids (undone k) = tt
 tells_ids (stopped m xs k) = tt
 
-tells_height : (o : Outcome Book OptionalHeight) → Tells height_form o (encode_height (value_of NoHeight o))
+tells_height : (o : Outcome Book (Option Height)) → Tells height_form o (encode_height (value_of None o))
 unfolding height_form
 tells_height (ended m xs v) = refl
 tells_height (undone k) = tt
 tells_height (stopped m xs k) = tt
 
-tells_attempt : (o : Outcome Book (Option DeliveryAttempt)) → Tells attempt_form o (encode_slot (attempt_in (value_of none o)))
+tells_attempt : (o : Outcome Book (Option DeliveryAttempt)) → Tells attempt_form o (encode_slot (attempt_in (value_of None o)))
 unfolding attempt_form
 tells_attempt (ended m xs v) = refl
 tells_attempt (undone k) = tt
 tells_attempt (stopped m xs k) = tt
 
-tells_look : (o : Outcome Book (Option SubmissionLook)) → Tells look_form o (enc_opt (is_some (value_of none o)) (encode_look (or_else zero_look (value_of none o))))
+tells_look : (o : Outcome Book (Option SubmissionLook)) → Tells look_form o (enc_opt (is_some (value_of None o)) (encode_look (or_else zero_look (value_of None o))))
 unfolding look_form
 tells_look (ended m xs v) = refl
 tells_look (undone k) = tt
@@ -223,13 +222,13 @@ tells_summary (ended m xs v) = refl
 tells_summary (undone k) = tt
 tells_summary (stopped m xs k) = tt
 
-tells_fee_intent : (o : Outcome Book (Option SubmissionFeeIntent)) → Tells fee_intent_form o (enc_opt (is_some (value_of none o)) (encode_fee_intent (or_else zero_fee_intent (value_of none o))))
+tells_fee_intent : (o : Outcome Book (Option SubmissionFeeIntent)) → Tells fee_intent_form o (enc_opt (is_some (value_of None o)) (encode_fee_intent (or_else zero_fee_intent (value_of None o))))
 unfolding fee_intent_form
 tells_fee_intent (ended m xs v) = refl
 tells_fee_intent (undone k) = tt
 tells_fee_intent (stopped m xs k) = tt
 
-tells_final : (o : Outcome Book (Option FinalizedSubmission)) → Tells final_form o (enc_opt (is_some (value_of none o)) (encode_final (or_else zero_final (value_of none o))))
+tells_final : (o : Outcome Book (Option FinalizedSubmission)) → Tells final_form o (enc_opt (is_some (value_of None o)) (encode_final (or_else zero_final (value_of None o))))
 unfolding final_form
 tells_final (ended m xs v) = refl
 tells_final (undone k) = tt
@@ -263,7 +262,7 @@ module _ (d a : List ℕ) (b : BookData) (h : Holding d b) where
   ids_looked rule q r e g =
       boundary_looked ids_form d a b h rule q _ (tells_ids (run_book rule (view b))) (answer_as (ap (λ (x : IdsReply). told_by x.answer (encode_ids x.ids) a) e) g)
 
-  pub height_looked : (rule : Rule OptionalHeight) → Looks rule → {n : ℕ} {a' : List ℕ} (r : HeightReply) → r ≡ height_reply b (run_book rule (view b))
+  pub height_looked : (rule : Rule (Option Height)) → Looks rule → {n : ℕ} {a' : List ℕ} (r : HeightReply) → r ≡ height_reply b (run_book rule (view b))
       → GivesAnswer (told_by r.answer (encode_height r.height) a) n a' → Gives (boundary height_form rule d a) n d a'
   height_looked rule q r e g =
       boundary_looked height_form d a b h rule q _ (tells_height (run_book rule (view b))) (answer_as (ap (λ (x : HeightReply). told_by x.answer (encode_height x.height) a) e) g)
@@ -345,7 +344,7 @@ told_end x l l' n f h =
     (omega (arith, o.0, q, length-take (n - 0) l'), o.0)
 
 -- ---- sizes
-pub ids_most : (i : Ids64) → length i.items ≡ 64 → length (encode_ids i) ≤ 513
+pub ids_most : (i : Ids 64) → length i.items ≡ 64 → length (encode_ids i) ≤ 513
 unfolding encode_ids
 ids_most i h =
     omega (arith, length-append (be 1 (min i.count 64)) (enc_many (be 8) (take i.count i.items)), be_length 1 (min i.count 64), numbers_length (take i.count i.items), length-take i.count i.items)

@@ -4,7 +4,7 @@ use Rattle.std.specs.Prelude.{ℕ, zero, suc, ◌+◌, ◌-◌, ◌^◌, ◌≤�
 use Rattle.std.proofs.Common.{zero-le, ◌∙◌, add-one}
 use Rattle.std.proofs.Math.Path.{◌≡◌, sym, ap, subst}
 use mathlib.Core.List.{List, [], ◌∷◌, ◌++◌}
-use Rattle.std.proofs.Math.Option.{Option, none, some}
+use Rattle.std.specs.Prelude.{Option, None, Some}
 use native.Mathlib.Omega.{arith}
 use Rattle.std.proofs.Math.Nat.{zero-add}
 use Rattle.std.proofs.Math.ListN.{length, take, drop}
@@ -42,12 +42,12 @@ archive_in = do
   run n
 
 abbrev pub book_of : ArchiveRead → Option Book
-book_of (book b) = some (view b)
-book_of (broken e) = none
+book_of (book b) = Some (view b)
+book_of (broken e) = None
 
 abbrev pub held_by : Ans (List ℕ) → Option Book
 held_by (got s e) = book_of (read_archive s)
-held_by (bad e) = none
+held_by (bad e) = None
 
 -- the book that lent bytes hold; none where they are shorter than 8, or than their length says, or hold no archive
 unfoldable pub held_in : List ℕ → Option Book
@@ -56,7 +56,7 @@ held_in d = held_by (archive_in d 0)
 
 -- d holds b
 pub record Holding (d : List ℕ) (b : BookData) : Type 0 where
-  pub held : held_in d ≡ some (view b)
+  pub held : held_in d ≡ Some (view b)
   pub sound : soundb b ≡ true
   pub typed : Typed b
   pub room : length (layout (encode_book b)) ≤ length d
@@ -64,7 +64,7 @@ pub record Holding (d : List ℕ) (b : BookData) : Type 0 where
 
 -- what reading the held book answers
 pub record HeldAnswer (d : List ℕ) (r : ReadArchive) : Type 0 where
-  pub absent : r.ok ≡ false → held_in d ≡ none
+  pub absent : r.ok ≡ false → held_in d ≡ None
   pub present : r.ok ≡ true → Holding d r.book
 
 -- ---- bytes are bytes
@@ -72,9 +72,6 @@ every_next : (s : List ℕ) (i : ℕ) → Every U8 (take i s) → get_or s i 0 <
 every_next [] i e b = tt
 every_next (x ∷ s) zero e b = (b, tt)
 every_next (x ∷ s) (suc i) e b = (e.0, every_next s i e.1 b)
-
-pub every_more : (s : List ℕ) (i : ℕ) → Every U8 (take i s) → get_or s i 0 < 256 → Every U8 (take (i + 1) s)
-every_more s i e b = subst (λ (k : ℕ). Every U8 (take k s)) (sym (add-one i)) (every_next s i e b)
 
 pub every_whole : (s : List ℕ) (i : ℕ) → length s ≤ i → Every U8 (take i s) → Every U8 s
 every_whole [] i h e = tt

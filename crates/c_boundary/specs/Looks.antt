@@ -7,7 +7,8 @@ use Rattle.std.proofs.Math.Bool.{true, false, cond}
 use mathlib.Core.List.{List, []}
 use Rattle.base_coin_string.specs.CoinIds.{id_listb}
 use Rattle.base_coin_string.specs.CoinList.{coins_in, coin_listb}
-use Rattle.base_lists.specs.Lists.{filterb, flat_map, elemb}
+use Rattle.base_lists.specs.Lists.{elemb}
+use Rattle.std.specs.List.{filter, flat_map}
 use Rattle.codec_forms.specs.Wire.{overlay}
 use Rattle.book.specs.Model.{Book, view}
 use Rattle.book.specs.Refusals as refusals
@@ -126,7 +127,7 @@ pub looks_absent_outputs : (is absent : List ℕ) (room : ℕ) → Looks (absent
 unfolding absent_outputs_for_ids
 looks_absent_outputs is absent room =
     looks_cond (ids_ok is && coin_listb absent) _ _
-    (λ b. looks_writing room (encode_coins (flat_map (λ t. absent_outputs (coins_in absent) t.entry.intent) (filterb (λ t. elemb (id_of t) is) b.submitted)))) tt
+    (λ b. looks_writing room (encode_coins (flat_map (λ t. absent_outputs (coins_in absent) t.entry.intent) (filter (λ t. elemb (id_of t) is) b.submitted)))) tt
 
 pub looks_write : (encode : Book → List ℕ) (room : ℕ) → Looks (write_archive encode room)
 unfolding write_archive

@@ -4,7 +4,7 @@ use Rattle.std.specs.Prelude.{◌≡◌, Bool, true, false, cond, ◌&&◌, leng
 use Rattle.std.proofs.Math.Path.{refl, ap}
 use Rattle.std.proofs.Common.{sym, ◌∙◌, subst, arith, zero-add, length-append}
 use mathlib.Core.List.{List, [], ◌∷◌, ◌++◌}
-use Rattle.std.proofs.Math.Option.{Option, none, some}
+use Rattle.std.specs.Prelude.{Option, None, Some}
 use borrow.Author.Tests.{le-leb, lt-leb}
 use Rattle.codec_forms.specs.Wire.{be, overlay}
 use Rattle.codec_forms.specs.Number.{be_length}
@@ -52,8 +52,8 @@ settled form d a (undone n) = refusal n d a
 settled form d a (stopped m xs n) = written n m [] d a
 
 abbrev pub ruled : {A : Type 0} → Form A → Rule A → List ℕ → List ℕ → Option Book → Left
-ruled form r d a none = refusal refusals.no_book d a
-ruled form r d a (some m) = settled form d a (run_book r m)
+ruled form r d a None = refusal refusals.no_book d a
+ruled form r d a (Some m) = settled form d a (run_book r m)
 
 -- a call by these rules on the book that d holds, with the lent answer a
 unfoldable pub boundary : {A : Type 0} → Form A → Rule A → List ℕ → List ℕ → Left
@@ -73,8 +73,8 @@ module _ {A B : Type 0} (f : A → B) (form : Form A) (form' : Form B) (same : (
   boundary_mapped r = go (held_in d)
     where
       go : (x : Option Book) → ruled form' (f <$> r) d a x ≡ ruled form r d a x
-      go none = refl
-      go (some m) = ap (settled form' d a) (run_map (λ b. b) on_book f r m) ∙ settled_mapped (run_book r m)
+      go None = refl
+      go (Some m) = ap (settled form' d a) (run_map (λ b. b) on_book f r m) ∙ settled_mapped (run_book r m)
 
 -- what a function of the boundary leaves
 pub record Gives (l : Left) (n : ℕ) (d a : List ℕ) : Type 0 where
@@ -159,7 +159,7 @@ module _ {A : Type 0} (form : Form A) (d a : List ℕ) (b : BookData) (h : Holdi
   pub boundary_reply : (r : Rule A) (l : List ℕ) → Tells form (run_book r (view b)) l → finish (answer_of (run_book r (view b))) (book_left b (run_book r (view b))) l d a ≡ boundary form r d a
   boundary_reply r l t = finish_settled (run_book r (view b)) l t ∙ sym (boundary_held r)
 
-pub boundary_absent : {A : Type 0} (form : Form A) (r : Rule A) (d a : List ℕ) → held_in d ≡ none → boundary form r d a ≡ refusal refusals.no_book d a
+pub boundary_absent : {A : Type 0} (form : Form A) (r : Rule A) (d a : List ℕ) → held_in d ≡ None → boundary form r d a ≡ refusal refusals.no_book d a
 unfolding boundary
 boundary_absent form r d a e = ap (ruled form r d a) e
 

@@ -5,7 +5,7 @@ use Rattle.std.proofs.Math.Path.{refl, ap}
 use Rattle.std.proofs.Common.{◌∙◌, suc-mul, arith}
 use Rattle.std.proofs.Math.Bool.{true, false}
 use mathlib.Core.List.{List, [], ◌∷◌, ◌++◌, map}
-use Rattle.std.proofs.Math.Option.{Option, none, some}
+use Rattle.std.specs.Prelude.{Option, None, Some}
 use Rattle.std.proofs.Math.ListN.{length, length-append, length-replicate}
 use Rattle.codec_forms.specs.Wire.{be, enc_many, enc_opt}
 use Rattle.codec_forms.specs.Number.{be_length}
@@ -14,7 +14,7 @@ use Rattle.archive_form.specs.Encode.{encode_model, encode_book}
 use Rattle.archive_laws.specs.Books.{TypedModel}
 use Rattle.archive_laws.specs.Back.{back_typed}
 use Rattle.archive_laws.specs.Sizes.{archive_size, bundle_size, height_size, fee_intent_size}
-use Rattle.book.specs.Model.{Book, back, ids64}
+use Rattle.book.specs.Model.{Book, back, id_cells}
 use Rattle.book.specs.SoundLaws.{view_back}
 use Rattle.book.specs.Zero.{no_attempt}
 use Rattle.book.specs.Typed.{Every, TypedFeeIntent, TypedAttempt}
@@ -35,8 +35,7 @@ use Rattle.rules_answers.specs.Said.{TypedFinal, TypedDrained}
 use Rattle.c_boundary.specs.Held.{book_bytes, held_in}
 use Rattle.c_boundary.specs.Settle.{Left, Form, settled, ruled, boundary, written_fits, layout_length}
 use Rattle.c_boundary.specs.Forms.{status_form, flag_form, height_form, ids_form, attempt_form, look_form, summary_form, fee_intent_form, final_form, drain_form, ids_most, slot_most, fee_intent_most, final_most}
-use Rattle.book.specs.declared.OptionalId.TheVariants.{Of}
-use Rattle.book.specs.declared.OptionalHeight.{OptionalHeight}
+use Rattle.book.specs.declared.Height.{Height}
 use Rattle.book_answers.specs.Zero.{zero_look}
 use Rattle.book_answers.specs.declared.BookSummary.{BookSummary}
 use Rattle.book_answers.specs.declared.SubmissionAttemptStatus.{SubmissionAttemptStatus}
@@ -77,12 +76,12 @@ module _ {A : Type 0} (form : Form A) (d a : List ℕ) (h : 57702 ≤ length d) 
   settled_enough m (stopped k xs n) t w = ap (λ (l : Left). l.number) (written_fits n k [] d a (omega (arith, enough k t)) (omega arith))
 
   -- the number is the rules' own
-  pub call_enough : (m : Book) (r : Rule A) → held_in d ≡ some m → TypedModel (left m (run_book r m)) → AnswerFits form (length a) (run_book r m) → (boundary form r d a).number ≡ number_by (run_book r m)
+  pub call_enough : (m : Book) (r : Rule A) → held_in d ≡ Some m → TypedModel (left m (run_book r m)) → AnswerFits form (length a) (run_book r m) → (boundary form r d a).number ≡ number_by (run_book r m)
   unfolding boundary
   call_enough m r e t w = ap (λ (x : Option Book). (ruled form r d a x).number) e ∙ settled_enough m (run_book r m) t w
 
 -- the same for a call with arguments within their types, on a sound book within the types: the book that it leaves is one, too
-pub typed_call_enough : (form : Form Value) (d a : List ℕ) → 57702 ≤ length d → (c : Call) (m : Book) → held_in d ≡ some m → SoundBook m → Within m → TypedCall c → AnswerFits form (length a) (run_book (rules encode_model c) m)
+pub typed_call_enough : (form : Form Value) (d a : List ℕ) → 57702 ≤ length d → (c : Call) (m : Book) → held_in d ≡ Some m → SoundBook m → Within m → TypedCall c → AnswerFits form (length a) (run_book (rules encode_model c) m)
     → (boundary form (rules encode_model c) d a).number ≡ number_by (run_book (rules encode_model c) m)
 unfolding call_book
 typed_call_enough form d a h c m e s w t f =
@@ -90,8 +89,8 @@ typed_call_enough form d a h c m e s w t f =
 
 -- ---- the answers
 abbrev pub OnSome : {A : Type 0} → (A → Type 0) → Option A → Type 0
-OnSome P none = Unit {0}
-OnSome P (some x) = P x
+OnSome P None = Unit {0}
+OnSome P (Some x) = P x
 
 module _ (xs : List DrainedSubmission) where
   pub status_enough : (v : SubmissionAttemptStatus) → length (status_form xs v) ≤ 1
@@ -100,23 +99,23 @@ module _ (xs : List DrainedSubmission) where
   pub flag_enough : (v : Bool) → length (flag_form xs v) ≤ 1
   flag_enough v = omega (arith, be_length 1 (flag_number v))
 
-  pub height_enough : (v : OptionalHeight) → length (height_form xs v) ≤ 9
+  pub height_enough : (v : Option Height) → length (height_form xs v) ≤ 9
   unfolding height_form
   height_enough v = height_size v
 
   pub ids_enough : (is : List ℕ) → length is ≤ 64 → length (ids_form xs is) ≤ 513
   unfolding ids_form
-  ids_enough is h = ids_most (ids64 is) (omega (arith, length-append is (replicate (64 - length is) 0), length-replicate {A = ℕ} (64 - length is) 0))
+  ids_enough is h = ids_most (id_cells 64 is) (omega (arith, length-append is (replicate (64 - length is) 0), length-replicate {A = ℕ} (64 - length is) 0))
 
   pub attempt_enough : (o : Option DeliveryAttempt) → OnSome TypedAttempt o → length (attempt_form xs o) ≤ 75
   unfolding attempt_form no_attempt
-  attempt_enough none t = slot_most no_attempt refl refl
-  attempt_enough (some a) t = slot_most (record { present = true; attempt = a }) t.drained.long t.finalized.long
+  attempt_enough None t = slot_most no_attempt refl refl
+  attempt_enough (Some a) t = slot_most (record { present = true; attempt = a }) t.drained.long t.finalized.long
 
   pub look_enough : (o : Option SubmissionLook) → length (look_form xs o) ≤ 39
   unfolding look_form
-  look_enough none = look_most false zero_look
-  look_enough (some l) = look_most true l
+  look_enough None = look_most false zero_look
+  look_enough (Some l) = look_most true l
 
   pub summary_enough : (v : BookSummary) → length (summary_form xs v) ≤ 57
   unfolding summary_form
@@ -124,13 +123,13 @@ module _ (xs : List DrainedSubmission) where
 
   pub fee_intent_enough : (o : Option SubmissionFeeIntent) → OnSome TypedFeeIntent o → length (fee_intent_form xs o) ≤ 42
   unfolding fee_intent_form enc_opt
-  fee_intent_enough none t = omega (arith, be_length 1 0)
-  fee_intent_enough (some f) t = fee_intent_most true (encode_fee_intent f) (record { is = refl; few = fee_intent_size f t })
+  fee_intent_enough None t = omega (arith, be_length 1 0)
+  fee_intent_enough (Some f) t = fee_intent_most true (encode_fee_intent f) (record { is = refl; few = fee_intent_size f t })
 
 pub final_enough : (xs : List DrainedSubmission) (o : Option FinalizedSubmission) → OnSome TypedFinal o → length (final_form xs o) ≤ 1117
 unfolding final_form enc_opt
-final_enough xs none t = omega (arith, be_length 1 0)
-final_enough xs (some f) t = final_most true f (record { is = refl; few = bundle_size f.bundle t.bundle }) t.fingerprint
+final_enough xs None t = omega (arith, be_length 1 0)
+final_enough xs (Some f) t = final_most true f (record { is = refl; few = bundle_size f.bundle t.bundle }) t.fingerprint
 
 drained_few : (d : DrainedSubmission) → TypedDrained d → length (encode_drained d) ≤ 1149
 drained_few d t =
@@ -138,7 +137,7 @@ drained_few d t =
 
 failure_few : (f : SubmissionDrainFailure) → length f.intent_fingerprint ≡ 32 → length (encode_failure f) ≤ 59
 unfolding encode_failure
-failure_few f h = failure_most f.candidate_index (retained_id f) (Of f.candidate_id) f.intent_fingerprint (stage_number (stage_of f.cause)) h
+failure_few f h = failure_most f.candidate_index (retained_id f) (Some f.candidate_id) f.intent_fingerprint (stage_number (stage_of f.cause)) h
 
 submissions_few : (n : ℕ) (xs : List DrainedSubmission) → length xs ≤ n → Every TypedDrained xs → length (enc_many encode_drained xs) ≤ n * 1149
 unfolding enc_many

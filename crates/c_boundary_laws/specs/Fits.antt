@@ -4,9 +4,10 @@ use Rattle.std.specs.Prelude.{ℕ, ◌≤◌, ◌≡◌, Bool, true, false, cond
 use Rattle.std.proofs.Math.Path.{refl}
 use Rattle.std.proofs.Common.{sym, ap, ◌∙◌, subst, arith, le-leb}
 use Rattle.std.proofs.lemmas.Bool.{false≢true}
-use Rattle.std.proofs.Math.Option.{Option, none, some}
+use Rattle.std.specs.Prelude.{Option, None, Some}
 use Rattle.base_lists.specs.Laws.{or-false}
-use Rattle.base_lists.specs.Lists.{filterb, flat_map, elemb}
+use Rattle.base_lists.specs.Lists.{elemb}
+use Rattle.std.specs.List.{filter, flat_map}
 use Rattle.base_coin_string.specs.CoinList.{coins_in, coin_listb}
 use Rattle.book.specs.Model.{Book}
 use Rattle.book.specs.Sound.{id_of}
@@ -33,23 +34,7 @@ use Rattle.rules_answers.specs.Coins.{inputs_size, outputs_size}
 use Rattle.c_boundary.specs.Held.{held_in}
 use Rattle.c_boundary.specs.Settle.{Form, boundary}
 use Rattle.c_boundary.specs.Forms.{no_form, ids_form, attempt_form, fee_intent_form, final_form, drain_form, bytes_form, value_form, ToldAs, as_nothing, as_status, as_ids, as_flag, as_height, as_attempt, as_look, as_summary, as_fee_intent, as_final, as_drained, as_bytes}
-use Rattle.c_boundary_laws.specs.Enough.{
-  AnswerFits,
-  number_by,
-  book_length,
-  enough,
-  typed_call_enough,
-  status_enough,
-  flag_enough,
-  height_enough,
-  ids_enough,
-  attempt_enough,
-  look_enough,
-  summary_enough,
-  fee_intent_enough,
-  final_enough,
-  drain_enough,
-}
+use Rattle.c_boundary_laws.specs.Enough.{AnswerFits, number_by, book_length, enough, typed_call_enough, status_enough, flag_enough, height_enough, ids_enough, attempt_enough, look_enough, summary_enough, fee_intent_enough, final_enough, drain_enough}
 use Rattle.book.specs.declared.DeliveryAttempt.{DeliveryAttempt}
 use Rattle.book.specs.declared.SubmissionFeeIntent.{SubmissionFeeIntent}
 use Rattle.book_answers.specs.declared.SubmissionDrainFailure.{SubmissionDrainFailure}
@@ -97,16 +82,16 @@ said_fits form k P h (undone n) s = tt
 said_fits form k P h (stopped m xs n) s = tt
 
 final_fits : (n : ℕ) (xs : List DrainedSubmission) (v : Option FinalizedSubmission) → FinalSays n v → length (final_form xs v) ≤ 1117
-final_fits n xs v no_final = final_enough xs none tt
-final_fits n xs v (one_final f t) = final_enough xs (some f) t
+final_fits n xs v no_final = final_enough xs None tt
+final_fits n xs v (one_final f t) = final_enough xs (Some f) t
 
 fee_intent_fits : (n : ℕ) (xs : List DrainedSubmission) (v : Option SubmissionFeeIntent) → FeeIntentSays n v → length (fee_intent_form xs v) ≤ 42
-fee_intent_fits n xs v no_intent = fee_intent_enough xs none tt
-fee_intent_fits n xs v (one_intent f t) = fee_intent_enough xs (some f) t
+fee_intent_fits n xs v no_intent = fee_intent_enough xs None tt
+fee_intent_fits n xs v (one_intent f t) = fee_intent_enough xs (Some f) t
 
 attempt_fits : (n : ℕ) (xs : List DrainedSubmission) (v : Option DeliveryAttempt) → AttemptSays n v → length (attempt_form xs v) ≤ 75
-attempt_fits n xs v no_attempt = attempt_enough xs none tt
-attempt_fits n xs v (one_attempt a t) = attempt_enough xs (some a) t
+attempt_fits n xs v no_attempt = attempt_enough xs None tt
+attempt_fits n xs v (one_attempt a t) = attempt_enough xs (Some a) t
 
 ids_fit : (n : ℕ) (xs : List DrainedSubmission) (v : List ℕ) → IdsSay n v → length (ids_form xs v) ≤ 513
 ids_fit n xs v (ids_say is h) = ids_enough xs is h
@@ -211,7 +196,7 @@ module _ (m : Book) (s : SoundBook m) (w : Within m) where
   fits (Call.AbsentOutputsForIds is absent room) t r =
       mapped_fitting as_bytes 18946 (absent_outputs_for_ids is absent room) m
       (asked_fits 18946 _ m
-      (written_fits m room 18946 (encode_coins (flat_map (λ x. absentOutputsOf (coins_in absent) x.entry.intent) (filterb (λ x. elemb (id_of x) is) m.submitted))) r
+      (written_fits m room 18946 (encode_coins (flat_map (λ x. absentOutputsOf (coins_in absent) x.entry.intent) (filter (λ x. elemb (id_of x) is) m.submitted))) r
       (outputs_size m s w is (coins_in absent))) (ids_ok is && coin_listb absent))
   fits (Call.CollectRollbackReplayIds is) t r = always (Call.CollectRollbackReplayIds is) refl as_nothing (collect_rollback_replay_ids is) refl silent
   fits Call.ClearLocalArtifacts t r = always Call.ClearLocalArtifacts refl as_nothing clear_local_artifacts refl silent
@@ -224,7 +209,7 @@ module _ (m : Book) (s : SoundBook m) (w : Within m) where
       (unfold run in written_fits m room 57694 (encode_model m) r (omega (arith, book_length m, enough m (typed_model m w s))))
 
 -- on lent bytes: with 57,702 bytes for the book and the header's size for the answer, the number is the rules' own, and not 12
-pub header_enough : (d a : List ℕ) (m : Book) → held_in d ≡ some m → SoundBook m → Within m → (c : Call) → TypedCall c → 57702 ≤ length d → answer_bytes (kind_of c) ≤ length a → Roomy (kind_of c)
+pub header_enough : (d a : List ℕ) (m : Book) → held_in d ≡ Some m → SoundBook m → Within m → (c : Call) → TypedCall c → 57702 ≤ length d → answer_bytes (kind_of c) ≤ length a → Roomy (kind_of c)
     → ((boundary value_form (rules encode_model c) d a).number ≡ number_by (run_book (rules encode_model c) m)) × ((boundary value_form (rules encode_model c) d a).number ≡ refusals.short_buffer → ⊥)
 header_enough d a m e s w c t h k r =
     let f = fits m s w c t r in

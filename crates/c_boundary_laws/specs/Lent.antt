@@ -4,7 +4,7 @@ use Prim.Native.Nat.{ℕ, ◌+◌, ◌≤◌, ◌<◌, zero-le, ◌^◌}
 use Rattle.std.specs.Prelude.{◌≡◌, Bool, true, false, cond, ◌&&◌, List, ◌++◌, length, drop, take, leb}
 use Rattle.std.proofs.Math.Path.{refl}
 use Rattle.std.proofs.Common.{sym, ap, ◌∙◌, subst, append_assoc, arith, zero-add, length-append, length-drop, drop_at, take_at, le-leb, leb-true}
-use Rattle.std.proofs.Math.Option.{Option, none, some}
+use Rattle.std.specs.Prelude.{Option, None, Some}
 use Rattle.codec_forms.specs.Wire.{Ans, got, bad, number, run, overlay, be}
 use Rattle.codec_forms.specs.Lawful.{Spans}
 use Rattle.codec_forms.proofs.Items.{run_lawful, number_lawful}
@@ -74,7 +74,7 @@ archive_front s d h k =
     front : (l s t : List ℕ) → length l ≡ 8 → drop 0 (l ++ s ++ t) ≡ l ++ drop 8 (l ++ s ++ t)
     front l s t q = append_assoc l s t ∙ ap (λ (x : List ℕ). l ++ x) (sym (drop_front l s t q))
 
-written_held : (m : Book) (d : List ℕ) → TypedModel m → SoundBook m → length (book_bytes m) ≤ length d → held_in (overlay (book_bytes m) d) ≡ some m
+written_held : (m : Book) (d : List ℕ) → TypedModel m → SoundBook m → length (book_bytes m) ≤ length d → held_in (overlay (book_bytes m) d) ≡ Some m
 unfolding held_in book_bytes
 written_held m d t s h =
     let b = back m in
@@ -84,27 +84,27 @@ written_held m d t s h =
     ap held_by (archive_front (encode_model m) d f h)
     ∙ ap (λ (x : List ℕ). book_of (read_archive x)) (sym e)
     ∙ ap book_of (restored b y (back_sound m t s.lists))
-    ∙ ap some (view_back m)
+    ∙ ap Some (view_back m)
 
-pub holds_held : (m : Book) (d : List ℕ) → Holds m d → SoundBook m → TypedModel m → held_in d ≡ some m
+pub holds_held : (m : Book) (d : List ℕ) → Holds m d → SoundBook m → TypedModel m → held_in d ≡ Some m
 holds_held m d h s t = ap held_in (sym h.front) ∙ written_held m d t s h.room
 
 -- and bytes hold what is read from them
 module _ (d : List ℕ) (u : Every U8 d) where
-  from_archive : (s : List ℕ) (e : ℕ) (m : Book) → archive_in d 0 ≡ got s e → Spans d 0 e (layout s) → Every U8 s → (x : ArchiveRead) → read_archive s ≡ x → book_of x ≡ some m → Holds m d
+  from_archive : (s : List ℕ) (e : ℕ) (m : Book) → archive_in d 0 ≡ got s e → Spans d 0 e (layout s) → Every U8 s → (x : ArchiveRead) → read_archive s ≡ x → book_of x ≡ Some m → Holds m d
   from_archive s e m p y v (book b) q f =
       let h = holding_of d s e b v p y q in
       let g : view b ≡ m = some_is f in
       subst (λ (k : Book). Holds k d) g (record { room = holding_room d b h; front = holding_bytes d b h })
     where
-      some_is : {x y : Book} → some x ≡ some y → x ≡ y
+      some_is : {x y : Book} → Some x ≡ Some y → x ≡ y
       some_is q = cc
   from_archive s e m p y v (broken n) q f = absurd (let z : ◌≡◌ {A = ℕ} 0 1 = cc in omega arith)
 
-  nothing_read : {X : Type 0} (m : Book) → ◌≡◌ {A = Option Book} none (some m) → X
+  nothing_read : {X : Type 0} (m : Book) → ◌≡◌ {A = Option Book} None (Some m) → X
   nothing_read m e = absurd (let z : ◌≡◌ {A = ℕ} 0 1 = cc in omega arith)
 
-  from_run : (v a : ℕ) (m : Book) → number 8 d 0 ≡ got v a → held_in d ≡ some m → (y : Ans (List ℕ)) → run v d a ≡ y → Holds m d
+  from_run : (v a : ℕ) (m : Book) → number 8 d 0 ≡ got v a → held_in d ≡ Some m → (y : Ans (List ℕ)) → run v d a ≡ y → Holds m d
   unfolding held_in archive_in
   from_run v a m p h (got s e) q =
       let x = then_got (number 8) run d 0 p ∙ q in
@@ -112,12 +112,12 @@ module _ (d : List ℕ) (u : Every U8 d) where
       from_archive s e m x (archive_exact d s v a e u p q) (bytes_every s ((run_lawful v).exact d a e s (every_bytes d u) y.1.inside q).0.bytes) (read_archive s) refl (sym (ap held_by x) ∙ h)
   from_run v a m p h (bad e) q = nothing_read m (sym (ap held_by (then_got (number 8) run d 0 p ∙ q)) ∙ h)
 
-  from_length : (m : Book) → held_in d ≡ some m → (x : Ans ℕ) → number 8 d 0 ≡ x → Holds m d
+  from_length : (m : Book) → held_in d ≡ Some m → (x : Ans ℕ) → number 8 d 0 ≡ x → Holds m d
   unfolding held_in archive_in
   from_length m h (got v a) p = from_run v a m p h (run v d a) refl
   from_length m h (bad e) p = nothing_read m (sym (ap held_by (then_bad (number 8) run d 0 p)) ∙ h)
 
-  pub held_holds : (m : Book) → held_in d ≡ some m → Holds m d
+  pub held_holds : (m : Book) → held_in d ≡ Some m → Holds m d
   held_holds m h = from_length m h (number 8 d 0) refl
 
 -- ---- writing a book and an answer: done whole, or not at all

@@ -1,7 +1,7 @@
 -- Finalising with a source and a joined bundle that are bytes: one law for each return, in the order of the checks (1, 3).
 use Rattle.std.specs.Prelude.{ℕ, ◌≤◌, ◌<◌, ◌≡◌, List}
 use Rattle.std.proofs.Common.{sym, ap, ◌∙◌}
-use Rattle.std.proofs.Math.Option.{Option, none, some}
+use Rattle.std.specs.Prelude.{Option, None, Some}
 use Rattle.book.specs.Model.{view}
 use Rattle.book.specs.declared.BookData.{BookData}
 use Rattle.book.specs.declared.SpendBundle.{SpendBundle}
@@ -31,7 +31,7 @@ module _ (d : List ℕ) (token source : ℕ) (joined a : List ℕ) where
   abbrev Finalized : ℕ → List ℕ → List ℕ → Type 0
   Finalized n d' a' = Gives (boundary final_form (finalizing token source joined) d a) n d' a'
 
-  pub finalize_absent : held_in d ≡ none → Finalized 1 d a
+  pub finalize_absent : held_in d ≡ None → Finalized 1 d a
   finalize_absent e = gives_absent final_form (finalizing token source joined) d a e
 
   module _ (b : BookData) (h : Holding d b) where
@@ -39,13 +39,13 @@ module _ (d : List ℕ) (token source : ℕ) (joined a : List ℕ) where
     source_bad e = gives_undo 3 final_form d a b h (finalizing token source joined) (given_none (joining token source joined) (source_over source e))
 
     module _ (e : source ≤ 3) where
-      pub joined_bad : joined_in source joined ≡ none → Finalized 3 d a
+      pub joined_bad : joined_in source joined ≡ None → Finalized 3 d a
       joined_bad f =
           gives_undo 3 final_form d a b h (finalizing token source joined)
           (given_some (joining token source joined) (source_in_lem source e) ∙ given_none (λ (j : SpendBundle). finalize_attempt token (source_from source) j) f)
 
       pub finalize_done : {s : SubmissionFeeSource} {j : SpendBundle} {n : ℕ} {d' a' : List ℕ} (r : FinalizeReply) → s ≡ source_from source
-          → joined_in source joined ≡ some j → r ≡ finalize_reply b (run_book (finalize_attempt token s j) (view b))
+          → joined_in source joined ≡ Some j → r ≡ finalize_reply b (run_book (finalize_attempt token s j) (view b))
           → Gives (finish r.answer r.book (enc_opt r.present (encode_final r.finalized)) d a) n d' a' → Finalized n d' a'
       finalize_done {s} {j} r k f q g =
           let y = given_some (joining token source joined) (source_in_lem source e) ∙ given_some (λ (i : SpendBundle). finalize_attempt token (source_from source) i) f

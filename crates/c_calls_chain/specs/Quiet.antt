@@ -3,11 +3,12 @@ use Rattle.std.specs.Prelude.{ℕ, ◌≤◌, ◌≡◌, refl, Bool, true, false
 use Rattle.std.proofs.Common.{sym, ◌∙◌, arith, leb-true}
 use Rattle.std.proofs.Math.Path.{ap}
 use mathlib.Core.List.{List, []}
-use Rattle.std.proofs.Math.Option.{Option, none, some}
+use Rattle.std.specs.Prelude.{Option, None, Some}
 use Rattle.codec_forms.specs.Wire.{overlay}
 use Rattle.book.specs.Model.{Book, view}
 use Rattle.book.specs.declared.BookData.{BookData}
-use Rattle.base_lists.specs.Lists.{filterb, flat_map, elemb}
+use Rattle.base_lists.specs.Lists.{elemb}
+use Rattle.std.specs.List.{filter, flat_map}
 use Rattle.base_coin_string.specs.CoinList.{coins_in, coin_listb}
 use Rattle.book.specs.Sound.{id_of}
 use Rattle.rules.specs.CoinLists.{encode_coins}
@@ -33,8 +34,8 @@ length_by form k (undone n) = k
 length_by form k (stopped m xs n) = k
 
 abbrev pub length_of : ℕ → Rule (List ℕ) → Option Book → ℕ
-length_of k r none = k
-length_of k r (some m) = length_by bytes_form k (run_book r m)
+length_of k r None = k
+length_of k r (Some m) = length_by bytes_form k (run_book r m)
 
 pub record GivesBytes (l : Left) (count n : ℕ) (d a : List ℕ) (k : ℕ) : Type 0 where
   pub left : Gives l n d a
@@ -66,7 +67,7 @@ unfolding absent_outputs_for_ids run
 absent_quiet is absent room m = go (ids_ok is && coin_listb absent)
   where
     found : Book → List ℕ
-    found b = encode_coins (flat_map (λ t. absent_outputs (coins_in absent) t.entry.intent) (filterb (λ t. elemb (id_of t) is) b.submitted))
+    found b = encode_coins (flat_map (λ t. absent_outputs (coins_in absent) t.entry.intent) (filter (λ t. elemb (id_of t) is) b.submitted))
 
     go : (t : Bool) → Quiet m room (run_book (cond t (book >>= (λ b. writing room (found b))) (undo refusals.bad_list)) m)
     go true = writing_quiet m room (found m)
@@ -108,7 +109,7 @@ module _ (d a : List ℕ) (b : BookData) (h : Holding d b) (k : ℕ) (w : Writte
         let x = quiet_refused n q e f g in
         record { left = gives_as (sym (boundary_held bytes_form d a b h r)) x.0; length = x.1 ∙ sym (ap (length_of k r) h.held) }
 
-pub bytes_absent : (d a : List ℕ) (k : ℕ) (r : Rule (List ℕ)) → held_in d ≡ none → GivesBytes (boundary bytes_form r d a) (length_of k r (held_in d)) 1 d a k
+pub bytes_absent : (d a : List ℕ) (k : ℕ) (r : Rule (List ℕ)) → held_in d ≡ None → GivesBytes (boundary bytes_form r d a) (length_of k r (held_in d)) 1 d a k
 bytes_absent d a k r e = record {
   left = gives_as (sym (boundary_absent bytes_form r d a e)) (record { number = refl; book = refl; answer = refl });
   length = sym (ap (length_of k r) e);

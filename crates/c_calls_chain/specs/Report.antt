@@ -1,7 +1,7 @@
 -- A chain report, with its lists and a flag that is a byte: one law for each return, in the order of the checks (1, 2, 3).
 use Rattle.std.specs.Prelude.{ℕ, zero, suc, ◌≤◌, ◌<◌, ◌≡◌, refl, Bool, true, false, ◌&&◌, List, [], eqb, leb, length}
 use Rattle.std.proofs.Common.{sym, ap, ◌∙◌, arith}
-use Rattle.std.proofs.Math.Option.{none, some}
+use Rattle.std.specs.Prelude.{None, Some}
 use Rattle.base_coin_string.specs.CoinIds.{id_listb}
 use Rattle.base_coin_string.specs.CoinList.{coin_listb}
 use Rattle.book.specs.Model.{view}
@@ -17,12 +17,12 @@ use Rattle.c_boundary.specs.Forms.{no_form, gives_book_absent, done_given_lem}
 use Rattle.c_boundary.specs.Held.{held_in, Holding}
 use Rattle.c_boundary.specs.Settle.{boundary, GivesBook, gives_book_as, finish}
 
-pub flag_over : (n : ℕ) → 1 < n → flag_in n ≡ none
+pub flag_over : (n : ℕ) → 1 < n → flag_in n ≡ None
 flag_over zero h = absurd (omega arith)
 flag_over (suc zero) h = absurd (omega arith)
 flag_over (suc (suc n)) h = refl
 
-pub flag_in_lem : (n : ℕ) → n ≤ 1 → flag_in n ≡ some (eqb n 1)
+pub flag_in_lem : (n : ℕ) → n ≤ 1 → flag_in n ≡ Some (eqb n 1)
 flag_in_lem zero h = refl
 flag_in_lem (suc zero) h = refl
 flag_in_lem (suc (suc n)) h = absurd (omega arith)
@@ -46,7 +46,7 @@ module _ (d observed spent : List ℕ) (reorg : ℕ) (ids : List ℕ) where
   abbrev Reported : ℕ → List ℕ → Type 0
   Reported n d' = GivesBook (boundary no_form (reporting observed spent reorg ids) d []) n d'
 
-  pub report_absent : held_in d ≡ none → Reported 1 d
+  pub report_absent : held_in d ≡ None → Reported 1 d
   report_absent e = gives_book_absent no_form (reporting observed spent reorg ids) d e
 
   module _ (b : BookData) (h : Holding d b) where

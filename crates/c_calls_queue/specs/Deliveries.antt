@@ -1,7 +1,7 @@
 -- Calls that offer deliveries, with arguments that are bytes: one law for each of their returns, in the order of the checks (1, 2, 3).
 use Rattle.std.specs.Prelude.{ℕ, ◌≤◌, ◌<◌, ◌≡◌, true, false, List, [], length}
 use Rattle.std.proofs.Common.{sym, ap, ◌∙◌}
-use Rattle.std.proofs.Math.Option.{none, some}
+use Rattle.std.specs.Prelude.{None, Some}
 use borrow.Author.Tests.{le-leb, lt-leb}
 use Rattle.book.specs.Model.{view}
 use Rattle.book.specs.declared.BookData.{BookData}
@@ -47,14 +47,14 @@ module _ (d delivery : List ℕ) where
   abbrev Queued : ℕ → List ℕ → Type 0
   Queued n d' = GivesBook (boundary no_form (queueing delivery) d []) n d'
 
-  pub queue_absent : held_in d ≡ none → Queued 1 d
+  pub queue_absent : held_in d ≡ None → Queued 1 d
   queue_absent e = gives_book_absent no_form (queueing delivery) d e
 
   module _ (b : BookData) (h : Holding d b) where
-    pub queue_bad : bytes_as parse_delivery delivery ≡ none → Queued 3 d
+    pub queue_bad : bytes_as parse_delivery delivery ≡ None → Queued 3 d
     queue_bad e = gives_book_undo 3 no_form d b h (queueing delivery) (given_none queue e)
 
-    pub queue_done : {v : PendingDelivery} {n : ℕ} {d' : List ℕ} (r : DoneReply) → bytes_as parse_delivery delivery ≡ some v
+    pub queue_done : {v : PendingDelivery} {n : ℕ} {d' : List ℕ} (r : DoneReply) → bytes_as parse_delivery delivery ≡ Some v
         → r ≡ done_reply b (run_book (queue v) (view b)) → GivesBook (finish r.answer r.book [] d []) n d' → Queued n d'
     queue_done {v} r e q g = by d (given_some queue e) (done_given_lem d b h (queue v) r q g)
 
@@ -63,20 +63,20 @@ module _ (d : List ℕ) (id trigger goal : ℕ) where
   abbrev Delivered : ℕ → List ℕ → Type 0
   Delivered n d' = GivesBook (boundary no_form (delivering id trigger goal) d []) n d'
 
-  pub delivery_absent : held_in d ≡ none → Delivered 1 d
+  pub delivery_absent : held_in d ≡ None → Delivered 1 d
   delivery_absent e = gives_book_absent no_form (delivering id trigger goal) d e
 
   module _ (b : BookData) (h : Holding d b) where
-    pub trigger_bad : byte_as parse_trigger trigger ≡ none → Delivered 3 d
+    pub trigger_bad : byte_as parse_trigger trigger ≡ None → Delivered 3 d
     trigger_bad e = gives_book_undo 3 no_form d b h (delivering id trigger goal) (given_none (offering id goal) e)
 
-    module _ {t : DeliveryTrigger} (e : byte_as parse_trigger trigger ≡ some t) where
-      pub goal_bad : byte_as parse_goal goal ≡ none → Delivered 3 d
+    module _ {t : DeliveryTrigger} (e : byte_as parse_trigger trigger ≡ Some t) where
+      pub goal_bad : byte_as parse_goal goal ≡ None → Delivered 3 d
       goal_bad f =
           gives_book_undo 3 no_form d b h (delivering id trigger goal)
           (given_some (offering id goal) e ∙ given_none (λ (g : SubmissionDeliveryGoal). queue_retained_delivery id t g) f)
 
-      pub delivery_done : {g : SubmissionDeliveryGoal} {n : ℕ} {d' : List ℕ} (r : DoneReply) → byte_as parse_goal goal ≡ some g
+      pub delivery_done : {g : SubmissionDeliveryGoal} {n : ℕ} {d' : List ℕ} (r : DoneReply) → byte_as parse_goal goal ≡ Some g
           → r ≡ done_reply b (run_book (queue_retained_delivery id t g) (view b)) → GivesBook (finish r.answer r.book [] d []) n d' → Delivered n d'
       delivery_done {g} r f q x =
           by d (given_some (offering id goal) e ∙ given_some (λ (k : SubmissionDeliveryGoal). queue_retained_delivery id t k) f)
@@ -87,7 +87,7 @@ module _ (d ids : List ℕ) (trigger : ℕ) where
   abbrev Rebroadcast : ℕ → List ℕ → Type 0
   Rebroadcast n d' = GivesBook (boundary no_form (rebroadcasting ids trigger) d []) n d'
 
-  pub epoch_absent : held_in d ≡ none → Rebroadcast 1 d
+  pub epoch_absent : held_in d ≡ None → Rebroadcast 1 d
   epoch_absent e = gives_book_absent no_form (rebroadcasting ids trigger) d e
 
   few : length ids ≤ 64 → ids_ok ids ≡ true
@@ -102,12 +102,12 @@ module _ (d ids : List ℕ) (trigger : ℕ) where
     pub epoch_long : 64 < length ids → Rebroadcast 2 d
     epoch_long k = gives_book_undo 2 no_form d b h (rebroadcasting ids trigger) (listed_not (triggered ids trigger) (many k))
 
-    pub epoch_bad : length ids ≤ 64 → byte_as parse_trigger trigger ≡ none → Rebroadcast 3 d
+    pub epoch_bad : length ids ≤ 64 → byte_as parse_trigger trigger ≡ None → Rebroadcast 3 d
     epoch_bad k e =
         gives_book_undo 3 no_form d b h (rebroadcasting ids trigger)
         (listed_well (triggered ids trigger) (few k) ∙ given_none (λ (t : DeliveryTrigger). queue_rebroadcast_epoch ids t) e)
 
-    pub epoch_done : {t : DeliveryTrigger} {n : ℕ} {d' : List ℕ} (r : DoneReply) → length ids ≤ 64 → byte_as parse_trigger trigger ≡ some t
+    pub epoch_done : {t : DeliveryTrigger} {n : ℕ} {d' : List ℕ} (r : DoneReply) → length ids ≤ 64 → byte_as parse_trigger trigger ≡ Some t
         → r ≡ done_reply b (run_book (queue_rebroadcast_epoch ids t) (view b)) → GivesBook (finish r.answer r.book [] d []) n d' → Rebroadcast n d'
     epoch_done {t} r k e q g =
         by d (listed_well (triggered ids trigger) (few k) ∙ given_some (λ (i : DeliveryTrigger). queue_rebroadcast_epoch ids i) e)

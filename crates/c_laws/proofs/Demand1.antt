@@ -4,7 +4,7 @@ use Rattle.std.proofs.Math.Path.{refl, ap}
 use Rattle.std.proofs.Common.{sym, ◌∙◌, subst, arith, leb-true}
 use Rattle.std.proofs.Math.Bool.{true, false, false≢true}
 use mathlib.Core.List.{List, []}
-use Rattle.std.proofs.Math.Option.{Option, none, some}
+use Rattle.std.specs.Prelude.{Option, None, Some}
 use Rattle.std.proofs.Math.Dec.{eqb}
 use Rattle.base_lists.specs.Laws.{or-false}
 use Rattle.base_sha256.specs.Fips.{sha256_of}
@@ -42,7 +42,7 @@ tells : (t : Bool) (s : List ℕ) (n : ℕ) → cond (t && eqb 0 0) (length s) n
 tells true s n = refl
 tells false s n = refl
 
-module _ (d : List ℕ) (c : CCall) (k : Call) (m : Book) (e : held_in d ≡ some m) (q : call_of c ≡ asks k) where
+module _ (d : List ℕ) (c : CCall) (k : Call) (m : Book) (e : held_in d ≡ Some m) (q : call_of c ≡ asks k) where
   ended_as : (x : Book) (xs : List DrainedSubmission) (v : Value) → run_book (rules encode_model k) m ≡ ended x xs v
       → (t : Bool) (l : Left) → Wrote 0 x (value_form xs v) d (lent c).answer t l
       → Demand1 (OnBook c) d (counted l.number l.book l.answer (cond (asks_room (kind_of k) && eqb l.number 0) (length_by value_form (lent c).count (ended x xs v)) (lent c).count))
@@ -71,7 +71,7 @@ module _ (d : List ℕ) (c : CCall) (k : Call) (m : Book) (e : held_in d ≡ som
       old_bytes (λ z. false≢true (sym (or-false (eqb n 0) _ t).0 ∙ ap (λ (y : ℕ). eqb y 0) z)) refl refl (stays (asks_room (kind_of k) && eqb n 0))
   outcome_as (stopped x xs n) p t = stopped_as x xs n t.0 t.1 p _ _ (written_as n x [] d (lent c).answer)
 
-told_as : (d : List ℕ) (c : CCall) (m : Book) → held_in d ≡ some m → (o : Asked) → call_of c ≡ o → Demand1 (OnBook c) d (told_on m d (lent c) o)
+told_as : (d : List ℕ) (c : CCall) (m : Book) → held_in d ≡ Some m → (o : Asked) → call_of c ≡ o → Demand1 (OnBook c) d (told_on m d (lent c) o)
 told_as d c m e bad_list q = old_bytes (λ z. omega arith) refl refl refl
 told_as d c m e bad_value q = old_bytes (λ z. omega arith) refl refl refl
 told_as d c m e (asks k) q = outcome_as d c k m e q (run_book (rules encode_model k) m) refl (turned_away_lem encode_model k m)
@@ -118,8 +118,8 @@ pub demand_1 : (d : List ℕ) → Every U8 d → {f : Function} {r : Returned} �
 demand_1 d u (call_ended {c} {r} x) = go (held_in d) refl
   where
     go : (y : Option Book) → held_in d ≡ y → Demand1 (OnBook c) d r
-    go none e = subst (Demand1 (OnBook c) d) (sym (did_told d x (no_book e))) (held_as d c (no_book e))
-    go (some m) e = subst (Demand1 (OnBook c) d) (sym (did_told d x (one_book m e (held_holds d u m e)))) (held_as d c (one_book m e (held_holds d u m e)))
+    go None e = subst (Demand1 (OnBook c) d) (sym (did_told d x (no_book e))) (held_as d c (no_book e))
+    go (Some m) e = subst (Demand1 (OnBook c) d) (sym (did_told d x (one_book m e (held_holds d u m e)))) (held_as d c (one_book m e (held_holds d u m e)))
 demand_1 d u (open_ended token id g) = put_as (Open token id) d (opened token id) 0 refl (open_says token id) _ _ (written_as 0 (opened token id) [] d []) g.number g.book
 demand_1 d u (read_ended archive place g) = read_as d archive place (read_archive archive) refl g
 demand_1 d u (sha256_ended message digest g) = hashed_as (Sha256 message digest) d (sha256_of message) digest refl (sha256_says message digest) g

@@ -1,7 +1,7 @@
 -- Theorems on specs/Library.antt.
 use Rattle.std.specs.Prelude.{ℕ, ◌≤◌, ◌≡◌, refl, List, [], length, drop}
 use Rattle.std.proofs.Common.{zero-le, sym, ap, ◌∙◌, subst, inr}
-use Rattle.std.proofs.Math.Option.{some}
+use Rattle.std.specs.Prelude.{Some}
 use Rattle.codec_forms.specs.Wire.{overlay}
 use Rattle.book.specs.Model.{Book}
 use Rattle.book.specs.Typed.{Every, U64}
@@ -62,7 +62,7 @@ library o i to ti d room {n} {d₁} g {cs} {rs} {e} t ran =
         record {
           returned = b.returned;
           long = b.long ∙ long;
-          held = good_held b.good ∙ ap some k;
+          held = good_held b.good ∙ ap Some k;
           front = subst (λ (z : Book). Holds z e) k b.good.holds;
           beyond = b.beyond ∙ beyond_first;
           demand3 = demand;

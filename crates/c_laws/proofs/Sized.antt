@@ -4,7 +4,7 @@ use Rattle.std.proofs.Common.{zero-le, sym, ◌∙◌, subst}
 use Rattle.std.proofs.Math.Path.{refl, ap}
 use Rattle.std.proofs.Math.Bool.{cond}
 use mathlib.Core.List.{List, [], ◌∷◌, ◌++◌}
-use Rattle.std.proofs.Math.Option.{Option, none, some}
+use Rattle.std.specs.Prelude.{Option, None, Some}
 use native.Mathlib.Omega.{arith}
 use borrow.Author.Tests.{le-leb}
 use Rattle.codec_forms.specs.Wire.{overlay}
@@ -50,14 +50,14 @@ Lends o = OnCall (λ c. Roomy (kind_of c)) o
 
 lends_on : {A : Type 0} (x : Option A) (g : A → Asked) → ((v : A) → Lends (g v)) → Lends (value x g)
 unfolding Lends
-lends_on none g h = tt
-lends_on (some v) g h = h v
+lends_on None g h = tt
+lends_on (Some v) g h = h v
 
 lends_behind : {A : Type 0} (ok : Bool) (x : Option A) (g : A → Asked) → ((v : A) → Lends (g v)) → Lends (value_behind ok x g)
 unfolding Lends
-lends_behind true none g h = tt
-lends_behind false none g h = tt
-lends_behind ok (some v) g h = h v
+lends_behind true None g h = tt
+lends_behind false None g h = tt
+lends_behind ok (Some v) g h = h v
 
 lends : (c : CCall) → HeaderSize c → Lends (call_of c)
 unfolding Lends

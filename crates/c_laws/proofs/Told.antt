@@ -2,7 +2,7 @@
 use Rattle.std.specs.Prelude.{ℕ, ◌≡◌, Bool, true, false, cond, ◌&&◌, List, [], length, eqb, leb}
 use Rattle.std.proofs.Math.Path.{refl, ap}
 use Rattle.std.proofs.Common.{sym, ◌∙◌, subst, leb-true}
-use Rattle.std.proofs.Math.Option.{Option, none, some}
+use Rattle.std.specs.Prelude.{Option, None, Some}
 use Rattle.codec_forms.specs.Wire.{overlay}
 use Rattle.base_coin_string.specs.CoinIds.{id_listb}
 use Rattle.base_coin_string.specs.CoinList.{coin_listb}
@@ -43,13 +43,13 @@ abbrev Unasked : Asked → Type 0
 Unasked o = OnCall (λ c. asks_room (kind_of c) ≡ false) o
 
 unasked_on : {A : Type 0} (x : Option A) (g : A → Asked) → ((v : A) → Unasked (g v)) → Unasked (value x g)
-unasked_on none g h = tt
-unasked_on (some v) g h = h v
+unasked_on None g h = tt
+unasked_on (Some v) g h = h v
 
 unasked_behind : {A : Type 0} (ok : Bool) (x : Option A) (g : A → Asked) → ((v : A) → Unasked (g v)) → Unasked (value_behind ok x g)
-unasked_behind true none g h = tt
-unasked_behind false none g h = tt
-unasked_behind ok (some v) g h = h v
+unasked_behind true None g h = tt
+unasked_behind false None g h = tt
+unasked_behind ok (Some v) g h = h v
 
 abbrev rule_of : Asked → Rule Value
 rule_of (asks c) = rules encode_model c
@@ -58,14 +58,14 @@ rule_of bad_value = undo refusals.bad_value
 
 module _ {B : Type 0} (u : B → Value) where
   given_on : {A : Type 0} (x : Option A) (f : A → Rule B) (g : A → Asked) → ((v : A) → u <$> f v ≡ rule_of (g v)) → u <$> given x f ≡ rule_of (value x g)
-  given_on none f g h = refl
-  given_on (some v) f g h = h v
+  given_on None f g h = refl
+  given_on (Some v) f g h = h v
 
   listed_on : {A : Type 0} (ok : Bool) (x : Option A) (f : A → Rule B) (g : A → Asked) → ((v : A) → u <$> listed ok (f v) ≡ rule_of (g v))
       → u <$> listed ok (given x f) ≡ rule_of (value_behind ok x g)
-  listed_on true none f g h = refl
-  listed_on false none f g h = refl
-  listed_on ok (some v) f g h = h v
+  listed_on true None f g h = refl
+  listed_on false None f g h = refl
+  listed_on ok (Some v) f g h = h v
 
 -- the rules of a call refuse its lists themselves
 again : {B : Type 0} (ok : Bool) (r : Rule B) → listed ok (listed ok r) ≡ listed ok r
@@ -83,7 +83,7 @@ reconcile_again o s f is = again (coin_listb o && id_listb s && ids_ok is) _
 abbrev returned : Left → ℕ → Returned
 returned l k = record { number = l.number; book = l.book; answer = l.answer; count = k }
 
-boundary_told : (d : List ℕ) (l : Lent) (m : Book) (o : Asked) → Unasked o → held_in d ≡ some m
+boundary_told : (d : List ℕ) (l : Lent) (m : Book) (o : Asked) → Unasked o → held_in d ≡ Some m
     → returned (boundary value_form (rule_of o) d l.answer) l.count ≡ told_on m d l o
 unfolding boundary settled run
 boundary_told d l m bad_list h e = ap (λ (x : Option Book). returned (ruled value_form (undo refusals.bad_list) d l.answer x) l.count) e
@@ -130,7 +130,7 @@ length_written k (undone n) = refl
 length_written k (stopped m xs n) = refl
 
 bytes_told : (d : List ℕ) (l : Lent) (c : Call) (r : Rule (List ℕ)) → asks_room (kind_of c) ≡ true → rules encode_model c ≡ written <$> r
-    → {n : ℕ} {a' : List ℕ} {k : ℕ} (m : Book) → held_in d ≡ some m
+    → {n : ℕ} {a' : List ℕ} {k : ℕ} (m : Book) → held_in d ≡ Some m
     → length_by bytes_form l.count (run_book r m) ≡ cond (eqb (settled bytes_form d l.answer (run_book r m)).number 0) (length_by bytes_form l.count (run_book r m)) l.count
     → GivesBytes (boundary bytes_form r d l.answer) (length_of l.count r (held_in d)) n d a' k
     → record { number = n; book = d; answer = a'; count = k } ≡ told (kind_of c) d l (run_book (rules encode_model c) m)
@@ -150,7 +150,7 @@ bytes_told d l c r t p {n} {a'} {k} m e q g =
       count = z i;
     }) ∙ ap (told (kind_of c) d l) (sym (ap (λ (y : Rule Value). run_book y m) p ∙ run_map (λ b. b) on_book written r m))
 
-bytes_absent : {A : Type 0} (d : List ℕ) (l : Lent) (f : Form A) (r : Rule A) (s : Rule (List ℕ)) {n : ℕ} {a' : List ℕ} {k : ℕ} → held_in d ≡ none
+bytes_absent : {A : Type 0} (d : List ℕ) (l : Lent) (f : Form A) (r : Rule A) (s : Rule (List ℕ)) {n : ℕ} {a' : List ℕ} {k : ℕ} → held_in d ≡ None
     → GivesBytes (boundary f r d l.answer) (length_of l.count s (held_in d)) n d a' k
     → record { number = n; book = d; answer = a'; count = k } ≡ turned_away 1 d l
 unfolding boundary
@@ -165,7 +165,7 @@ bytes_absent d l f r s e g =
 
 -- the archive
 write_told : (d a : List ℕ) (k : ℕ) (m : Book) → Holds m d
-    → record { number = (write_from (some m) a k).number; book = d; answer = (write_from (some m) a k).archive; count = (write_from (some m) a k).count }
+    → record { number = (write_from (Some m) a k).number; book = d; answer = (write_from (Some m) a k).archive; count = (write_from (Some m) a k).count }
     ≡ told (kind_of (Call.WriteArchive (length a))) d (record { answer = a; count = k }) (run_book (rules encode_model (Call.WriteArchive (length a))) m)
 unfolding write_from rules write_archive writing run settled
 write_told d a k m h = go (leb (length (encode_model m)) (length a)) refl

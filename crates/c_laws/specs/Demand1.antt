@@ -5,7 +5,7 @@ use Rattle.std.specs.Prelude.{ℕ, ◌≤◌, ◌≡◌, cond, length}
 use Rattle.std.proofs.Math.Path.{refl}
 use Rattle.std.proofs.Math.Bool.{true}
 use mathlib.Core.List.{List, []}
-use Rattle.std.proofs.Math.Option.{some}
+use Rattle.std.specs.Prelude.{Some}
 use Rattle.base_sha256.specs.Fips.{sha256_of}
 use Rattle.base_coin_string.specs.Coin.{coin_id_of}
 use Rattle.codec_forms.specs.Wire.{overlay}
@@ -54,7 +54,7 @@ pub data Ended (d : List ℕ) : Function → Returned → Type 0 where
 -- was written, else the old one
 pub data Says (d : List ℕ) : Function → Book → List ℕ → ℕ → Type 0 where
   call_says : (c : CCall) (k : Call) (m : Book) {m' : Book} {xs : List DrainedSubmission} {v : Value}
-      → held_in d ≡ some m → call_of c ≡ asks k → run_book (rules encode_model k) m ≡ ended m' xs v
+      → held_in d ≡ Some m → call_of c ≡ asks k → run_book (rules encode_model k) m ≡ ended m' xs v
       → Says d (OnBook c) m' (value_form xs v) (cond (asks_room (kind_of k)) (length (value_form xs v)) (lent c).count)
   open_says : (token id : ℕ) → Says d (Open token id) (opened token id) [] 0
   read_says : (archive : List ℕ) (place : ℕ) (b : BookData) → read_archive archive ≡ book b → Says d (Read archive place) (view b) [] place
@@ -67,7 +67,7 @@ pub data Hashes : Function → List ℕ → Type 0 where
 -- the drain that runs out of tokens, and the book that it leaves
 pub data Stops (d : List ℕ) : Function → Book → Type 0 where
   drain_stops : (c : CCall) (k : Call) (m : Book) {m' : Book} {xs : List DrainedSubmission}
-      → held_in d ≡ some m → call_of c ≡ asks k → is_drain (kind_of k) ≡ true → run_book (rules encode_model k) m ≡ stopped m' xs refusals.no_token → Stops d (OnBook c) m'
+      → held_in d ≡ Some m → call_of c ≡ asks k → is_drain (kind_of k) ≡ true → run_book (rules encode_model k) m ≡ stopped m' xs refusals.no_token → Stops d (OnBook c) m'
 
 -- what a function leaves in the lent memory
 pub data Demand1 (f : Function) (d : List ℕ) (r : Returned) : Type 0 where

@@ -1,6 +1,6 @@
 -- Of the calls of the C library: what is lent for their answers, and which call of demand 3's list each of them is.
 use Rattle.std.specs.Prelude.{ℕ, Bool, cond, ◌&&◌, List, [], length}
-use Rattle.std.proofs.Math.Option.{Option, none, some}
+use Rattle.std.specs.Prelude.{Option, None, Some}
 use Rattle.base_coin_string.specs.CoinIds.{id_listb}
 use Rattle.base_coin_string.specs.CoinList.{coin_listb}
 use Rattle.book.specs.Typed.{Every, U8, U64}
@@ -9,38 +9,7 @@ use Rattle.rules.specs.Call.{Call}
 use Rattle.rules.specs.Doors.{ids_ok}
 use Rattle.c_boundary.specs.Arguments.{byte_as, bytes_as, flag_in}
 use Rattle.c_calls_attempts.specs.Source.{source_in, joined_in}
-use Rattle.c_api.specs.Functions.{
-  CCall,
-  Queue,
-  QueueRetainedDelivery,
-  QueueRebroadcastEpoch,
-  QueueFeeReadiness,
-  Drain,
-  FeeIntentForAttempt,
-  AcknowledgeAttempt,
-  StopAttempt,
-  AbandonAttempt,
-  RelinquishCompletedAttempt,
-  Attempt,
-  FinalizeAttempt,
-  RetainSubmitted,
-  ActiveIds,
-  DrainRetirements,
-  ReplayRollbackHeight,
-  Look,
-  Summary,
-  EmitRetirement,
-  FinishReplayIfAdvanced,
-  ClearLocalArtifacts,
-  RestoreRuntime,
-  ReconcileChainTerminality,
-  CausallyRolledBackIds,
-  ReconciliationInputCoins,
-  AbsentOutputsForIds,
-  BeginReplay,
-  CollectRollbackReplayIds,
-  Write,
-}
+use Rattle.c_api.specs.Functions.{CCall, Queue, QueueRetainedDelivery, QueueRebroadcastEpoch, QueueFeeReadiness, Drain, FeeIntentForAttempt, AcknowledgeAttempt, StopAttempt, AbandonAttempt, RelinquishCompletedAttempt, Attempt, FinalizeAttempt, RetainSubmitted, ActiveIds, DrainRetirements, ReplayRollbackHeight, Look, Summary, EmitRetirement, FinishReplayIfAdvanced, ClearLocalArtifacts, RestoreRuntime, ReconcileChainTerminality, CausallyRolledBackIds, ReconciliationInputCoins, AbsentOutputsForIds, BeginReplay, CollectRollbackReplayIds, Write}
 
 -- what is lent for the answer; nothing where a function has none
 pub record Lent : Type 0 where
@@ -89,13 +58,13 @@ pub data Asked : Type 0 where
 
 -- an argument that must stand for a value
 abbrev pub value : {A : Type 0} → Option A → (A → Asked) → Asked
-value none f = bad_value
-value (some x) f = f x
+value None f = bad_value
+value (Some x) f = f x
 
 -- behind lists that are ok or not: 2 comes before 3
 abbrev pub value_behind : {A : Type 0} → Bool → Option A → (A → Asked) → Asked
-value_behind ok none f = cond ok bad_value bad_list
-value_behind ok (some x) f = f x
+value_behind ok None f = cond ok bad_value bad_list
+value_behind ok (Some x) f = f x
 
 abbrev pub call_of : CCall → Asked
 call_of (Queue delivery) = value (bytes_as parse_delivery delivery) (λ d. asks (Call.Queue d))

@@ -9,7 +9,7 @@
 --   held_in, book_bytes, Holds        the book that lent bytes hold, its bytes, and that they stand at the front (c_boundary/Held, c_boundary_laws/Lent)
 --   Demand3, program_book, issued_at, tokens_at    demand 3 on one page (demands/Demand3)
 use Rattle.std.specs.Prelude.{ℕ, ◌≡◌, List, ◌∷◌, ◌++◌, length, drop}
-use Rattle.std.proofs.Math.Option.{some}
+use Rattle.std.specs.Prelude.{Some}
 use Rattle.codec_forms.specs.Wire.{overlay}
 use Rattle.book.specs.Model.{Book, view}
 use Rattle.rules.specs.Call.{Call}
@@ -49,7 +49,7 @@ module _ (o i : ℕ) (d : List ℕ) where
     pub returned : rs ≡ returns (opened o i) (overlay (book_bytes (opened o i)) d) cs
     -- the memory has its length, holds the program's book, at its front, and its old bytes behind the longest book
     pub long : length e ≡ length d
-    pub held : held_in e ≡ some (book_from cs)
+    pub held : held_in e ≡ Some (book_from cs)
     pub front : Holds (book_from cs) e
     pub beyond : drop 57702 e ≡ drop 57702 d
     -- demand 3, of that book and of these calls

@@ -3,7 +3,7 @@ use Rattle.std.specs.Prelude.{ℕ, ◌+◌, ◌-◌, ◌≤◌, ◌≡◌, ◌�
 use Rattle.std.proofs.Common.{sym, ap, ◌∙◌, inl, inr, arith, drop-drop}
 use Rattle.std.proofs.Math.Path.{refl}
 use mathlib.Core.List.{List, [], ◌∷◌, ◌++◌}
-use Rattle.std.proofs.Math.Option.{some}
+use Rattle.std.specs.Prelude.{Some}
 use Rattle.std.proofs.Math.Seq.{drop-append-add}
 use Rattle.codec_forms.specs.Wire.{overlay}
 use Rattle.book.specs.Model.{Book}
@@ -32,7 +32,7 @@ module _ {m : Book} {d : List ℕ} (g : Good m d) where
   pub good_typed : TypedModel m
   good_typed = typed_model m g.within g.sound
 
-  pub good_held : held_in d ≡ some m
+  pub good_held : held_in d ≡ Some m
   good_held = holds_held m d g.holds g.sound good_typed
 
 -- the bytes behind the longest book

@@ -2,7 +2,7 @@
 use Rattle.std.specs.Prelude.{ℕ, ◌≡◌, Bool, true, false, cond, ◌&&◌, List, [], eqb}
 use Rattle.std.proofs.Math.Path.{refl}
 use Rattle.std.proofs.Common.{sym}
-use Rattle.std.proofs.Math.Option.{Option, none, some}
+use Rattle.std.specs.Prelude.{Option, None, Some}
 use Rattle.codec_forms.specs.Wire.{overlay}
 use Rattle.book.specs.Model.{Book}
 use Rattle.archive_form.specs.Encode.{encode_model}
@@ -40,13 +40,13 @@ told_on m d l bad_value = turned_away 3 d l
 
 -- on the bytes d: 1 where they hold no book
 abbrev pub told_in : Option Book → List ℕ → CCall → Returned
-told_in none d c = turned_away 1 d (lent c)
-told_in (some m) d c = told_on m d (lent c) (call_of c)
+told_in None d c = turned_away 1 d (lent c)
+told_in (Some m) d c = told_on m d (lent c) (call_of c)
 
 -- the bytes d, and what they hold
 pub data Held (d : List ℕ) : Option Book → Type 0 where
-  no_book : held_in d ≡ none → Held d none
-  one_book : (m : Book) → held_in d ≡ some m → Holds m d → Held d (some m)
+  no_book : held_in d ≡ None → Held d None
+  one_book : (m : Book) → held_in d ≡ Some m → Holds m d → Held d (Some m)
 
 -- ---- a call without an answer
 no_answer_written : (n : ℕ) (m : Book) (d : List ℕ) (t : Bool) (l : Left) → Wrote n m [] d [] t l → l.answer ≡ []
@@ -65,8 +65,8 @@ unfolding boundary
 boundary_no_answer d r = go (held_in d)
   where
     go : (x : Option Book) → (ruled no_form r d [] x).answer ≡ []
-    go none = refl
-    go (some m) = no_answer d (run_book r m)
+    go None = refl
+    go (Some m) = no_answer d (run_book r m)
 
 pub gives_all : {A : Type 0} (d : List ℕ) (r : Rule A) {n : ℕ} {d' : List ℕ} → GivesBook (boundary no_form r d []) n d' → Gives (boundary no_form r d []) n d' []
 gives_all d r g = record { number = g.number; book = g.book; answer = sym (boundary_no_answer d r) }

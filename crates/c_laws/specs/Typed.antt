@@ -1,7 +1,7 @@
 -- Arguments within C's types stand for calls within the program's types.
 use Rattle.std.specs.Prelude.{ℕ, ◌≡◌, refl, Bool, true, false, cond, ◌&&◌, List, eqb, leb, length}
 use Rattle.std.proofs.Common.{zero-le}
-use Rattle.std.proofs.Math.Option.{Option, none, some}
+use Rattle.std.specs.Prelude.{Option, None, Some}
 use Rattle.codec_forms.specs.Wire.{Ans, got, bad, Parser}
 use Rattle.base_coin_string.specs.CoinIds.{id_listb}
 use Rattle.base_coin_string.specs.CoinList.{coin_listb}
@@ -20,22 +20,22 @@ use Rattle.c_api.specs.Functions.{CCall}
 use Rattle.c_laws.specs.Functions.{Asked, value, value_behind, call_of, OnCall, TypedC}
 
 typed_on : {A : Type 0} (P : A → Type 0) (x : Option A) (g : A → Asked) → OnSome P x → ((v : A) → P v → OnCall TypedCall (g v)) → OnCall TypedCall (value x g)
-typed_on P none g h k = tt
-typed_on P (some v) g h k = k v h
+typed_on P None g h k = tt
+typed_on P (Some v) g h k = k v h
 
 typed_behind : {A : Type 0} (ok : Bool) (x : Option A) (g : A → Asked) → ((v : A) → OnCall TypedCall (g v)) → OnCall TypedCall (value_behind ok x g)
-typed_behind true none g k = tt
-typed_behind false none g k = tt
-typed_behind ok (some v) g k = k v
+typed_behind true None g k = tt
+typed_behind false None g k = tt
+typed_behind ok (Some v) g k = k v
 
 any : {A : Type 0} (x : Option A) → OnSome (λ (v : A). Unit {0}) x
-any none = tt
-any (some v) = tt
+any None = tt
+any (Some v) = tt
 
 bytes_typed : {A : Type 0} (P : A → Type 0) (p : Parser A) (s : List ℕ) → ((a : A) (e : ℕ) → p s 0 ≡ got a e → P a) → OnSome P (bytes_as p s)
 bytes_typed {A} P p s h = go (p s 0) refl
   where
-    whole : (t : Bool) (a : A) → P a → OnSome P (cond t (some a) none)
+    whole : (t : Bool) (a : A) → P a → OnSome P (cond t (Some a) None)
     whole true a k = k
     whole false a k = tt
 
@@ -50,7 +50,7 @@ joined_typed : (n : ℕ) (s : List ℕ) → Every U8 s → OnSome TypedBundle (j
 unfolding joined_in
 joined_typed n s u = go (eqb n 1) (leb (length s) 0)
   where
-    go : (x y : Bool) → OnSome TypedBundle (cond x (bytes_as (parse_bundle false) s) (cond y (some zero_bundle) none))
+    go : (x y : Bool) → OnSome TypedBundle (cond x (bytes_as (parse_bundle false) s) (cond y (Some zero_bundle) None))
     go true y = bytes_typed TypedBundle (parse_bundle false) s (λ a e q. ((bundle_lawful false).exact s 0 e a (every_bytes s u) zero-le q).0.typed)
     go false true = zero_bundle_typed
     go false false = tt

@@ -1,7 +1,7 @@
 -- Where the archive of the held book stands in lent bytes: behind its length; where no book is held, from 0 up to 0.
-use Rattle.std.specs.Prelude.{ℕ, ◌+◌, ◌-◌, ◌≤◌, ◌<◌, ◌≡◌, refl, Bool, true, not, List, leb, length, take, drop}
-use Rattle.std.proofs.Common.{zero-le, arith}
-use Rattle.std.proofs.Math.Option.{none}
+use Rattle.std.specs.Prelude.{ℕ, suc, ◌+◌, ◌-◌, ◌≤◌, ◌<◌, ◌≡◌, refl, Bool, true, not, List, [], ◌∷◌, leb, length, get_or, take, drop}
+use Rattle.std.proofs.Common.{zero-le, arith, Fits, w8}
+use Rattle.std.specs.Prelude.{None}
 use Rattle.codec_forms.specs.Wire.{number}
 use Rattle.codec_cursor.specs.Cursor.{far, Reads}
 use Rattle.book.specs.Typed.{Every, U8}
@@ -10,8 +10,13 @@ use Rattle.archive_read.specs.Archive.{archive_answer}
 use Rattle.archive_read.specs.declared.ReadArchive.{ReadArchive}
 use Rattle.c_boundary.specs.Held.{held_in, HeldAnswer, nothing_held, held_short, held_cut, held_read}
 
+-- what the type of lent bytes says of each
+pub every_byte : (s : List ℕ) → ((i : ℕ) → Fits w8 (get_or s i 0)) → Every U8 s
+every_byte [] h = tt
+every_byte (x ∷ s) h = let b : Fits w8 x = h 0 in (omega (arith, b), every_byte s (λ i. h (suc i)))
+
 pub data PartAnswer (d : List ℕ) : ℕ → ℕ → Type 0 where
-  no_part : held_in d ≡ none → PartAnswer d 0 0
+  no_part : held_in d ≡ None → PartAnswer d 0 0
   part : (v a : ℕ) → Reads (number 8) d 0 v a → a < far → a + v ≤ length d → PartAnswer d a (a + v)
 
 module _ (d : List ℕ) where

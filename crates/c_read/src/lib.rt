@@ -1,31 +1,12 @@
 // The book that lent bytes hold.
 #![tactic(auto)]
 
-ghost use Rattle.std.specs.Prelude.{◌≡◌, ◌<◌};
-ghost use Rattle.book.specs.Typed.{Every, U8};
 ghost use Rattle.c_boundary.specs.Held.{HeldAnswer};
 ghost use Rattle.c_read.specs.Part.{PartAnswer};
 
 use archive_read::{ReadArchive, read_archive};
 use codec_bytes::read::has;
 use codec_cursor::{FAR, read_number};
-
-fn within(x: u8) -> bool
-    ensures { x < 256 }
-{
-    x <= 255
-}
-
-// Says what the type of a lent byte says, for all of them: a contract of the reader is over bytes below 256.
-pub fn each_within(s: &[u8])
-    ensures { Every U8 s.now }
-{
-    let mut i: usize = 0;
-    while i < s.len() {
-        within(s[i]);
-        i += 1;
-    }
-}
 
 // Where the archive stands in the lent bytes.
 #[derive(Clone, Copy)]
@@ -56,9 +37,6 @@ fn part_of(d: &[u8]) -> Part
 pub fn held(d: &[u8]) -> ReadArchive
     ensures { HeldAnswer d.now result }
 {
-    each_within(d);
     let p = part_of(d);
-    let start = p.start;
-    let stop = p.stop;
-    read_archive(&d[start..stop])
+    read_archive(&d[p.start..p.stop])
 }

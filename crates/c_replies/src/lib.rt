@@ -10,7 +10,7 @@ ghost use Rattle.c_boundary.specs.Settle.{Gives, finish};
 ghost use Rattle.c_boundary.specs.Looks.{told_by};
 
 use archive_bundle_write::write::append_height;
-use book::{Ids64, OptionalHeight};
+use book::{Height, Ids};
 use book_answers::{BookSummary, SubmissionAttemptStatus, SubmissionLook};
 use c_write::{settle, tell};
 use codec_answers::part::append_flag;
@@ -58,7 +58,7 @@ pub fn tell_status(said: CallAnswer, status: SubmissionAttemptStatus, answer: &m
     tell(said, &l[0..n], answer)
 }
 
-pub fn tell_height(said: CallAnswer, height: OptionalHeight, answer: &mut [u8]) -> u8
+pub fn tell_height(said: CallAnswer, height: Option<Height>, answer: &mut [u8]) -> u8
     ensures { GivesAnswer (told_by said (encode_height height) answer.old) result answer.new }
 {
     let mut l = [0u8; 9];
@@ -66,7 +66,7 @@ pub fn tell_height(said: CallAnswer, height: OptionalHeight, answer: &mut [u8]) 
     tell(said, &l[0..n], answer)
 }
 
-pub fn tell_ids(said: CallAnswer, ids: Ids64, answer: &mut [u8]) -> u8
+pub fn tell_ids(said: CallAnswer, ids: Ids<64>, answer: &mut [u8]) -> u8
     ensures { GivesAnswer (told_by said (encode_ids ids) answer.old) result answer.new }
 {
     let mut l = [0u8; 513];

@@ -3,7 +3,7 @@ use Rattle.std.specs.Prelude.{ℕ, ◌+◌, ◌≤◌, ◌<◌, ◌≡◌, Bool,
 use Rattle.std.proofs.Math.Path.{refl, ap}
 use Rattle.std.proofs.Common.{sym, ◌∙◌, subst, arith, length-append, le-leb}
 use Rattle.std.proofs.Math.Bool.{cond}
-use Rattle.std.proofs.Math.Option.{Option, none, some}
+use Rattle.std.specs.Prelude.{Option, None, Some}
 use Rattle.std.proofs.Math.ListN.{length}
 use Rattle.std.proofs.lemmas.Bool.{lt-leb, not-true, not-false}
 use Rattle.codec_forms.specs.Wire.{be, overlay}
@@ -104,8 +104,8 @@ pub record Counted : Type 0 where
 
 unfoldable pub write_from : Option Book → List ℕ → ℕ → Counted
 unfolding encode_model overlay
-write_from none a k = record { number = refusals.no_book; archive = a; count = k }
-write_from (some m) a k =
+write_from None a k = record { number = refusals.no_book; archive = a; count = k }
+write_from (Some m) a k =
     cond (leb (length (encode_model m)) (length a)) (record { number = 0; archive = overlay (encode_model m) a; count = length (encode_model m) }) (record { number = refusals.short_buffer; archive = a; count = k })
 
 pub record GivesLength (l : Counted) (n : ℕ) (a : List ℕ) (k : ℕ) : Type 0 where
@@ -117,7 +117,7 @@ length_as : {x y : Counted} {n : ℕ} {a : List ℕ} {k : ℕ} → x ≡ y → G
 length_as {x} {y} {n} {a} {k} q g = subst (λ (l : Counted). GivesLength l n a k) q g
 
 module _ (d a : List ℕ) (k : ℕ) where
-  pub write_absent : held_in d ≡ none → GivesLength (write_from (held_in d) a k) refusals.no_book a k
+  pub write_absent : held_in d ≡ None → GivesLength (write_from (held_in d) a k) refusals.no_book a k
   unfolding write_from
   write_absent e = length_as (sym (ap (λ (m : Option Book). write_from m a k) e)) (record { number = refl; archive = refl; count = refl })
 

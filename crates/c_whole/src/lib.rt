@@ -13,7 +13,7 @@ use archive_walk::walk_archive;
 use archive_write::write_book;
 use book::refusals::{NO_ARCHIVE, NO_BOOK, SHORT_BUFFER};
 use book::{SubmissionId, Token};
-use c_read::{each_within, held};
+use c_read::held;
 use c_write::put_back;
 use call_open::open;
 use codec_forms::write::{put_bytes, put_number};
@@ -31,7 +31,6 @@ pub fn open_into(book: &mut [u8], next_token: u64, next_id: u64) -> u8
 pub fn read_into(book: &mut [u8], archive: &[u8], place: &mut u64) -> u8
     ensures { GivesPlace (read_into (read_archive archive.now) book.old place.old) result book.new place.new }
 {
-    each_within(archive);
     let w = walk_archive(archive);
     let ok = w.ok;
     if !ok {

@@ -14,16 +14,16 @@ use book::{BookData, Token};
 use book_answers::SubmissionAttemptStatus;
 use part_attempt_answers::{live_place, status_done, status_inactive, status_refused};
 use part_change::{remove_submitted, retire};
-use part_lookup::{Place, find_attempt, submitted_at};
+use part_lookup::{find_attempt, submitted_at};
 use part_replies::StatusReply;
 
 pub fn abandon_attempt_sound(b: BookData, t: Token) -> StatusReply
     requires { soundb b ≡ true }
     ensures { result ≡ status_reply b (run_book (abandon_attempt t.0) (view b)) }
 {
-    let place = find_attempt(b, t);
+    let place = find_attempt(&b, t);
     let live = live_place(place);
-    let Place::At(k) = live else {
+    let Some(k) = live else {
         return status_inactive(b, place);
     };
     abandon_live(b, k)
@@ -33,7 +33,7 @@ fn abandon_live(b: BookData, k: usize) -> StatusReply
     requires { (soundb b ≡ true) × (k < length (view b).submitted) }
     ensures { result ≡ status_reply b (run_book (abandon_live (at (view b) k)) (view b)) }
 {
-    let s = submitted_at(b, k);
+    let s = submitted_at(&b, k);
     let id = s.entry.id;
     let rest = remove_submitted(b, id);
     let retired = retire(rest, id);

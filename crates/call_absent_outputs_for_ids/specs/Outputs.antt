@@ -7,7 +7,8 @@ use mathlib.Core.List.{List, [], ◌∷◌, ◌++◌, map, append_assoc, append-
 use Rattle.std.proofs.Math.ListN.{length}
 use Rattle.std.proofs.lemmas.List.{length-map}
 use Rattle.std.proofs.lemmas.Bool.{lt-leb}
-use Rattle.base_lists.specs.Lists.{filterb, flat_map, elemb, cells}
+use Rattle.base_lists.specs.Lists.{elemb, cells}
+use Rattle.std.specs.List.{filter, flat_map}
 use Rattle.base_lists.specs.Laws.{filter_length, take_cells}
 use Rattle.codec_forms.specs.Wire.{be, enc_many}
 use Rattle.base_coin_string.specs.Coin.{coin_bytes, cell_of, cell_bytes}
@@ -35,7 +36,7 @@ absent_of is absent t = cond (elemb (id_of t) is) (absent_outputs absent t.entry
 
 -- those of all
 abbrev pub absent_of_all : List ℕ → List (List ℕ) → List SubmittedTx → List (List ℕ)
-absent_of_all is absent ts = flat_map (λ t. absent_outputs absent t.entry.intent) (filterb (λ t. elemb (id_of t) is) ts)
+absent_of_all is absent ts = flat_map (λ t. absent_outputs absent t.entry.intent) (filter (λ t. elemb (id_of t) is) ts)
 
 pub record PutAbsent (cs : List (List ℕ)) (at : ℕ) (d d' : List ℕ) (r : Placed) : Type 0 where
   pub listed : Listed cs at d d' r
@@ -62,17 +63,17 @@ module _ (is : List ℕ) (absent : List (List ℕ)) (t : SubmittedTx) where
       rw (← q) (record { listed = record { put = put_none at d; count = refl }; few = omega arith })
 
   pub put_those_of : {o : OutputCoins} {at : ℕ} {d d' : List ℕ} {r : Placed} → elemb (id_of t) is ≡ true → o ≡ output_cells (expected_output_coins t.entry.intent.base_bundle) → o.count ≤ 16
-      → Listed (filterb (among absent) (map coin_bytes (take o.count o.coins))) at d d' r → PutAbsent (absent_of is absent t) at d d' r
+      → Listed (filter (among absent) (map coin_bytes (take o.count o.coins))) at d d' r → PutAbsent (absent_of is absent t) at d d' r
   unfolding absent_outputs
   put_those_of {o} {at} {d} {d'} {r} e q few l =
       let x : map coin_bytes (take o.count o.coins) ≡ expected_output_coins t.entry.intent.base_bundle =
       ap (λ (y : OutputCoins). map coin_bytes (take y.count y.coins)) q ∙ cells_coins (expected_output_coins t.entry.intent.base_bundle) in
       let n : o.count ≡ length (expected_output_coins t.entry.intent.base_bundle) = ap (λ (y : OutputCoins). y.count) q in
-      let s : filterb (among absent) (map coin_bytes (take o.count o.coins)) ≡ absent_of is absent t =
-      ap (filterb (among absent)) x ∙ sym (ap (λ (p : Bool). cond p (absent_outputs absent t.entry.intent) []) e) in
+      let s : filter (among absent) (map coin_bytes (take o.count o.coins)) ≡ absent_of is absent t =
+      ap (filter (among absent)) x ∙ sym (ap (λ (p : Bool). cond p (absent_outputs absent t.entry.intent) []) e) in
       let c = filter_length (among absent) (expected_output_coins t.entry.intent.base_bundle) in
-      let m : length (filterb (among absent) (map coin_bytes (take o.count o.coins))) ≡ length (filterb (among absent) (expected_output_coins t.entry.intent.base_bundle)) =
-      ap (λ (y : List (List ℕ)). length (filterb (among absent) y)) x in
+      let m : length (filter (among absent) (map coin_bytes (take o.count o.coins))) ≡ length (filter (among absent) (expected_output_coins t.entry.intent.base_bundle)) =
+      ap (λ (y : List (List ℕ)). length (filter (among absent) y)) x in
       record { listed = subst (λ (y : List (List ℕ)). Listed y at d d' r) s l; few = omega (arith, l.count) }
 
 -- ---- the loop: k coins are written, and ts are left of what makes w
@@ -85,7 +86,7 @@ pub record Collecting (is : List ℕ) (absent w : List (List ℕ)) (d d' : List 
 one_more : (is : List ℕ) (absent : List (List ℕ)) (t : SubmittedTx) (ts : List SubmittedTx) → absent_of is absent t ++ absent_of_all is absent ts ≡ absent_of_all is absent (t ∷ ts)
 one_more is absent t ts = go (elemb (id_of t) is)
   where
-    go : (p : Bool) → cond p (absent_outputs absent t.entry.intent) [] ++ absent_of_all is absent ts ≡ flat_map (λ t. absent_outputs absent t.entry.intent) (cond p (t ∷ filterb (λ t. elemb (id_of t) is) ts) (filterb (λ t. elemb (id_of t) is) ts))
+    go : (p : Bool) → cond p (absent_outputs absent t.entry.intent) [] ++ absent_of_all is absent ts ≡ flat_map (λ t. absent_outputs absent t.entry.intent) (cond p (t ∷ filter (λ t. elemb (id_of t) is) ts) (filter (λ t. elemb (id_of t) is) ts))
     go true = refl
     go false = refl
 

@@ -12,7 +12,6 @@ ghost use Rattle.part_replies.specs.Reply.{written_reply, buffer_left};
 ghost use Rattle.call_absent_outputs_for_ids.specs.Outputs.{absent_of, PutAbsent, AbsentOfAll};
 
 use base_coin_string::is_coin_list;
-use base_lists::contains;
 use book::refusals::BAD_LIST;
 use book::{BookData, SubmittedTx};
 use book_coins::expected_output_coins;
@@ -25,13 +24,11 @@ fn put_absent(out: &mut [u8], at: usize, t: SubmittedTx, ids: &[u64], absent: &[
     requires { at + 1184 ≤ length out.old }
     ensures { PutAbsent (absent_of ids.now (coins_in absent.now) t) at out.old out.new result }
 {
-    let e = t.entry;
-    let listed = contains(ids, e.id.0);
+    let listed = ids.contains(&t.entry.id.0);
     if !listed {
         return Placed { at, count: 0 };
     }
-    let base = e.intent.base_bundle;
-    let outputs = expected_output_coins(base);
+    let outputs = expected_output_coins(t.entry.intent.base_bundle);
     put_listed(out, at, outputs, absent)
 }
 
@@ -40,16 +37,13 @@ fn put_all_absent(out: &mut [u8], b: BookData, ids: &[u64], absent: &[u8]) -> Pl
     requires in_bounds { 18944 ≤ length out.old }
     ensures { AbsentOfAll ids.now (coins_in absent.now) (view b).submitted out.old out.new result }
 {
-    let n = b.submitted_count;
     let mut at = 0;
     let mut count = 0;
-    let mut i = 0;
-    while i < n {
-        let t = b.submitted[i];
-        let p = put_absent(&mut *out, at, t, ids, absent);
+    let retained = &b.submitted[..b.submitted_count];
+    for t in retained {
+        let p = put_absent(&mut *out, at, *t, ids, absent);
         at = p.at;
         count += p.count;
-        i += 1;
     }
     Placed { at, count }
 }
@@ -72,6 +66,5 @@ pub fn absent_outputs_for_ids_sound(
     }
     let mut list = [0u8; 18944];
     let p = put_all_absent(&mut list, b, ids, absent);
-    let end = p.at;
-    write_list(b, p.count, &list[0..end], out)
+    write_list(b, p.count, &list[..p.at], out)
 }

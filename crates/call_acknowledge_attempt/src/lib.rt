@@ -12,13 +12,12 @@ ghost use Rattle.rules.specs.Calls.AcknowledgeAttempt.{acknowledge_live, acknowl
 ghost use Rattle.part_replies.specs.Reply.{status_reply};
 ghost use Rattle.part_attempt_answers.specs.Live.{at};
 
-use base_lists::same32;
 use book::refusals::{NOT_FINALIZED, STALE_VARIANT};
 use book::{BookData, SubmittedTx, Token};
 use book_answers::SubmissionAttemptStatus;
 use part_attempt_answers::{live_place, status_done, status_inactive, status_refused};
 use part_change::unqueue;
-use part_lookup::{Place, find_attempt};
+use part_lookup::find_attempt;
 use part_replies::StatusReply;
 use part_slots::{resolved_variant_fingerprint, stopped};
 use part_submitted::fingerprint::current_variant_fingerprint;
@@ -28,9 +27,9 @@ pub fn acknowledge_attempt_sound(b: BookData, t: Token) -> StatusReply
     requires { soundb b ≡ true }
     ensures { result ≡ status_reply b (run_book (acknowledge_attempt t.0) (view b)) }
 {
-    let place = find_attempt(b, t);
+    let place = find_attempt(&b, t);
     let live = live_place(place);
-    let Place::At(k) = live else {
+    let Some(k) = live else {
         return status_inactive(b, place);
     };
     acknowledge_live(b, k)
@@ -48,7 +47,7 @@ fn acknowledge_live(mut b: BookData, k: usize) -> StatusReply
     let e = s.entry;
     let f = resolved_variant_fingerprint(a);
     let current = current_variant_fingerprint(e);
-    let same = same32(&current, &f);
+    let same = current == f;
     if !same {
         return status_refused(b, STALE_VARIANT);
     }
@@ -67,8 +66,5 @@ fn acknowledged_aside(s: SubmittedTx, f: [u8; 32]) -> SubmittedTx
     let old = s.slots;
     let entry = acknowledge(e, f);
     let slots = stopped(old);
-    SubmittedTx {
-        slots: slots,
-        entry: entry,
-    }
+    SubmittedTx { slots, entry }
 }

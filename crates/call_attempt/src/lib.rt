@@ -10,7 +10,7 @@ ghost use Rattle.part_replies.specs.Reply.{attempt_reply};
 
 use book::{BookData, OptionalAttempt, Token};
 use part_attempt_answers::live_place;
-use part_lookup::{Place, find_attempt, submitted_at};
+use part_lookup::{find_attempt, submitted_at};
 use part_replies::{AttemptReply, CallAnswer};
 use part_slots::filled;
 
@@ -18,16 +18,16 @@ pub fn attempt_sound(b: BookData, t: Token) -> AttemptReply
     requires { soundb b ≡ true }
     ensures { result ≡ attempt_reply b (run_book (attemptRule t.0) (view b)) }
 {
-    let place = find_attempt(b, t);
+    let place = find_attempt(&b, t);
     let live = live_place(place);
-    let Place::At(k) = live else {
+    let Some(k) = live else {
         return AttemptReply {
             answer: CallAnswer::Done,
             attempt: OptionalAttempt::zero(),
             book: b,
         };
     };
-    let s = submitted_at(b, k);
+    let s = submitted_at(&b, k);
     let held = s.slots.active_attempt.attempt;
     AttemptReply {
         answer: CallAnswer::Done,

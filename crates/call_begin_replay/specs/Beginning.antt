@@ -6,7 +6,7 @@ use Rattle.std.proofs.Math.Path.{refl, ap}
 use Rattle.std.proofs.Common.{◌∙◌, arith}
 use Rattle.book.specs.declared.BookData.{BookData}
 use Rattle.book.specs.declared.Height.{Height}
-use Rattle.book.specs.declared.OptionalHeight.TheVariants.{At}
+use Rattle.std.specs.Prelude.{Some}
 use Rattle.book.specs.Model.{view, back}
 use Rattle.book.specs.Sound.{soundb}
 use Rattle.rules.specs.Rule.{done, note, begin_epoch, act, run}
@@ -27,7 +27,7 @@ use Rattle.part_change.specs.ChangeLaws.{epoch_normal}
 module _ (b : BookData) where
   -- the epoch held stays, or one begins
   abbrev by : Height → Bool → Begun
-  by h t = cond t (record { started = false; epoch = b.replay_epoch }) (record { started = true; epoch = epoch (At h) [] })
+  by h t = cond t (record { started = false; epoch = b.replay_epoch }) (record { started = true; epoch = epoch (Some h) [] })
 
   -- the reply with the epoch put into the book
   abbrev reply_of : Begun → FlagReply
@@ -40,7 +40,7 @@ module _ (b : BookData) where
       where
         go : (t : Bool) → Epoch.Normal (by h t).epoch
         go true = epoch_normal b (sound_normal b s)
-        go false = normal_epoch (At h) [] (omega arith)
+        go false = normal_epoch (Some h) [] (omega arith)
 
     pub begin_is : {out : BookData} → out ≡ back (with_epoch_of x.epoch.rollback_height (replayed_of x.epoch) (view b))
         → record { answer = Done; flag = x.started; book = out } ≡ flag_reply b (run_book (begin_replay h) (view b))

@@ -1,17 +1,18 @@
 -- The named ids of a book, and the two rounds over them.
-use Rattle.std.specs.Prelude.{ℕ, ◌≤◌, ◌<◌, Bool, true, false, cond, not, List, [], ◌∷◌, map, ◌≡◌, refl, length}
+use Rattle.std.specs.Prelude.{ℕ, ◌≤◌, ◌<◌, Bool, true, false, cond, not, List, [], ◌∷◌, map, ◌≡◌, refl, length, Option}
 use Rattle.std.proofs.Math.Path.{ap}
 use Rattle.std.proofs.Common.{sym, ◌∙◌, arith, le-leb}
 use Rattle.std.proofs.lemmas.List.{length-map}
 use Rattle.std.proofs.lemmas.Bool.{lt-leb}
 use Rattle.part_ids.specs.IdLaws.{list_is}
-use Rattle.base_lists.specs.Lists.{elemb, filterb}
+use Rattle.base_lists.specs.Lists.{elemb}
+use Rattle.std.specs.List.{filter}
 use Rattle.base_lists.specs.Laws.{filter_length}
 use Rattle.book.specs.declared.BookData.{BookData}
 use Rattle.book.specs.declared.DeliveryTrigger.TheVariants.{Rollback}
-use Rattle.book.specs.declared.Ids16.{Ids16}
+use Rattle.book.specs.declared.Ids.{Ids}
 use Rattle.book.specs.declared.SubmissionDeliveryGoal.TheVariants.{EnsureBroadcast}
-use Rattle.book.specs.Model.{Book, view, list16, ids16}
+use Rattle.book.specs.Model.{Book, view, id_list, id_cells}
 use Rattle.book.specs.Sound.{id_of, soundb}
 use Rattle.rules.specs.Doors.{ids_ok}
 use Rattle.rules.specs.Rule.{Rule, done, undo, book, ◌>>=◌, ◌>>◌, undone, run}
@@ -27,7 +28,7 @@ use Rattle.book.specs.Refusals as refusals
 
 -- "all named ones": the retained ids that the list has, in retained order
 abbrev pub named_in : List ℕ → Book → List ℕ
-named_in is m = filterb (λ i. elemb i is) (map id_of m.submitted)
+named_in is m = filter (λ i. elemb i is) (map id_of m.submitted)
 
 -- ---- the two rounds
 -- the marks of ids that were not marked before
@@ -67,13 +68,13 @@ module _ (b : BookData) (h : soundb b ≡ true) where
       let f : length (map id_of (view b).submitted) ≤ 16 = ids_fit in
       omega arith
 
-  pub named_is : {held : Ids16} → held ≡ ids16 (map id_of (view b).submitted) → (is : List ℕ) {r : Ids16} → r ≡ ids16 (filterb (λ i. elemb i is) (list16 held)) → r ≡ ids16 (named_in is (view b))
-  named_is e is q = q ∙ ap (λ (xs : List ℕ). ids16 (filterb (λ i. elemb i is) xs)) (list_is (map id_of (view b).submitted) e)
+  pub named_is : {held : Ids 16} → held ≡ id_cells 16 (map id_of (view b).submitted) → (is : List ℕ) {r : Ids 16} → r ≡ id_cells 16 (filter (λ i. elemb i is) (id_list held)) → r ≡ id_cells 16 (named_in is (view b))
+  named_is e is q = q ∙ ap (λ (xs : List ℕ). id_cells 16 (filter (λ i. elemb i is) xs)) (list_is (map id_of (view b).submitted) e)
 
-  pub fresh_fit : (is : List ℕ) {named : Ids16} → named ≡ ids16 (named_in is (view b)) → length (without_ids (view b).replayed (list16 named)) ≤ 16
+  pub fresh_fit : (is : List ℕ) {named : Ids 16} → named ≡ id_cells 16 (named_in is (view b)) → length (without_ids (view b).replayed (id_list named)) ≤ 16
   fresh_fit is {named} e =
-      let k : length (without_ids (view b).replayed (list16 named)) ≤ length (list16 named) = filter_length (λ j. not (elemb j (view b).replayed)) (list16 named) in
-      let l : length (list16 named) ≡ length (named_in is (view b)) = ap length (list_is (named_in is (view b)) e) in
+      let k : length (without_ids (view b).replayed (id_list named)) ≤ length (id_list named) = filter_length (λ j. not (elemb j (view b).replayed)) (id_list named) in
+      let l : length (id_list named) ≡ length (named_in is (view b)) = ap length (list_is (named_in is (view b)) e) in
       let f : length (named_in is (view b)) ≤ 16 = named_fit is in
       omega arith
 
@@ -91,13 +92,13 @@ module _ (is : List ℕ) (m : Book) where
   collect_within l = ap (λ (t : Bool). run_book (cond t rounds (undo refusals.bad_list)) m) (le-leb (length is) 64 l)
 
   -- by the answer of the offers, the cells of the ids offered, which are the named ones, and of the fresh ones, and the book after the marks
-  pub collect_taken : length is ≤ 64 → {offered fresh : Ids16} {q : BookData} (t : Bool) (r : BookData) → Ends tt t r (run_book (offer_again (list16 offered)) (view q))
-      → offered ≡ ids16 (named_in is m) → fresh ≡ ids16 (without_ids m.replayed (list16 offered)) → Reached tt q (run_book (mark_all (list16 fresh)) m)
-      → Ends tt t r (run_book (collect_rollback_replay_ids is) m)
-  collect_taken l {offered} {fresh} {q} t r k e f h =
-      ends_as tt r (run_book (offer_again (list16 offered)) (view q)) t
+  pub collect_taken : length is ≤ 64 → {offered fresh : Ids 16} {q : BookData} (r : Option BookData) → Ends tt r (run_book (offer_again (id_list offered)) (view q))
+      → offered ≡ id_cells 16 (named_in is m) → fresh ≡ id_cells 16 (without_ids m.replayed (id_list offered)) → Reached tt q (run_book (mark_all (id_list fresh)) m)
+      → Ends tt r (run_book (collect_rollback_replay_ids is) m)
+  collect_taken l {offered} {fresh} {q} r k e f h =
+      ends_as tt r (run_book (offer_again (id_list offered)) (view q))
       (collect_within l
       ∙ ap (λ (ns : List ℕ). run_book (mark_each m ns >>= (λ _. offer_again ns)) m) (sym (list_is (named_in is m) e))
-      ∙ ap (λ (w : Rule (Unit {0})). run_book (w >>= (λ _. offer_again (list16 offered))) m) (marks_are m (list16 offered) ∙ ap mark_all (sym (list_is (without_ids m.replayed (list16 offered)) f)))
-      ∙ bind_on (mark_all (list16 fresh)) (λ _. offer_again (list16 offered)) m h.outcome)
+      ∙ ap (λ (w : Rule (Unit {0})). run_book (w >>= (λ _. offer_again (id_list offered))) m) (marks_are m (id_list offered) ∙ ap mark_all (sym (list_is (without_ids m.replayed (id_list offered)) f)))
+      ∙ bind_on (mark_all (id_list fresh)) (λ _. offer_again (id_list offered)) m h.outcome)
       k

@@ -24,7 +24,7 @@ use Rattle.part_replay.specs.Epoch as Epoch
 use Rattle.part_replay.specs.Epoch.{replayed_of, epoch, marked}
 use Rattle.part_replay.specs.EpochLaws.{normal_epoch}
 use Rattle.part_replay.specs.declared.Marked.{Marked}
-use Rattle.part_lookup.specs.declared.Place.TheVariants.{At, Nothing}
+use Rattle.std.specs.Prelude.{Some, None}
 use Rattle.part_lookup.specs.Place.{place_of_id, has_id}
 use Rattle.part_lookup.specs.PlaceLaws.{at_first, first_passes, any_placed, none_any, any_key, absent_change}
 use Rattle.part_change.specs.Changes.{stored_at, with_epoch_of}
@@ -39,17 +39,17 @@ mark_one i = step (replay i) >> step (revise i reopen)
 
 -- ---- an id that is retained, or is not
 module _ (i : ℕ) (m : Book) where
-  pub absent_id : place_of_id i m ≡ Nothing → elemb i (map id_of m.submitted) ≡ false
+  pub absent_id : place_of_id i m ≡ None → elemb i (map id_of m.submitted) ≡ false
   absent_id e = sym (any_key id_of i m.submitted) ∙ none_any (has_id i) m.submitted e
 
-  pub present_id : {k : ℕ} → place_of_id i m ≡ At k → elemb i (map id_of m.submitted) ≡ true
+  pub present_id : {k : ℕ} → place_of_id i m ≡ Some k → elemb i (map id_of m.submitted) ≡ true
   present_id e = sym (any_key id_of i m.submitted) ∙ any_placed (has_id i) m.submitted e
 
-  replay_absent : place_of_id i m ≡ Nothing → replay_book i m ≡ m
+  replay_absent : place_of_id i m ≡ None → replay_book i m ≡ m
   unfolding replay_book replayed_with
   replay_absent e = ap (λ (t : Bool). with_rest (with_epoch m.rollback (cond (t && not (elemb i m.replayed)) (insert_up i m.replayed) m.replayed) (rest_of m)) m) (absent_id e)
 
-  revise_absent : place_of_id i m ≡ Nothing → revise_book i reopen m ≡ m
+  revise_absent : place_of_id i m ≡ None → revise_book i reopen m ≡ m
   unfolding revise_book
   revise_absent e = ap (λ (ts : List SubmittedTx). with_submitted ts m) (absent_change id_of i (with_entry (revised reopen)) m.submitted (absent_id e))
 
@@ -66,13 +66,13 @@ module _ (i : ℕ) (m : Book) where
 
 -- ---- the two steps on a sound book
 module _ (b : BookData) (h : soundb b ≡ true) (i : ℕ) where
-  pub replay_none : place_of_id i (view b) ≡ Nothing → b ≡ back (replay_book i (view b))
+  pub replay_none : place_of_id i (view b) ≡ None → b ≡ back (replay_book i (view b))
   replay_none e = sym (ap back (replay_absent i (view b) e) ∙ back_view b h)
 
-  pub revise_none : place_of_id i (view b) ≡ Nothing → b ≡ back (revise_book i reopen (view b))
+  pub revise_none : place_of_id i (view b) ≡ None → b ≡ back (revise_book i reopen (view b))
   revise_none e = sym (ap back (revise_absent i (view b) e) ∙ back_view b h)
 
-  module _ {k : ℕ} (e : place_of_id i (view b) ≡ At k) where
+  module _ {k : ℕ} (e : place_of_id i (view b) ≡ Some k) where
     -- there is room for the mark, since the book stays sound
     pub mark_room : length (insert_new i (replayed_of b.replay_epoch)) ≤ 16
     unfolding on_book view

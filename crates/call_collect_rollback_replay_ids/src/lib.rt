@@ -3,7 +3,7 @@
 #![tactic(auto)]
 
 ghost use Rattle.std.specs.Prelude.{true, ◌≡◌, ◌≤◌};
-ghost use Rattle.book.specs.Model.{view, back, list16, ids16};
+ghost use Rattle.book.specs.Model.{view, back, id_list, id_cells};
 ghost use Rattle.book.specs.Sound.{soundb};
 ghost use Rattle.rules.specs.Rule.{reopen as opened};
 ghost use Rattle.rules.specs.Steps.{revise_book, replay_book, run_book};
@@ -15,11 +15,11 @@ ghost use Rattle.call_collect_rollback_replay_ids.specs.Marking.{mark_one};
 ghost use Rattle.call_collect_rollback_replay_ids.specs.Collecting.{mark_all, named_in};
 
 use book::refusals::BAD_LIST;
-use book::{BookData, DeliveryTrigger, Ids16, SubmissionDeliveryGoal, SubmissionId};
+use book::{BookData, DeliveryTrigger, Ids, SubmissionDeliveryGoal, SubmissionId, SubmittedTx};
 use part_change::{set_epoch, store_submitted};
-use part_ids::{among16, keep16};
-use part_lookup::{Place, position_of, submitted_at, submitted_ids};
-use part_offer::{Offered, offer, refused, settled};
+use part_ids::{among, items, without};
+use part_lookup::{position_of, submitted_at, submitted_ids};
+use part_offer::{offer, refused, settled};
 use part_replay::mark_replayed;
 use part_replies::DoneReply;
 use part_submitted::revise::reopen;
@@ -29,14 +29,12 @@ fn note_replayed(b: BookData, id: SubmissionId) -> BookData
     requires { soundb b ≡ true }
     ensures { result ≡ back (replay_book id.0 (view b)) }
 {
-    let place = position_of(b, id);
-    let Place::At(k) = place else {
+    let place = position_of(&b, id);
+    let Some(k) = place else {
         return b;
     };
-    let epoch = b.replay_epoch;
-    let marked = mark_replayed(epoch, id);
-    let next = marked.epoch;
-    set_epoch(b, next)
+    let marked = mark_replayed(b.replay_epoch, id);
+    set_epoch(b, marked.epoch)
 }
 
 // The submission of the id is Active, and nothing of it is acknowledged.
@@ -44,15 +42,13 @@ fn reopen_submitted(b: BookData, id: SubmissionId) -> BookData
     requires { soundb b ≡ true }
     ensures { result ≡ back (revise_book id.0 opened (view b)) }
 {
-    let place = position_of(b, id);
-    let Place::At(k) = place else {
+    let place = position_of(&b, id);
+    let Some(k) = place else {
         return b;
     };
-    let mut t = submitted_at(b, k);
-    let e = t.entry;
-    let entry = reopen(e);
-    t.entry = entry;
-    store_submitted(b, k, t)
+    let t = submitted_at(&b, k);
+    let entry = reopen(t.entry);
+    store_submitted(b, k, SubmittedTx { entry, ..t })
 }
 
 fn mark_one(b: BookData, id: SubmissionId) -> BookData
@@ -62,66 +58,47 @@ fn mark_one(b: BookData, id: SubmissionId) -> BookData
     reopen_submitted(note_replayed(b, id), id)
 }
 
-fn mark_each(b: BookData, fresh: Ids16) -> BookData
+fn mark_each(b: BookData, fresh: Ids<16>) -> BookData
     requires { (soundb b ≡ true) × (fresh.count ≤ 16) }
-    ensures { Reached tt result (run_book (mark_all (list16 fresh)) (view b)) }
+    ensures { Reached tt result (run_book (mark_all (id_list fresh)) (view b)) }
 {
-    let n = fresh.count;
-    let items = fresh.items;
     let mut out = b;
-    let mut i = 0;
-    while i < n {
-        out = mark_one(out, SubmissionId(items[i]));
-        i += 1;
+    for id in &fresh.items[..fresh.count] {
+        out = mark_one(out, SubmissionId(*id));
     }
     out
 }
 
-fn offer_again(b: BookData, named: Ids16) -> Offered
+fn offer_again(b: BookData, named: Ids<16>) -> Option<BookData>
     requires { (soundb b ≡ true) × (named.count ≤ 16) }
-    ensures { Ends tt result.full result.book (run_book (offer_again (list16 named)) (view b)) }
+    ensures { Ends tt result (run_book (offer_again (id_list named)) (view b)) }
 {
-    let n = named.count;
-    let items = named.items;
     let mut out = b;
-    let mut i = 0;
-    while i < n {
-        let next = offer(
+    for id in &named.items[..named.count] {
+        out = offer(
             out,
-            SubmissionId(items[i]),
+            SubmissionId(*id),
             DeliveryTrigger::Rollback,
             SubmissionDeliveryGoal::EnsureBroadcast,
-        );
-        if next.full {
-            return next;
-        }
-        let left = next.book;
-        out = left;
-        i += 1;
+        )?;
     }
-    Offered {
-        full: false,
-        book: out,
-    }
+    Some(out)
 }
 
 // The retained ids that the list names, in retained order.
-fn named_ids(b: BookData, ids: &[u64]) -> Ids16
+fn named_ids(b: BookData, ids: &[u64]) -> Ids<16>
     requires { soundb b ≡ true }
-    ensures { result ≡ ids16 (named_in ids.now (view b)) }
+    ensures { result ≡ id_cells 16 (named_in ids.now (view b)) }
 {
-    let held = submitted_ids(b);
-    among16(held, ids)
+    among(&submitted_ids(&b), ids)
 }
 
 // Those of the ids that are not marked as replayed.
-fn unmarked(b: BookData, named: Ids16) -> Ids16
-    requires { (soundb b ≡ true) × (named.count ≤ 16) × (named ≡ ids16 (list16 named)) }
-    ensures { result ≡ ids16 (without_ids (view b).replayed (list16 named)) }
+fn unmarked(b: BookData, named: Ids<16>) -> Ids<16>
+    requires { (soundb b ≡ true) × (named.count ≤ 16) × (named ≡ id_cells 16 (id_list named)) }
+    ensures { result ≡ id_cells 16 (without_ids (view b).replayed (id_list named)) }
 {
-    let epoch = b.replay_epoch;
-    let old = epoch.replayed_submission_ids;
-    keep16(named, old)
+    without(&named, items(&b.replay_epoch.replayed_submission_ids))
 }
 
 pub fn collect_rollback_replay_ids_sound(b: BookData, ids: &[u64]) -> DoneReply

@@ -3,9 +3,9 @@ use Rattle.std.specs.Prelude.{ℕ, ◌+◌, ◌≤◌, ◌<◌, List, [], ◌∷
 use Rattle.std.proofs.Common.{append-nil, sym, ap, ◌∙◌, arith, length-append}
 use Rattle.base_lists.specs.Lists.{cells}
 use Rattle.base_lists.specs.Laws.{take_cells, length_cells, length_snoc}
-use Rattle.book.specs.Model.{list16, ids16}
+use Rattle.book.specs.Model.{id_list, id_cells}
 use Rattle.book.specs.SoundLaws.{Counted}
-use Rattle.book.specs.declared.Ids16.{Ids16}
+use Rattle.book.specs.declared.Ids.{Ids}
 use Rattle.book.specs.declared.SubmissionId.{SubmissionId}
 use Rattle.book.specs.declared.BookData.{BookData}
 use Rattle.part_ids.specs.Counted.{counted_push}
@@ -23,8 +23,8 @@ use Rattle.call_drain.specs.Carried.{memory_by, drained_in}
 
 abbrev pub answers_of : List DrainedSubmission → Memory → DrainAnswers
 answers_of xs a = record {
-  emitted = ids16 a.emitted;
-  removed = ids16 a.removed;
+  emitted = id_cells 16 a.emitted;
+  removed = id_cells 16 a.removed;
   submission_count = length xs;
   submissions = cells 16 zero_drained xs;
   failure_count = length a.failed;
@@ -34,7 +34,7 @@ answers_of xs a = record {
 -- ---- the cells after a plan
 abbrev pub with_submission : SubmissionId → DrainedSubmission → DrainAnswers → DrainAnswers
 with_submission i x a = record {
-  emitted = ids16 (list16 a.emitted ++ i.0 ∷ []);
+  emitted = id_cells 16 (id_list a.emitted ++ i.0 ∷ []);
   removed = a.removed;
   submission_count = a.submission_count + 1;
   submissions = set a.submissions a.submission_count x;
@@ -55,7 +55,7 @@ with_failed f a = record {
 abbrev pub with_removal : SubmissionDrainFailure → DrainAnswers → DrainAnswers
 with_removal f a = record {
   emitted = a.emitted;
-  removed = ids16 (list16 a.removed ++ f.candidate_id.0 ∷ []);
+  removed = id_cells 16 (id_list a.removed ++ f.candidate_id.0 ∷ []);
   submission_count = a.submission_count;
   submissions = a.submissions;
   failure_count = a.failure_count + 1;
@@ -81,8 +81,8 @@ finished_with b a = record {
 
 -- ---- one more of each has room
 pub record Room (a : DrainAnswers) : Type 0 where
-  pub emitted : (a.emitted.count < 16) × (a.emitted ≡ ids16 (list16 a.emitted))
-  pub removed : (a.removed.count < 16) × (a.removed ≡ ids16 (list16 a.removed))
+  pub emitted : (a.emitted.count < 16) × (a.emitted ≡ id_cells 16 (id_list a.emitted))
+  pub removed : (a.removed.count < 16) × (a.removed ≡ id_cells 16 (id_list a.removed))
   pub submissions : a.submission_count < 16
   pub submissions_long : length a.submissions ≡ 16
   pub failures : a.failure_count < 16
@@ -95,10 +95,10 @@ pub record Few (n : ℕ) (xs : List DrainedSubmission) (a : Memory) : Type 0 whe
   pub failed : length a.failed ≤ n
   pub issued : length xs ≤ n
 
-ids_room : (is : List ℕ) {x : Ids16} → x ≡ ids16 is → length is < 16 → (x.count < 16) × (x ≡ ids16 (list16 x))
+ids_room : (is : List ℕ) {x : Ids 16} → x ≡ id_cells 16 is → length is < 16 → (x.count < 16) × (x ≡ id_cells 16 (id_list x))
 ids_room is {x} e h =
-    let c : x.count ≡ length is = ap (λ (y : Ids16). y.count) e in
-    (omega arith, e ∙ ap ids16 (sym (take_cells 16 0 is) ∙ sym (ap list16 e)))
+    let c : x.count ≡ length is = ap (λ (y : Ids 16). y.count) e in
+    (omega arith, e ∙ ap (id_cells 16) (sym (take_cells 16 0 is) ∙ sym (ap id_list e)))
 
 pub room : (xs : List DrainedSubmission) (a : Memory) {d : DrainAnswers} → d ≡ answers_of xs a → {n : ℕ} → Few n xs a → n < 16 → Room d
 room xs a {d} e {n} k h =
@@ -118,14 +118,14 @@ room xs a {d} e {n} k h =
 push : {A : Type 0} (z : A) (xs : List A) (x : A) → length xs < 16 → set (cells 16 z xs) (length xs) x ≡ cells 16 z (xs ++ x ∷ [])
 push z xs x h = let c : Counted 16 z (length xs) (cells 16 z xs) xs = record { count = refl; held = refl } in (counted_push c x h).held
 
-push_ids : (is : List ℕ) (i : ℕ) → ids16 (list16 (ids16 is) ++ i ∷ []) ≡ ids16 (is ++ i ∷ [])
-push_ids is i = ap (λ (js : List ℕ). ids16 (js ++ i ∷ [])) (take_cells 16 0 is)
+push_ids : (is : List ℕ) (i : ℕ) → id_cells 16 (id_list (id_cells 16 is) ++ i ∷ []) ≡ id_cells 16 (is ++ i ∷ [])
+push_ids is i = ap (λ (js : List ℕ). id_cells 16 (js ++ i ∷ [])) (take_cells 16 0 is)
 
 module _ (p : SubmissionPlanDelta) (xs : List DrainedSubmission) (a : Memory) where
   issued_after : length xs < 16 → with_submission p.tx.entry.id p.submission (answers_of xs a) ≡ answers_of (xs ++ p.submission ∷ []) (memory_by Issued p a)
   issued_after h = λ i. record {
     emitted = push_ids a.emitted p.tx.entry.id.0 i;
-    removed = ids16 a.removed;
+    removed = id_cells 16 a.removed;
     submission_count = sym (length_snoc xs p.submission) i;
     submissions = push zero_drained xs p.submission h i;
     failure_count = length a.failed;
@@ -134,8 +134,8 @@ module _ (p : SubmissionPlanDelta) (xs : List DrainedSubmission) (a : Memory) wh
 
   failed_after : length a.failed < 16 → with_failed p.failure (answers_of xs a) ≡ answers_of xs (memory_by Failed p a)
   failed_after h = λ i. record {
-    emitted = ids16 a.emitted;
-    removed = ids16 a.removed;
+    emitted = id_cells 16 a.emitted;
+    removed = id_cells 16 a.removed;
     submission_count = length xs;
     submissions = cells 16 zero_drained xs;
     failure_count = sym (length_snoc a.failed p.failure) i;
@@ -144,7 +144,7 @@ module _ (p : SubmissionPlanDelta) (xs : List DrainedSubmission) (a : Memory) wh
 
   removed_after : length a.failed < 16 → with_removal p.failure (answers_of xs a) ≡ answers_of xs (memory_by Removed p a)
   removed_after h = λ i. record {
-    emitted = ids16 a.emitted;
+    emitted = id_cells 16 a.emitted;
     removed = push_ids a.removed p.failure.candidate_id.0 i;
     submission_count = length xs;
     submissions = cells 16 zero_drained xs;

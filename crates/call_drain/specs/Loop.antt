@@ -5,11 +5,12 @@ use mathlib.Core.List.{List, [], ◌∷◌, ◌++◌, append-nil}
 use Rattle.std.proofs.Math.Path.{refl, ap, subst}
 use native.Mathlib.Omega.{arith}
 use Rattle.std.proofs.lemmas.Bool.{eqb-false}
-use Rattle.base_lists.specs.Lists.{allb, cells}
+use Rattle.base_lists.specs.Lists.{cells}
+use Rattle.std.specs.List.{list_all}
 use Rattle.base_lists.specs.Laws.{and_split, take_cells, counted_step, counted_end}
 use Rattle.part_ids.specs.Counted.{counted_set, counted_push}
 use Rattle.book.specs.Zero.{zero_submitted}
-use Rattle.book.specs.Model.{Book, view, back, list16}
+use Rattle.book.specs.Model.{Book, view, back, id_list}
 use Rattle.book.specs.Sound.{sound_delivery, soundb}
 use Rattle.book.specs.SoundLaws.{sound_lists_lem, Counted}
 use Rattle.book.specs.declared.BookData.{BookData}
@@ -100,7 +101,7 @@ pub record Running (b book : BookData) (answers : DrainAnswers) (i : ℕ) : Type
   pub holds : Holds book m
   pub held : answers ≡ answers_of xs a
   pub few : Few i xs a
-  pub queue : allb sound_delivery (drop i (view b).pending) ≡ true
+  pub queue : list_all sound_delivery (drop i (view b).pending) ≡ true
   pub rest : whole b ≡ drain_reply b (logged xs (run_book (candidates i (drop i (view b).pending) a) m))
 
 -- the queue is emptied
@@ -137,15 +138,15 @@ ready v l =
 -- ---- one candidate
 module _ {b book : BookData} {answers : DrainAnswers} {i : ℕ} (v : Running b book answers i) (c : PendingDelivery)
     (step : drop i (view b).pending ≡ c ∷ drop (i + 1) (view b).pending) (p : SubmissionPlanDelta)
-    (plan : p ≡ candidate_plan (view book) (list16 answers.emitted) (list16 answers.removed) i c) where
+    (plan : p ≡ candidate_plan (view book) (id_list answers.emitted) (id_list answers.removed) i c) where
   plan_is : p ≡ candidate_plan v.m v.a.emitted v.a.removed i c
   plan_is =
-      let e : list16 answers.emitted ≡ v.a.emitted = ap (λ (d : DrainAnswers). list16 d.emitted) v.held ∙ take_cells 16 0 v.a.emitted in
-      let r : list16 answers.removed ≡ v.a.removed = ap (λ (d : DrainAnswers). list16 d.removed) v.held ∙ take_cells 16 0 v.a.removed in
+      let e : id_list answers.emitted ≡ v.a.emitted = ap (λ (d : DrainAnswers). id_list d.emitted) v.held ∙ take_cells 16 0 v.a.emitted in
+      let r : id_list answers.removed ≡ v.a.removed = ap (λ (d : DrainAnswers). id_list d.removed) v.held ∙ take_cells 16 0 v.a.removed in
       plan ∙ (λ j. candidate_plan (holds_view v.holds j) (e j) (r j) i c)
 
-  sounds : (sound_delivery c ≡ true) × (allb sound_delivery (drop (i + 1) (view b).pending) ≡ true)
-  sounds = and_split (sound_delivery c) (allb sound_delivery (drop (i + 1) (view b).pending)) (sym (ap (allb sound_delivery) step) ∙ v.queue)
+  sounds : (sound_delivery c ≡ true) × (list_all sound_delivery (drop (i + 1) (view b).pending) ≡ true)
+  sounds = and_split (sound_delivery c) (list_all sound_delivery (drop (i + 1) (view b).pending)) (sym (ap (list_all sound_delivery) step) ∙ v.queue)
 
   carries : Carries (run_book (one_candidate i c v.a) v.m) p v.a v.m
   unfolding sound_delivery

@@ -7,20 +7,20 @@ use Rattle.std.proofs.Common.{◌∙◌, arith}
 use Rattle.std.proofs.lemmas.List.{length-map}
 use Rattle.base_lists.specs.Laws.{take_cells}
 use Rattle.book.specs.Zero.{zero_submitted}
-use Rattle.book.specs.Model.{Book, view, list16, list64, ids16}
+use Rattle.book.specs.Model.{Book, view, id_list, id_cells}
 use Rattle.book.specs.Sound.{id_of}
 use Rattle.book.specs.declared.BookData.{BookData}
-use Rattle.book.specs.declared.Ids16.{Ids16}
-use Rattle.book.specs.declared.OptionalId.{OptionalId}
-use Rattle.book.specs.declared.OptionalId.TheVariants.{NoId, Of}
+use Rattle.book.specs.declared.Ids.{Ids}
+use Rattle.std.specs.Prelude.{Option}
 use Rattle.book.specs.declared.SubmissionId.{SubmissionId}
+use Rattle.std.specs.Prelude.{None, Some}
 use Rattle.book.specs.declared.PendingDelivery.{PendingDelivery}
 use Rattle.book.specs.declared.SubmittedTx.{SubmittedTx}
 use Rattle.rules.specs.Parts.{intent_of}
 use Rattle.rules.specs.Calls.Drain.{is_one_of}
 use Rattle.part_lookup.specs.Normal.{Normal, submitted_are}
 use Rattle.part_lookup.specs.Place.{place_of, place_of_id, has_intent}
-use Rattle.part_lookup.specs.declared.Place.TheVariants.{At, Nothing}
+use Rattle.std.specs.Prelude.{Some, None}
 use Rattle.book_answers.specs.Zero.{zero_failure}
 use Rattle.book_answers.specs.declared.DrainFailureCause.TheVariants.{NoRetainedState}
 use Rattle.part_plan.specs.declared.PlanAction.TheVariants.{Passed, Failed}
@@ -36,21 +36,21 @@ place_in k b = record { index = k; count = b.submitted_count; next_id = b.next_s
 
 module _ (b : BookData) (h : Normal b) (emitted : List ℕ) (n : ℕ) (c : PendingDelivery) (f : List ℕ) {r : SubmissionPlanDelta} where
   pub known_on : (k : ℕ) {t : SubmittedTx} → t ≡ get_or (view b).submitted k zero_submitted
-      → r ≡ known_plan (place_in k b) emitted (list64 b.retired_submission_ids) n c f t
+      → r ≡ known_plan (place_in k b) emitted (id_list b.retired_submission_ids) n c f t
       → r ≡ known_plan (place_on k (view b)) emitted (view b).retired n c f (get_or (view b).submitted k zero_submitted)
   unfolding view
   known_on k e q =
       q
       ∙ (λ i. known_plan
       (record { index = k; count = (submitted_are b h).count i; next_id = b.next_submission_id; next_token = b.next_delivery_attempt_token })
-      emitted (list64 b.retired_submission_ids) n c f (e i))
+      emitted (id_list b.retired_submission_ids) n c f (e i))
 
-  pub unknown_on : {ids : Ids16} → ids ≡ ids16 (map id_of (view b).submitted)
-      → r ≡ unknown_plan (place_in b.submitted_count b) emitted (list16 ids) n c f
+  pub unknown_on : {ids : Ids 16} → ids ≡ id_cells 16 (map id_of (view b).submitted)
+      → r ≡ unknown_plan (place_in b.submitted_count b) emitted (id_list ids) n c f
       → r ≡ unknown_plan (place_on (length (view b).submitted) (view b)) emitted (map id_of (view b).submitted) n c f
   unfolding view
   unknown_on {ids} e q =
-      let l : list16 ids ≡ map id_of (view b).submitted = ap list16 e ∙ take_cells 16 0 (map id_of (view b).submitted) in
+      let l : id_list ids ≡ map id_of (view b).submitted = ap id_list e ∙ take_cells 16 0 (map id_of (view b).submitted) in
       q
       ∙ (λ i. unknown_plan
       (record {
@@ -61,9 +61,9 @@ module _ (b : BookData) (h : Normal b) (emitted : List ℕ) (n : ℕ) (c : Pendi
       })
       emitted (l i) n c f)
 
-pub ids_short : (b : BookData) → Normal b → {ids : Ids16} → ids ≡ ids16 (map id_of (view b).submitted) → ids.count ≤ 16
+pub ids_short : (b : BookData) → Normal b → {ids : Ids 16} → ids ≡ id_cells 16 (map id_of (view b).submitted) → ids.count ≤ 16
 ids_short b h {ids} e =
-    let c : ids.count ≡ length (map id_of (view b).submitted) = ap (λ (x : Ids16). x.count) e in
+    let c : ids.count ≡ length (map id_of (view b).submitted) = ap (λ (x : Ids 16). x.count) e in
     let l = length-map (view b).submitted id_of in
     let k = h.fits.submitted in
     omega arith
@@ -73,12 +73,12 @@ module _ (m : Book) (emitted : List ℕ) (n : ℕ) (c : PendingDelivery) (f : Li
   abbrev other_plan : SubmissionPlanDelta
   other_plan = unknown_plan (place_on (length m.submitted) m) emitted (map id_of m.submitted) n c f
 
-  pub unnamed_at : {r : SubmissionPlanDelta} {k : ℕ} → place_of (has_intent f) m.submitted ≡ At k
+  pub unnamed_at : {r : SubmissionPlanDelta} {k : ℕ} → place_of (has_intent f) m.submitted ≡ Some k
       → r ≡ known_plan (place_on k m) emitted m.retired n c f (get_or m.submitted k zero_submitted) → r ≡ unnamed_plan m emitted n c f
   unfolding unnamed_plan
   unnamed_at e q = q ∙ sym (ap (found_plan m emitted n c f other_plan) e)
 
-  pub unnamed_none : {r : SubmissionPlanDelta} → place_of (has_intent f) m.submitted ≡ Nothing → r ≡ other_plan → r ≡ unnamed_plan m emitted n c f
+  pub unnamed_none : {r : SubmissionPlanDelta} → place_of (has_intent f) m.submitted ≡ None → r ≡ other_plan → r ≡ unnamed_plan m emitted n c f
   unfolding unnamed_plan
   unnamed_none e q = q ∙ sym (ap (found_plan m emitted n c f other_plan) e)
 
@@ -89,18 +89,18 @@ module _ (m : Book) (emitted removed : List ℕ) (n : ℕ) (c : PendingDelivery)
   passed_over e q = q ∙ sym (ap (λ (u : Bool). cond u (failing (Planned Passed) zero_failure) (plan_by m emitted n c (intent_of c.intent) c.intent.id)) e)
 
   module _ (on : is_one_of c.intent.id removed ≡ false) {f : List ℕ} (print : f ≡ intent_of c.intent) where
-    by_id_lem : {o : OptionalId} → c.intent.id ≡ o → r ≡ plan_by m emitted n c f o → r ≡ candidate_plan m emitted removed n c
+    by_id_lem : {o : Option SubmissionId} → c.intent.id ≡ o → r ≡ plan_by m emitted n c f o → r ≡ candidate_plan m emitted removed n c
     unfolding candidate_plan
     by_id_lem e q =
         q ∙ (λ i. plan_by m emitted n c (print i) (sym e i))
         ∙ sym (ap (λ (u : Bool). cond u (failing (Planned Passed) zero_failure) (plan_by m emitted n c (intent_of c.intent) c.intent.id)) on)
 
-    pub without_id_lem : c.intent.id ≡ NoId → r ≡ unnamed_plan m emitted n c f → r ≡ candidate_plan m emitted removed n c
+    pub without_id_lem : c.intent.id ≡ None → r ≡ unnamed_plan m emitted n c f → r ≡ candidate_plan m emitted removed n c
     without_id_lem e q = by_id_lem e q
 
-    pub id_at : {i : SubmissionId} → c.intent.id ≡ Of i → {k : ℕ} → place_of_id i.0 m ≡ At k
+    pub id_at : {i : SubmissionId} → c.intent.id ≡ Some i → {k : ℕ} → place_of_id i.0 m ≡ Some k
         → r ≡ known_plan (place_on k m) emitted m.retired n c f (get_or m.submitted k zero_submitted) → r ≡ candidate_plan m emitted removed n c
     id_at {i} e p q = by_id_lem e (q ∙ sym (ap (found_plan m emitted n c f (failing (Planned Failed) (failure_at n NoRetainedState i f))) p))
 
-    pub id_gone : {i : SubmissionId} → c.intent.id ≡ Of i → place_of_id i.0 m ≡ Nothing → r ≡ failing (Planned Failed) (failure_at n NoRetainedState i f) → r ≡ candidate_plan m emitted removed n c
+    pub id_gone : {i : SubmissionId} → c.intent.id ≡ Some i → place_of_id i.0 m ≡ None → r ≡ failing (Planned Failed) (failure_at n NoRetainedState i f) → r ≡ candidate_plan m emitted removed n c
     id_gone {i} e p q = by_id_lem e (q ∙ sym (ap (found_plan m emitted n c f (failing (Planned Failed) (failure_at n NoRetainedState i f))) p))

@@ -2,20 +2,19 @@
 use Rattle.std.specs.Prelude.{ℕ, suc, ◌<◌, Bool, ◌≡◌, eqb, ltb, get_or, set}
 use Rattle.std.proofs.Math.Bool.{true, false, cond, not}
 use mathlib.Core.List.{List, [], ◌∷◌, ◌++◌, map}
-use Rattle.std.proofs.Math.Option.{Option, none, some}
+use Rattle.std.specs.Prelude.{Option, None, Some}
 use Rattle.std.proofs.Math.Path.{refl, sym, ap, subst}
 use Rattle.std.proofs.Common.{◌∙◌, add-one, arith, length-set, length-append}
 use borrow.Author.Tests.{eqb-true, eqb-false, lt-ltb, le-ltb, ltb-false, not-false}
 use Rattle.std.proofs.Math.ListN.{length}
-use Rattle.base_lists.specs.Lists.{filterb, elemb, distinctb, push_new}
+use Rattle.base_lists.specs.Lists.{elemb, distinctb, push_new}
+use Rattle.std.specs.List.{filter}
 use Rattle.base_lists.specs.Laws.{and_both}
 use Rattle.book.specs.Model.{Book}
 use Rattle.book.specs.Zero.{zero_submitted}
 use Rattle.book.specs.Sound.{id_of, sound_intent, readable_bundle}
 use Rattle.book.specs.SoundLaws.{sound_lists_lem}
 use Rattle.book.specs.declared.SubmissionDeliveryGoal.{SubmissionDeliveryGoal}
-use Rattle.book.specs.declared.OptionalId.{OptionalId}
-use Rattle.book.specs.declared.OptionalId.TheVariants.{NoId, Of}
 use Rattle.book.specs.declared.SubmissionId.{SubmissionId}
 use Rattle.book.specs.declared.PendingDelivery.{PendingDelivery}
 use Rattle.book.specs.declared.SubmittedTx.{SubmittedTx}
@@ -36,8 +35,8 @@ use Rattle.rules.specs.Calls.Drain.{is_one_of, one_candidate}
 use Rattle.rules_laws.specs.Sound.Run.{SoundBook}
 use Rattle.part_lookup.specs.Place.{has_id, has_intent, place_of}
 use Rattle.part_lookup.specs.PlaceLaws.{at_first, first_filter, none_passes, pick_at, change_at}
-use Rattle.part_lookup.specs.declared.Place.{Place}
-use Rattle.part_lookup.specs.declared.Place.TheVariants.{At, Nothing}
+use Rattle.std.specs.Prelude.{Option}
+use Rattle.std.specs.Prelude.{Some, None}
 use Rattle.part_change.specs.Changes.{stored_at}
 use Rattle.part_change.specs.ChangeLaws.{revise_at}
 use Rattle.part_sound_laws.specs.Acts.{act_full, act_silent}
@@ -178,7 +177,7 @@ module _ (m : Book) (s : SoundBook m) (c : PendingDelivery) (a : Memory) (k : �
   retire_full = full_retire (remove_book (id_of t) m) removed_sound.fits (id_of t) ∙ ap (λ (is : List ℕ). ltb 64 (length (push_new is (id_of t)))) kept_retired
 
   module _ (n : ℕ) (f : List ℕ) where
-    miss_carries : (x : DrainFailureCause) → Carries (run_book (known_by n c f t a (some x)) m) (removal_plan m.retired (failure_at n x t.entry.id f)) a m
+    miss_carries : (x : DrainFailureCause) → Carries (run_book (known_by n c f t a (Some x)) m) (removal_plan m.retired (failure_at n x t.entry.id f)) a m
     unfolding withdraw removal_plan on_book run
     miss_carries x =
         carries_by (act_silent (remove (id_of t)) (act (note (retire (id_of t))) (done after)) m refl refl) (by (ltb 64 (length (push_new m.retired (id_of t)))) refl)
@@ -199,8 +198,8 @@ module _ (m : Book) (s : SoundBook m) (c : PendingDelivery) (a : Memory) (k : �
     known_carries = by (miss_of c.intent f t.entry)
       where
         by : (o : Option DrainFailureCause) → Carries (run_book (known_by n c f t a o) m) (known_plan_by (place_on k m) a.emitted m.retired n c f t o) a m
-        by none = met_carries
-        by (some x) = miss_carries x
+        by None = met_carries
+        by (Some x) = miss_carries x
 
 -- ---- a candidate of which none is retained
 module _ (m : Book) (s : SoundBook m) (c : PendingDelivery) (sc : sound_intent c.intent ≡ true) (a : Memory) where
@@ -291,29 +290,29 @@ module _ (m : Book) (s : SoundBook m) (c : PendingDelivery) (sc : sound_intent c
     abbrev print : List ℕ
     print = intent_of c.intent
 
-    unnamed_carries : (x : Place) → place_of (has_intent print) m.submitted ≡ x → Carries (run_book (unnamed n c print m a (filterb (has_intent print) m.submitted)) m)
+    unnamed_carries : (x : Option ℕ) → place_of (has_intent print) m.submitted ≡ x → Carries (run_book (unnamed n c print m a (filter (has_intent print) m.submitted)) m)
         (found_plan m a.emitted n c print (unknown_plan end a.emitted (map id_of m.submitted) n c print) x) a m
-    unnamed_carries (At k) e =
+    unnamed_carries (Some k) e =
         let h = at_first (has_intent print) m.submitted e in
         carries_by (ap (λ (ts : List SubmittedTx). run_book (unnamed n c print m a ts) m) (first_filter (has_intent print) m.submitted zero_submitted h))
         (known_carries m s c a k (get_or m.submitted k zero_submitted) h.within refl n print)
-    unnamed_carries Nothing e =
+    unnamed_carries None e =
         carries_by (ap (λ (ts : List SubmittedTx). run_book (unnamed n c print m a ts) m) (none_passes (has_intent print) m.submitted e)) (unknown_carries n print)
 
-    named_carries : (i : SubmissionId) (x : Place) → place_of (has_id i.0) m.submitted ≡ x → Carries (run_book (named n c print i.0 a (filterb (has_id i.0) m.submitted)) m)
+    named_carries : (i : SubmissionId) (x : Option ℕ) → place_of (has_id i.0) m.submitted ≡ x → Carries (run_book (named n c print i.0 a (filter (has_id i.0) m.submitted)) m)
         (found_plan m a.emitted n c print (failing (Planned Failed) (failure_at n NoRetainedState i print)) x) a m
     unfolding run
-    named_carries i (At k) e =
+    named_carries i (Some k) e =
         let h = at_first (has_id i.0) m.submitted e in
         carries_by (ap (λ (ts : List SubmittedTx). run_book (named n c print i.0 a ts) m) (first_filter (has_id i.0) m.submitted zero_submitted h))
         (known_carries m s c a k (get_or m.submitted k zero_submitted) h.within refl n print)
-    named_carries i Nothing e =
+    named_carries i None e =
         carries_by (ap (λ (ts : List SubmittedTx). run_book (named n c print i.0 a ts) m) (none_passes (has_id i.0) m.submitted e)) (record { outcome = refl; fits = tt })
 
-    planned_carries : (o : OptionalId) → Carries (run_book (planned_by n c print m a o) m) (plan_by m a.emitted n c print o) a m
+    planned_carries : (o : Option SubmissionId) → Carries (run_book (planned_by n c print m a o) m) (plan_by m a.emitted n c print o) a m
     unfolding unnamed_plan pick
-    planned_carries NoId = unnamed_carries (place_of (has_intent print) m.submitted) refl
-    planned_carries (Of i) = named_carries i (place_of (has_id i.0) m.submitted) refl
+    planned_carries None = unnamed_carries (place_of (has_intent print) m.submitted) refl
+    planned_carries (Some i) = named_carries i (place_of (has_id i.0) m.submitted) refl
 
     candidate_carries : Carries (run_book (candidate n c a) m) (plan_by m a.emitted n c print c.intent.id) a m
     unfolding candidate run

@@ -1,6 +1,6 @@
 -- A fee intent, or none, of a book that stays.
 use Rattle.std.specs.Prelude.{[], ◌≡◌}
-use Rattle.std.proofs.Math.Option.{Option}
+use Rattle.std.specs.Prelude.{Option}
 use Rattle.std.proofs.Common.{ap, ◌∙◌}
 use Rattle.book.specs.Model.{Book, view}
 use Rattle.book.specs.declared.BookData.{BookData}

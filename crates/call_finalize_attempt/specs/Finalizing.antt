@@ -1,7 +1,7 @@
 -- The steps of `finalize_attempt` on the submission at a place: finalise, or attach and finalise, is one store.
 use Rattle.std.specs.Prelude.{ℕ, true, false, ◌≡◌}
 use mathlib.Core.List.{[]}
-use Rattle.std.proofs.Math.Option.{Option, none, some}
+use Rattle.std.specs.Prelude.{Option, None, Some}
 use Rattle.std.proofs.Common.{sym, ◌∙◌}
 use Rattle.std.proofs.Math.Path.{ap}
 use Rattle.book.specs.Model.{Book, view, back}
@@ -33,14 +33,6 @@ use Rattle.call_finalize_attempt.specs.Ready.{Standing}
 abbrev pub finalized_reply : BookData → ℕ → SubmittedTx → FinalizedSubmission → FinalizeReply
 finalized_reply b k s r = record { answer = Done; present = true; finalized = r; book = back (stored_at k (with_slots (slots_final r.variant_fingerprint) s) (view b)) }
 
--- none, of a book that stays
-pub none_ended : (b : BookData) → Normal b → {r : FinalizedSubmission} {o : Outcome Book (Option FinalizedSubmission)} → r ≡ zero_final → ended (view b) [] none ≡ o
-    → record { answer = Done; present = false; finalized = r; book = b } ≡ finalize_reply b o
-none_ended b n e q =
-    ap {B = FinalizeReply} (λ (x : FinalizedSubmission). record { answer = Done; present = false; finalized = x; book = b }) e
-    ∙ ap {B = FinalizeReply} (λ (x : BookData). record { answer = Done; present = false; finalized = zero_final; book = x }) n.held
-    ∙ ap (finalize_reply b) q
-
 -- the rules where the fee is attached
 abbrev pub attaching : SpendBundle → SubmittedTx → Rule (Option FinalizedSubmission)
 attaching j s = act (revise (id_of s) (attach j)) (finalize_as (id_of s) (attached_final j s.entry))
@@ -48,7 +40,7 @@ attaching j s = act (revise (id_of s) (attach j)) (finalize_as (id_of s) (attach
 -- the book that is left, in the rules' terms
 module _ (b : BookData) (k : ℕ) (s : SubmittedTx) where
   abbrev final : FinalizedSubmission → SubmittedTx → Outcome Book (Option FinalizedSubmission)
-  final x y = ended (stored_at k (with_slots (slots_final x.variant_fingerprint) y) (view b)) [] (some x)
+  final x y = ended (stored_at k (with_slots (slots_final x.variant_fingerprint) y) (view b)) [] (Some x)
 
   replied : {r : FinalizedSubmission} (x : FinalizedSubmission) → r ≡ x → finalized_reply b k s r ≡ finalize_reply b (final x s)
   replied x e = ap (finalized_reply b k s) e
@@ -58,7 +50,7 @@ module _ (b : BookData) (k : ℕ) (s : SubmittedTx) where
     unfolding finalize_as run on_book
     final_run x =
         ap (final x) h.read
-        ∙ ap {B = Outcome Book (Option FinalizedSubmission)} (λ (n : Book). ended n [] (some x))
+        ∙ ap {B = Outcome Book (Option FinalizedSubmission)} (λ (n : Book). ended n [] (Some x))
         (sym (mark_at (view b) (holds_lists (holds_sound b h.sound)).ids (id_of s) k h.within (ap id_of (sym h.read)) (slots_final x.variant_fingerprint)))
 
     pub finalize_answer_lem : {r : FinalizedSubmission} (x : FinalizedSubmission) → r ≡ x → finalized_reply b k s r ≡ finalize_reply b (run_book (finalize_as (id_of s) x) (view b))
@@ -69,7 +61,7 @@ module _ (b : BookData) (k : ℕ) (s : SubmittedTx) (h : Standing b k s) (j : Sp
   attach_base : final b k s (attached_final j (at (view b) k).entry) (with_entry (revised (attach j)) (at (view b) k)) ≡ run_book (attaching j (at (view b) k)) (view b)
   unfolding finalize_as run on_book
   attach_base =
-      ap {B = Outcome Book (Option FinalizedSubmission)} (λ (n : Book). ended n [] (some (attached_final j (at (view b) k).entry)))
+      ap {B = Outcome Book (Option FinalizedSubmission)} (λ (n : Book). ended n [] (Some (attached_final j (at (view b) k).entry)))
       (sym (revise_mark (view b) k (holds_lists (holds_sound b h.sound)).ids h.within (attach j) (slots_final (attached_final j (at (view b) k).entry).variant_fingerprint)))
 
   attach_run : final b k s (attached_final j s.entry) (with_entry (revised (attach j)) s) ≡ run_book (attaching j s) (view b)

@@ -1,7 +1,7 @@
 -- The tests of `finalize_attempt` in their order: 3, then those of a live token: 5, 7, 8, 9.
 use Rattle.std.specs.Prelude.{ℕ, Bool, true, false, not, ◌≡◌}
 use Rattle.std.proofs.Math.Bool.{cond}
-use Rattle.std.proofs.Math.Option.{Option, none}
+use Rattle.std.specs.Prelude.{Option, None}
 use Rattle.std.proofs.Math.Path.{refl, sym, ap}
 use Rattle.std.proofs.Common.{◌∙◌}
 use Rattle.base_lists.specs.Bytes.{eqs}
@@ -32,15 +32,15 @@ module _ (source : SubmissionFeeSource) (j : SpendBundle) where
   unjoined_zero p e = ap (λ (x : Bool). cond x (sound_bundle j) (is_zero_bundle j)) (sym e ∙ p)
 
   module _ (t : ℕ) (m : Book) where
-    by_source : {x : Bool} → sound_source source j ≡ x → run_book (finalize_attempt t source j) m ≡ run_book (cond x (with_live t none (finalize_live source j)) (undo refusals.bad_value)) m
+    by_source : {x : Bool} → sound_source source j ≡ x → run_book (finalize_attempt t source j) m ≡ run_book (cond x (with_live t None (finalize_live source j)) (undo refusals.bad_value)) m
     unfolding finalize_attempt
-    by_source e = ap (λ (x : Bool). run_book (cond x (with_live t none (finalize_live source j)) (undo refusals.bad_value)) m) e
+    by_source e = ap (λ (x : Bool). run_book (cond x (with_live t None (finalize_live source j)) (undo refusals.bad_value)) m) e
 
     pub source_unsound : sound_source source j ≡ false → undone refusals.bad_value ≡ run_book (finalize_attempt t source j) m
     unfolding run
     source_unsound e = sym (by_source e)
 
-    pub source_sound : sound_source source j ≡ true → run_book (with_live t none (finalize_live source j)) m ≡ run_book (finalize_attempt t source j) m
+    pub source_sound : sound_source source j ≡ true → run_book (with_live t None (finalize_live source j)) m ≡ run_book (finalize_attempt t source j) m
     source_sound e = sym (by_source e)
 
 -- ---- a live token

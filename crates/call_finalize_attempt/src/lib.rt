@@ -2,7 +2,7 @@
 #![tactic(auto)]
 
 ghost use Rattle.std.specs.Prelude.{◌<◌, true, not, ◌&&◌, ◌≡◌, length};
-ghost use Rattle.std.proofs.Math.Option.{none};
+ghost use Rattle.std.specs.Prelude.{None};
 ghost use Rattle.book.specs.Zero.{is_ensure_broadcast};
 ghost use Rattle.book.specs.Model.{view};
 ghost use Rattle.book.specs.Sound.{soundb, sound_bundle};
@@ -26,7 +26,7 @@ use book::{BookData, SpendBundle, SubmissionDeliveryGoal, SubmittedEntry, Submit
 use book_answers::{FeeSourceDisposition, FinalizedSubmission, SubmissionFeeSource};
 use book_sound::is_sound_bundle;
 use part_attempt_answers::{is_never_issued, live_place};
-use part_lookup::{AttemptPlace, Place, find_attempt};
+use part_lookup::{AttemptPlace, find_attempt};
 use part_replies::{CallAnswer, FinalizeReply};
 use part_slots::finalized;
 use part_submitted::entry::{current_applied_fee, current_bundle, fee_unresolved, holds_hash};
@@ -37,23 +37,13 @@ use part_submitted::revise::attach;
 fn is_joined(source: SubmissionFeeSource) -> bool
     ensures { result ≡ is_joined source }
 {
-    match source {
-        SubmissionFeeSource::NotRequested => false,
-        SubmissionFeeSource::Joined => true,
-        SubmissionFeeSource::JoinFailed => false,
-        SubmissionFeeSource::Failed => false,
-    }
+    matches!(source, SubmissionFeeSource::Joined)
 }
 
 fn is_not_requested(source: SubmissionFeeSource) -> bool
     ensures { result ≡ is_not_requested source }
 {
-    match source {
-        SubmissionFeeSource::NotRequested => true,
-        SubmissionFeeSource::Joined => false,
-        SubmissionFeeSource::JoinFailed => false,
-        SubmissionFeeSource::Failed => false,
-    }
+    matches!(source, SubmissionFeeSource::NotRequested)
 }
 
 // A joined bundle is sound; beside any other source it is zero.
@@ -62,7 +52,7 @@ fn is_sound_source(source: SubmissionFeeSource, joined: SpendBundle) -> bool
 {
     let join = is_joined(source);
     if join {
-        return is_sound_bundle(joined);
+        return is_sound_bundle(&joined);
     }
     joined.is_zero()
 }
@@ -82,7 +72,7 @@ fn finalize_refused(b: BookData, n: u8) -> FinalizeReply
 // A token that is not live: none, or refusal 4.
 fn finalize_inactive(b: BookData, place: AttemptPlace) -> FinalizeReply
     requires { Normal b }
-    ensures { result ≡ finalize_reply b (inactive (view b) none place) }
+    ensures { result ≡ finalize_reply b (inactive (view b) None place) }
 {
     let never = is_never_issued(place);
     if never {
@@ -97,14 +87,18 @@ fn finalize_inactive(b: BookData, place: AttemptPlace) -> FinalizeReply
 }
 
 // The variant f of the entry is broadcast, unless it is acknowledged already.
+#[tactic(auto, unfolding(rules::specs::Parts::current_acknowledged))]
 fn should_broadcast(goal: SubmissionDeliveryGoal, e: SubmittedEntry, f: [u8; 32]) -> bool
     requires { f ≡ current_fingerprint e }
     ensures { result ≡ (is_ensure_broadcast goal && not (current_acknowledged e)) }
 {
-    let h = e.state.wallet_acknowledged_variant;
-    let acknowledged = holds_hash(h, f);
-    let broadcast = goal.is_ensure_broadcast();
-    broadcast & !acknowledged
+    match goal {
+        SubmissionDeliveryGoal::FeeUpgrade => false,
+        SubmissionDeliveryGoal::EnsureBroadcast => !holds_hash(
+            e.state.wallet_acknowledged_variant,
+            f,
+        ),
+    }
 }
 
 // The base is broadcast without the fee.
@@ -137,7 +131,7 @@ fn current_final(
     let fee = current_applied_fee(e);
     let send = should_broadcast(goal, e, f);
     FinalizedSubmission {
-        bundle: bundle,
+        bundle,
         applied_fee: fee,
         warning: false,
         disposition: FeeSourceDisposition::NotRequested,
@@ -231,8 +225,8 @@ fn decided(s: SubmittedTx, last: FinalizedSubmission) -> Decision
     next.slots = slots;
     Decision {
         refused: false,
-        last: last,
-        next: next,
+        last,
+        next,
     }
 }
 
@@ -250,9 +244,9 @@ pub fn finalize_attempt_sound(
     if !sound {
         return finalize_refused(b, BAD_VALUE);
     }
-    let place = find_attempt(b, t);
+    let place = find_attempt(&b, t);
     let live = live_place(place);
-    let Place::At(k) = live else {
+    let Some(k) = live else {
         return finalize_inactive(b, place);
     };
     finalize_live(b, k, source, joined)

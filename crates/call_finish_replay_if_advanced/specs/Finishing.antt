@@ -6,7 +6,7 @@ use Rattle.std.proofs.Math.Path.{refl, ap}
 use Rattle.std.proofs.Common.{◌∙◌, arith}
 use Rattle.book.specs.declared.BookData.{BookData}
 use Rattle.book.specs.declared.Height.{Height}
-use Rattle.book.specs.declared.OptionalHeight.TheVariants.{NoHeight}
+use Rattle.std.specs.Prelude.{None}
 use Rattle.book.specs.declared.ReplayEpoch.{ReplayEpoch}
 use Rattle.book.specs.Model.{view, back}
 use Rattle.book.specs.Sound.{soundb}
@@ -27,7 +27,7 @@ use Rattle.part_change.specs.ChangeLaws.{epoch_normal}
 module _ (b : BookData) where
   -- the epoch ends, or the one held stays
   abbrev by : Bool → ReplayEpoch
-  by t = cond t (epoch NoHeight []) b.replay_epoch
+  by t = cond t (epoch None []) b.replay_epoch
 
   -- the reply with the epoch put into the book
   abbrev reply_of : ReplayEpoch → DoneReply
@@ -39,7 +39,7 @@ module _ (b : BookData) where
     finished_normal s = rw e (go (is_before b.replay_epoch.rollback_height h.0))
       where
         go : (t : Bool) → Epoch.Normal (by t)
-        go true = normal_epoch NoHeight [] (omega arith)
+        go true = normal_epoch None [] (omega arith)
         go false = epoch_normal b (sound_normal b s)
 
     pub finish_is : {out : BookData} → out ≡ back (with_epoch_of x.rollback_height (replayed_of x) (view b))

@@ -1,7 +1,7 @@
 -- What `look` answers, by the place of the id.
 use Rattle.std.specs.Prelude.{ℕ, ◌<◌, Bool, ◌≡◌, length, get_or}
 use mathlib.Core.List.{List, []}
-use Rattle.std.proofs.Math.Option.{Option, none, some}
+use Rattle.std.specs.Prelude.{Option, None, Some}
 use Rattle.std.proofs.Common.{sym, ◌∙◌}
 use Rattle.std.proofs.Math.Path.{ap}
 use Rattle.book.specs.Model.{Book, view}
@@ -9,7 +9,7 @@ use Rattle.book.specs.Zero.{zero_submitted}
 use Rattle.book.specs.declared.BookData.{BookData}
 use Rattle.book.specs.declared.SubmittedTx.{SubmittedTx}
 use Rattle.book_answers.specs.Zero.{zero_look}
-use Rattle.book_answers.specs.declared.OptionalToken.{OptionalToken}
+use Rattle.book.specs.declared.Token.{Token}
 use Rattle.book_answers.specs.declared.SubmissionLook.{SubmissionLook}
 use Rattle.rules.specs.Calls.Look.{token_in, look_of, look_by, look_at}
 use Rattle.rules.specs.Parts.{current_acknowledged, current_applied_fee}
@@ -19,12 +19,12 @@ use Rattle.part_replies.specs.Reply.{is_some, or_else, look_reply}
 use Rattle.part_replies.specs.declared.LookReply.{LookReply}
 use Rattle.part_replies.specs.declared.CallAnswer.TheVariants.{Done}
 use Rattle.part_lookup.specs.Normal.{Normal}
-use Rattle.part_lookup.specs.declared.Place.TheVariants.{At, Nothing}
+use Rattle.std.specs.Prelude.{Some, None}
 use Rattle.part_lookup.specs.Place.{place_of_id, has_id}
 use Rattle.part_lookup.specs.PlaceLaws.{at_first, first_filter, none_passes}
 
 -- a look put together from its parts
-pub look_of_lem : (s : SubmittedTx) {live aside : OptionalToken} {fee : ℕ} {known : Bool}
+pub look_of_lem : (s : SubmittedTx) {live aside : Option Token} {fee : ℕ} {known : Bool}
     → live ≡ token_in s.slots.active_attempt → aside ≡ token_in s.slots.completed_attempt → fee ≡ current_applied_fee s.entry → known ≡ current_acknowledged s.entry
     → record {
       expiry = s.entry.state.status.expiry;
@@ -47,15 +47,15 @@ look_of_lem s t u f k = λ i. record {
 }
 
 module _ (i : ℕ) (m : Book) where
-  pub look_none : place_of_id i m ≡ Nothing → ended m [] none ≡ run_book (look_at i) m
+  pub look_none : place_of_id i m ≡ None → ended m [] None ≡ run_book (look_at i) m
   unfolding look_at run
   look_none e = ap {B = Outcome Book (Option SubmissionLook)} (λ (ts : List SubmittedTx). ended m [] (look_by ts)) (sym (none_passes (has_id i) m.submitted e))
 
-  module _ {k : ℕ} (e : place_of_id i m ≡ At k) where
+  module _ {k : ℕ} (e : place_of_id i m ≡ Some k) where
     pub within : k < length m.submitted
     within = (at_first (has_id i) m.submitted e).within
 
-    pub look_at_lem : ended m [] (some (look_of (get_or m.submitted k zero_submitted))) ≡ run_book (look_at i) m
+    pub look_at_lem : ended m [] (Some (look_of (get_or m.submitted k zero_submitted))) ≡ run_book (look_at i) m
     unfolding look_at run
     look_at_lem =
         ap {B = Outcome Book (Option SubmissionLook)} (λ (ts : List SubmittedTx). ended m [] (look_by ts))

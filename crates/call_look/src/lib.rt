@@ -8,22 +8,22 @@ ghost use Rattle.rules.specs.Steps.{run_book};
 ghost use Rattle.rules.specs.Calls.Look.{token_in, look_of, look_at};
 ghost use Rattle.part_replies.specs.Reply.{look_reply};
 
-use book::{BookData, OptionalAttempt, SubmissionId, SubmittedTx};
-use book_answers::{OptionalToken, SubmissionLook};
-use part_lookup::{Place, position_of, submitted_at};
+use book::{BookData, OptionalAttempt, SubmissionId, SubmittedTx, Token};
+use book_answers::SubmissionLook;
+use part_lookup::{position_of, submitted_at};
 use part_replies::{CallAnswer, LookReply};
 use part_submitted::entry::current_applied_fee;
 use part_submitted::fingerprint::current_variant_acknowledged;
 
 // The token in a slot.
-fn token_in(a: OptionalAttempt) -> OptionalToken
+fn token_in(a: OptionalAttempt) -> Option<Token>
     ensures { result ≡ token_in a }
 {
     if a.present {
         let t = a.attempt.token;
-        return OptionalToken::Of(t);
+        return Some(t);
     }
-    OptionalToken::NoToken
+    None
 }
 
 fn look_of(s: SubmittedTx) -> SubmissionLook
@@ -37,7 +37,7 @@ fn look_of(s: SubmittedTx) -> SubmissionLook
     let live = s.slots.active_attempt;
     let aside = s.slots.completed_attempt;
     SubmissionLook {
-        expiry: expiry,
+        expiry,
         active_attempt_token: token_in(live),
         completed_attempt_token: token_in(aside),
         applied_fee: current_applied_fee(entry),
@@ -51,8 +51,8 @@ pub fn look_sound(b: BookData, id: SubmissionId) -> LookReply
     requires { soundb b ≡ true }
     ensures { result ≡ look_reply b (run_book (look_at id.0) (view b)) }
 {
-    let place = position_of(b, id);
-    let Place::At(k) = place else {
+    let place = position_of(&b, id);
+    let Some(k) = place else {
         return LookReply {
             answer: CallAnswer::Done,
             present: false,
@@ -60,7 +60,7 @@ pub fn look_sound(b: BookData, id: SubmissionId) -> LookReply
             book: b,
         };
     };
-    let s = submitted_at(b, k);
+    let s = submitted_at(&b, k);
     LookReply {
         answer: CallAnswer::Done,
         present: true,

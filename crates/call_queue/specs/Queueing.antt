@@ -1,5 +1,5 @@
 -- What the rules of `queue` come to, by the test of the delivery.
-use Rattle.std.specs.Prelude.{Bool, true, false, cond, ◌≡◌}
+use Rattle.std.specs.Prelude.{Bool, true, false, cond, ◌≡◌, Option}
 use Rattle.std.proofs.Math.Path.{ap}
 use Rattle.book.specs.declared.BookData.{BookData}
 use Rattle.book.specs.declared.PendingDelivery.{PendingDelivery}
@@ -16,9 +16,9 @@ module _ (d : PendingDelivery) (m : Book) where
   unfolding queue run
   queue_damaged e = ap (λ (t : Bool). run_book (cond t (step (note (enqueue d)) >>= (λ _. turn (done tt))) (undo refusals.bad_value)) m) e
 
-  pub queue_taken : (t : Bool) (q : BookData) → sound_delivery d ≡ true → Ends tt t q (run_book (step (note (enqueue d))) m) → Ends tt t q (run_book (queue d) m)
+  pub queue_taken : (r : Option BookData) → sound_delivery d ≡ true → Ends tt r (run_book (step (note (enqueue d))) m) → Ends tt r (run_book (queue d) m)
   unfolding queue
-  queue_taken t q e h =
-      ends_as tt q (run_book (step (note (enqueue d)) >>= (λ _. turn (done tt))) m) t
+  queue_taken r e h =
+      ends_as tt r (run_book (step (note (enqueue d)) >>= (λ _. turn (done tt))) m)
       (ap (λ (t : Bool). run_book (cond t (step (note (enqueue d)) >>= (λ _. turn (done tt))) (undo refusals.bad_value)) m) e)
-      (ends_then tt tt t q (step (note (enqueue d))) m h)
+      (ends_then tt tt r (step (note (enqueue d))) m h)

@@ -19,7 +19,7 @@ pub fn queue_sound(b: BookData, d: PendingDelivery) -> DoneReply
     requires { soundb b ≡ true }
     ensures { result ≡ done_reply b (run_book (queueOf d) (view b)) }
 {
-    let sound = is_sound_delivery(d);
+    let sound = is_sound_delivery(&d);
     if !sound {
         return refused(b, BAD_VALUE);
     }

@@ -1,7 +1,7 @@
 -- What the rules of `queue_fee_readiness` come to, by the tests of the code.
 use Rattle.std.specs.Prelude.{Bool, true, false, cond, ◌&&◌, List, [], ◌∷◌, ◌≡◌, refl}
 use Rattle.std.proofs.Math.Path.{ap}
-use Rattle.base_lists.specs.Lists.{filterb}
+use Rattle.std.specs.List.{filter}
 use Rattle.book.specs.declared.DeliveryTrigger.TheVariants.{ProviderReadiness}
 use Rattle.book.specs.declared.SubmittedTx.{SubmittedTx}
 use Rattle.book.specs.Model.{Book}
@@ -22,14 +22,14 @@ abbrev pub ready_one : SubmittedTx → Rule (Unit {0})
 ready_one t = cond (is_ready t) (offer (id_of t) ProviderReadiness (goal_for t.entry)) (done tt)
 
 abbrev pub ready_all : List SubmittedTx → Rule (Unit {0})
-ready_all ts = offer_each ProviderReadiness (filterb is_ready ts)
+ready_all ts = offer_each ProviderReadiness (filter is_ready ts)
 
 pub ready_each : Each ready_all ready_one tt
 unfolding offer_each run
 ready_each = record { none = refl; more = λ t ts m. go t ts m (is_ready t) }
   where
     go : (t : SubmittedTx) (ts : List SubmittedTx) (m : Book) (x : Bool)
-        → run_book (offer_each ProviderReadiness (cond x (t ∷ filterb is_ready ts) (filterb is_ready ts))) m
+        → run_book (offer_each ProviderReadiness (cond x (t ∷ filter is_ready ts) (filter is_ready ts))) m
         ≡ run_book (cond x (offer (id_of t) ProviderReadiness (goal_for t.entry)) (done tt) >>= (λ _. ready_all ts)) m
     go t ts m true = bind_turn (offer (id_of t) ProviderReadiness (goal_for t.entry)) (ready_all ts) m
     go t ts m false = refl

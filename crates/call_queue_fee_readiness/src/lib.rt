@@ -11,50 +11,35 @@ ghost use Rattle.part_offer.specs.Ends.{Ends};
 ghost use Rattle.call_queue_fee_readiness.specs.Readiness.{ready_one};
 
 use book::{BookData, DeliveryTrigger, SubmittedTx};
-use part_lookup::submitted_at;
-use part_offer::{Offered, goal_for, offer, settled};
+use part_offer::{goal_for, offer, settled};
 use part_replies::DoneReply;
 use part_submitted::entry::{active_entry, fee_unresolved};
 
 // One submission: Active and with an unresolved fee, or left alone.
-fn offer_ready(b: BookData, t: SubmittedTx) -> Offered
+fn offer_ready(b: BookData, t: SubmittedTx) -> Option<BookData>
     requires { soundb b ≡ true }
-    ensures { Ends tt result.full result.book (run_book (ready_one t) (view b)) }
+    ensures { Ends tt result (run_book (ready_one t) (view b)) }
 {
     let e = t.entry;
     let active = active_entry(e);
     let unresolved = fee_unresolved(e);
     if active & unresolved {
-        let id = e.id;
-        return offer(b, id, DeliveryTrigger::ProviderReadiness, goal_for(e));
+        return offer(b, e.id, DeliveryTrigger::ProviderReadiness, goal_for(e));
     }
-    Offered {
-        full: false,
-        book: b,
-    }
+    Some(b)
 }
 
 // The submissions of b in their order.
-fn offer_all_ready(b: BookData) -> Offered
+fn offer_all_ready(b: BookData) -> Option<BookData>
     requires { soundb b ≡ true }
-    ensures { Ends tt result.full result.book (run_book queue_fee_readiness (view b)) }
+    ensures { Ends tt result (run_book queue_fee_readiness (view b)) }
 {
-    let n = b.submitted_count;
     let mut out = b;
-    let mut i = 0;
-    while i < n {
-        let next = offer_ready(out, submitted_at(b, i));
-        if next.full {
-            return next;
-        }
-        let left = next.book;
-        out = left;
-        i += 1;
+    let retained = &b.submitted[..b.submitted_count];
+    for t in retained {
+        out = offer_ready(out, *t)?;
     }
-    Offered {
-        full: false,
-        book: out,
-    }
+    Some(out)
 }
 
 pub fn queue_fee_readiness_sound(b: BookData) -> DoneReply

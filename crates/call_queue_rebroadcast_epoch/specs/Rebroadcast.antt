@@ -11,7 +11,7 @@ use Rattle.book.specs.declared.SubmittedTx.{SubmittedTx}
 use Rattle.book.specs.Model.{Book, view}
 use Rattle.book.specs.Sound.{id_of}
 use Rattle.book.specs.Zero.{zero_submitted}
-use Rattle.part_lookup.specs.declared.Place.TheVariants.{At, Nothing}
+use Rattle.std.specs.Prelude.{Some, None}
 use Rattle.part_lookup.specs.Place.{place_of_id, has_id}
 use Rattle.part_lookup.specs.PlaceLaws.{at_first, first_filter, first_passes, none_passes}
 use Rattle.rules.specs.Doors.{ids_ok}
@@ -33,11 +33,11 @@ unfolding rebroadcast
 rebroadcast_each trigger = record { none = refl; more = λ i is m. bind_turn (rebroadcast_one trigger i) (rebroadcast trigger is) m }
 
 module _ (b : BookData) (trigger : DeliveryTrigger) (i : ℕ) where
-  pub rebroadcast_absent : place_of_id i (view b) ≡ Nothing → run_book (rebroadcast_one trigger i) (view b) ≡ ended (view b) [] tt
+  pub rebroadcast_absent : place_of_id i (view b) ≡ None → run_book (rebroadcast_one trigger i) (view b) ≡ ended (view b) [] tt
   unfolding pick run
   rebroadcast_absent e = ap (λ (ts : List SubmittedTx). run_book (rebroadcast_of trigger ts) (view b)) (none_passes (has_id i) (view b).submitted e)
 
-  pub rebroadcast_at : (k : ℕ) → place_of_id i (view b) ≡ At k
+  pub rebroadcast_at : (k : ℕ) → place_of_id i (view b) ≡ Some k
       → run_book (rebroadcast_one trigger i) (view b) ≡ run_book (offer i trigger (goal_for (get_or (view b).submitted k zero_submitted).entry)) (view b)
   unfolding pick run
   rebroadcast_at k e =

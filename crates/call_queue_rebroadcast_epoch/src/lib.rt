@@ -12,46 +12,32 @@ ghost use Rattle.call_queue_rebroadcast_epoch.specs.Rebroadcast.{rebroadcast_one
 
 use book::refusals::BAD_LIST;
 use book::{BookData, DeliveryTrigger, SubmissionId};
-use part_lookup::{Place, position_of, submitted_at};
-use part_offer::{Offered, goal_for, offer, refused, settled};
+use part_lookup::{position_of, submitted_at};
+use part_offer::{goal_for, offer, refused, settled};
 use part_replies::DoneReply;
 
 // One id of the list.
-fn rebroadcast_one(b: BookData, id: SubmissionId, trigger: DeliveryTrigger) -> Offered
+fn rebroadcast_one(b: BookData, id: SubmissionId, trigger: DeliveryTrigger) -> Option<BookData>
     requires { soundb b ≡ true }
-    ensures { Ends tt result.full result.book (run_book (rebroadcast_one trigger id.0) (view b)) }
+    ensures { Ends tt result (run_book (rebroadcast_one trigger id.0) (view b)) }
 {
-    let place = position_of(b, id);
-    let Place::At(k) = place else {
-        return Offered {
-            full: false,
-            book: b,
-        };
+    let place = position_of(&b, id);
+    let Some(k) = place else {
+        return Some(b);
     };
-    let t = submitted_at(b, k);
-    let e = t.entry;
-    offer(b, id, trigger, goal_for(e))
+    let t = submitted_at(&b, k);
+    offer(b, id, trigger, goal_for(t.entry))
 }
 
-fn rebroadcast(b: BookData, ids: &[u64], trigger: DeliveryTrigger) -> Offered
+fn rebroadcast(b: BookData, ids: &[u64], trigger: DeliveryTrigger) -> Option<BookData>
     requires { soundb b ≡ true }
-    ensures { Ends tt result.full result.book (run_book (rebroadcastAll trigger ids.now) (view b)) }
+    ensures { Ends tt result (run_book (rebroadcastAll trigger ids.now) (view b)) }
 {
     let mut out = b;
-    let mut i = 0;
-    while i < ids.len() {
-        let next = rebroadcast_one(out, SubmissionId(ids[i]), trigger);
-        if next.full {
-            return next;
-        }
-        let left = next.book;
-        out = left;
-        i += 1;
+    for id in ids {
+        out = rebroadcast_one(out, SubmissionId(*id), trigger)?;
     }
-    Offered {
-        full: false,
-        book: out,
-    }
+    Some(out)
 }
 
 pub fn queue_rebroadcast_epoch_sound(

@@ -15,7 +15,6 @@ ghost use Rattle.part_lookup.specs.Normal.{Normal};
 ghost use Rattle.call_reconcile_chain_terminality.specs.Halt.{halted_tx, reactivate_rule, Judged};
 
 use base_coin_string::{is_coin_list, is_id_list};
-use base_lists::contains;
 use book::refusals::{BAD_LIST, FULL};
 use book::{BookData, SubmissionChainTerminality, SubmissionId, SubmittedTx};
 use part_chain_tests::{input_spent, is_landed, output_observed};
@@ -29,11 +28,10 @@ use part_submitted::revise::with_terminality;
 fn halted(t: SubmittedTx, c: SubmissionChainTerminality) -> SubmittedTx
     ensures { result ≡ halted_tx c t }
 {
-    let e = t.entry;
-    let s = t.slots;
-    let entry = with_terminality(e, c);
-    let slots = stopped(s);
-    SubmittedTx { slots, entry }
+    SubmittedTx {
+        slots: stopped(t.slots),
+        entry: with_terminality(t.entry, c),
+    }
 }
 
 // The replay mark of the id goes.
@@ -41,8 +39,7 @@ fn unmark(b: BookData, id: SubmissionId) -> BookData
     requires { Normal b }
     ensures { result ≡ back (note_book (unreplay id.0) (view b)) }
 {
-    let epoch = b.replay_epoch;
-    set_epoch(b, part_replay::remove(epoch, id))
+    set_epoch(b, part_replay::remove(b.replay_epoch, id))
 }
 
 // The submission at k is out of replay and queue, its live attempt set aside, and it is retired once.
@@ -50,9 +47,8 @@ fn halt(b: BookData, k: usize, c: SubmissionChainTerminality) -> Retired
     requires { (soundb b ≡ true) × (k < length (view b).submitted) }
     ensures { Judged (haltRule (id_of (get_or (view b).submitted k zero_submitted)) c) k b result }
 {
-    let t = submitted_at(b, k);
-    let e = t.entry;
-    let id = e.id;
+    let t = submitted_at(&b, k);
+    let id = t.entry.id;
     let stored = store_submitted(b, k, halted(t, c));
     let out = unqueue(unmark(stored, id), id);
     retire(out, id)
@@ -63,11 +59,9 @@ fn reactivate(b: BookData, k: usize) -> Retired
     requires { (soundb b ≡ true) × (k < length (view b).submitted) }
     ensures { Judged (reactivate_rule (id_of (get_or (view b).submitted k zero_submitted))) k b result }
 {
-    let t = submitted_at(b, k);
-    let e = t.entry;
-    let entry = with_terminality(e, SubmissionChainTerminality::Active);
-    let slots = t.slots;
-    let next = store_submitted(b, k, SubmittedTx { slots, entry });
+    let t = submitted_at(&b, k);
+    let entry = with_terminality(t.entry, SubmissionChainTerminality::Active);
+    let next = store_submitted(b, k, SubmittedTx { entry, ..t });
     Retired {
         full: false,
         book: next,
@@ -97,18 +91,15 @@ fn judge(
     requires { (soundb b ≡ true) × (k < length (view b).submitted) }
     ensures { Judged (judgeRule (coins_in observed.now) (ids_in spent.now) reorg rolled_back.now (get_or (view b).submitted k zero_submitted)) k b result }
 {
-    let t = submitted_at(b, k);
+    let t = submitted_at(&b, k);
     let e = t.entry;
-    let intent = e.intent;
-    if output_observed(intent, observed) {
+    if output_observed(e.intent, observed) {
         return halt(b, k, SubmissionChainTerminality::Landed);
     }
-    if input_spent(intent, spent) {
-        let status = e.state.status;
-        let c = status.chain_terminality;
-        return halt(b, k, spent_as(c, reorg));
+    if input_spent(e.intent, spent) {
+        return halt(b, k, spent_as(e.state.status.chain_terminality, reorg));
     }
-    if contains(rolled_back, e.id.0) {
+    if rolled_back.contains(&e.id.0) {
         return reactivate(b, k);
     }
     Retired {
@@ -128,19 +119,14 @@ fn judge_each(
     requires { soundb b ≡ true }
     ensures { result ≡ done_reply b (run_book (judge_each (coins_in observed.now) (ids_in spent.now) reorg rolled_back.now (view b).submitted) (view b)) }
 {
-    let mut next = Retired {
-        full: false,
-        book: b,
-    };
-    let mut k = 0;
-    while k < b.submitted_count {
-        next = judge(next.book, k, observed, spent, reorg, rolled_back);
+    let mut out = b;
+    for k in 0..b.submitted_count {
+        let next = judge(out, k, observed, spent, reorg, rolled_back);
         if next.full {
             return refused_done(b, FULL);
         }
-        k += 1;
+        out = next.book;
     }
-    let out = next.book;
     DoneReply {
         answer: CallAnswer::Done,
         book: out,

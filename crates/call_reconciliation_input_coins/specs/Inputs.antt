@@ -4,7 +4,7 @@ use Rattle.std.proofs.Math.Path.{sym, ap}
 use Rattle.std.proofs.Common.{◌∙◌, arith}
 use Rattle.std.proofs.Math.Bool.{not}
 use mathlib.Core.List.{List, [], ◌∷◌, ◌++◌}
-use Rattle.base_lists.specs.Lists.{filterb, flat_map}
+use Rattle.std.specs.List.{filter, flat_map}
 use Rattle.codec_forms.specs.Wire.{be, enc_many}
 use Rattle.base_coin_string.specs.CoinList.{coins_in, coin_listb}
 use Rattle.book.specs.Model.{Book}
@@ -58,11 +58,11 @@ module _ (outputs : List (List ℕ)) (e : SubmittedEntry) where
 
 -- ---- the loop: acc holds what is passed, and ts are left of what makes w
 pub record Gathering (w : List (List ℕ)) (outputs : List (List ℕ)) (acc : Coins64) (ts : List SubmittedTx) : Type 0 where
-  pub is : insert_all (coins_of acc) (flat_map inputs_of (filterb (λ t. is_reconciled outputs t.entry) ts)) ≡ w
+  pub is : insert_all (coins_of acc) (flat_map inputs_of (filter (λ t. is_reconciled outputs t.entry) ts)) ≡ w
 
-pub gathering_start : (outputs : List (List ℕ)) (ts : List SubmittedTx) {acc : Coins64} → coins_of acc ≡ [] → Gathering (rising_coins (flat_map inputs_of (filterb (λ t. is_reconciled outputs t.entry) ts))) outputs acc ts
+pub gathering_start : (outputs : List (List ℕ)) (ts : List SubmittedTx) {acc : Coins64} → coins_of acc ≡ [] → Gathering (rising_coins (flat_map inputs_of (filter (λ t. is_reconciled outputs t.entry) ts))) outputs acc ts
 gathering_start outputs ts e = record {
-  is = ap (λ (l : List (List ℕ)). insert_all l (flat_map inputs_of (filterb (λ t. is_reconciled outputs t.entry) ts))) e ∙ rising_none (flat_map inputs_of (filterb (λ t. is_reconciled outputs t.entry) ts));
+  is = ap (λ (l : List (List ℕ)). insert_all l (flat_map inputs_of (filter (λ t. is_reconciled outputs t.entry) ts))) e ∙ rising_none (flat_map inputs_of (filter (λ t. is_reconciled outputs t.entry) ts));
 }
 
 one_more : (p : Bool) (acc : List (List ℕ)) (t : SubmittedTx) (ts : List SubmittedTx) → insert_all (cond p (insert_all acc (inputs_of t)) acc) (flat_map inputs_of ts) ≡ insert_all acc (flat_map inputs_of (cond p (t ∷ ts) ts))
@@ -72,17 +72,17 @@ one_more false acc t ts = refl
 module _ {w outputs : List (List ℕ)} {acc : Coins64} {ts : List SubmittedTx} (h : Gathering w outputs acc ts) where
   pub gathering_turn : {r : Coins64} {t : SubmittedTx} {ts' : List SubmittedTx} → ts ≡ t ∷ ts' → Gathered outputs t acc r → Gathering w outputs r ts'
   gathering_turn {r} {t} {ts'} e q =
-      let rest = filterb (λ t. is_reconciled outputs t.entry) ts' in
+      let rest = filter (λ t. is_reconciled outputs t.entry) ts' in
       record {
         is = ap (λ (l : List (List ℕ)). insert_all l (flat_map inputs_of rest)) q.is
             ∙ one_more (is_reconciled outputs t.entry) (coins_of acc) t rest
-            ∙ sym (ap (λ (l : List SubmittedTx). insert_all (coins_of acc) (flat_map inputs_of (filterb (λ t. is_reconciled outputs t.entry) l))) e) ∙ h.is;
+            ∙ sym (ap (λ (l : List SubmittedTx). insert_all (coins_of acc) (flat_map inputs_of (filter (λ t. is_reconciled outputs t.entry) l))) e) ∙ h.is;
       }
 
   pub gathering_done : ts ≡ [] → coins_of acc ≡ w
-  gathering_done e = sym (ap (λ (l : List SubmittedTx). insert_all (coins_of acc) (flat_map inputs_of (filterb (λ t. is_reconciled outputs t.entry) l))) e) ∙ h.is
+  gathering_done e = sym (ap (λ (l : List SubmittedTx). insert_all (coins_of acc) (flat_map inputs_of (filter (λ t. is_reconciled outputs t.entry) l))) e) ∙ h.is
 
-pub to_reconcile : (outputs : List (List ℕ)) (m : Book) → rising_coins (flat_map inputs_of (filterb (λ t. is_reconciled outputs t.entry) m.submitted)) ≡ input_coins_to_reconcile outputs m
+pub to_reconcile : (outputs : List (List ℕ)) (m : Book) → rising_coins (flat_map inputs_of (filter (λ t. is_reconciled outputs t.entry) m.submitted)) ≡ input_coins_to_reconcile outputs m
 unfolding input_coins_to_reconcile
 to_reconcile outputs m = refl
 

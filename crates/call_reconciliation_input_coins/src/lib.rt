@@ -23,14 +23,11 @@ use part_written_answers::{refused_written, write_list};
 fn is_reconciled(e: SubmittedEntry, outputs: &[u8]) -> bool
     ensures { result ≡ is_reconciled (coins_in outputs.now) e }
 {
-    let status = e.state.status;
-    let terminality = status.chain_terminality;
-    let landed = is_landed(terminality);
+    let landed = is_landed(e.state.status.chain_terminality);
     if !landed {
         return true;
     }
-    let intent = e.intent;
-    output_observed(intent, outputs)
+    output_observed(e.intent, outputs)
 }
 
 // The input coins of one submission among those of the submissions before it, if it is to be reconciled.
@@ -38,26 +35,21 @@ fn gather_inputs(s: Coins64, t: SubmittedTx, outputs: &[u8]) -> Coins64
     requires { s.count ≤ 60 }
     ensures { Gathered (coins_in outputs.now) t s result }
 {
-    let e = t.entry;
-    let reconciled = is_reconciled(e, outputs);
+    let reconciled = is_reconciled(t.entry, outputs);
     if !reconciled {
         return s;
     }
-    let base = e.intent.base_bundle;
-    insert_inputs(s, base)
+    insert_inputs(s, t.entry.intent.base_bundle)
 }
 
 fn input_coins_to_reconcile(b: BookData, outputs: &[u8]) -> Coins64
     requires { Normal b }
     ensures { InputsOf (input_coins_to_reconcile (coins_in outputs.now) (view b)) result }
 {
-    let n = b.submitted_count;
     let mut acc = Coins64::empty();
-    let mut i = 0;
-    while i < n {
-        let t = b.submitted[i];
-        acc = gather_inputs(acc, t, outputs);
-        i += 1;
+    let retained = &b.submitted[..b.submitted_count];
+    for t in retained {
+        acc = gather_inputs(acc, *t, outputs);
     }
     acc
 }
@@ -73,6 +65,5 @@ pub fn reconciliation_input_coins_sound(b: BookData, outputs: &[u8], out: &mut [
     let coins = input_coins_to_reconcile(b, outputs);
     let mut list = [0u8; 4736];
     let p = put_coins(&mut list, coins);
-    let end = p.at;
-    write_list(b, p.count, &list[0..end], out)
+    write_list(b, p.count, &list[..p.at], out)
 }

@@ -20,7 +20,7 @@ pub fn relinquish_completed_attempt_sound(b: BookData, t: Token) -> StatusReply
     requires { soundb b ≡ true }
     ensures { result ≡ status_reply b (run_book (relinquish_completed_attempt t.0) (view b)) }
 {
-    let place = find_attempt(b, t);
+    let place = find_attempt(&b, t);
     let unknown = is_never_issued(place);
     if unknown {
         return status_refused(b, UNKNOWN_TOKEN);
@@ -35,10 +35,5 @@ pub fn relinquish_completed_attempt_sound(b: BookData, t: Token) -> StatusReply
 fn is_set_aside(p: AttemptPlace) -> bool
     ensures { result ≡ is_set_aside p }
 {
-    match p {
-        AttemptPlace::Live(_) => false,
-        AttemptPlace::SetAside(_) => true,
-        AttemptPlace::Gone => false,
-        AttemptPlace::NeverIssued => false,
-    }
+    matches!(p, AttemptPlace::SetAside(_))
 }

@@ -2,7 +2,8 @@
 use Rattle.std.specs.Prelude.{true, ◌≡◌}
 use Rattle.std.proofs.Common.{sym}
 use Rattle.book.specs.declared.BookData.{BookData}
-use Rattle.book.specs.declared.OptionalHeight.{OptionalHeight}
+use Rattle.std.specs.Prelude.{Option}
+use Rattle.book.specs.declared.Height.{Height}
 use Rattle.book.specs.Model.{view}
 use Rattle.book.specs.Sound.{soundb}
 use Rattle.book.specs.SoundLaws.{back_view}
@@ -12,7 +13,7 @@ use Rattle.rules.specs.Calls.Replay.{replay_rollback_height}
 use Rattle.part_replies.specs.Reply.{height_reply}
 use Rattle.part_replies.specs.declared.CallAnswer.TheVariants.{Done}
 
-pub height_is_lem : (b : BookData) → soundb b ≡ true → {x : OptionalHeight} → x ≡ b.replay_epoch.rollback_height
+pub height_is_lem : (b : BookData) → soundb b ≡ true → {x : Option Height} → x ≡ b.replay_epoch.rollback_height
     → record { answer = Done; height = x; book = b } ≡ height_reply b (run_book replay_rollback_height (view b))
 unfolding replay_rollback_height run view
 height_is_lem b s e = λ i. record { answer = Done; height = e i; book = sym (back_view b s) i }

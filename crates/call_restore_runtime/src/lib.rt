@@ -17,25 +17,20 @@ use part_slots::stopped;
 fn set_aside(t: SubmittedTx) -> SubmittedTx
     ensures { result ≡ with_slots slots_aside t }
 {
-    let held = t.slots;
-    let next = stopped(held);
-    let mut out = t;
-    out.slots = next;
-    out
+    SubmittedTx {
+        slots: stopped(t.slots),
+        ..t
+    }
 }
 
 pub fn restore_runtime_sound(b: BookData) -> DoneReply
     requires { soundb b ≡ true }
     ensures { result ≡ done_reply b (run_book restore_runtime (view b)) }
 {
-    let count = b.submitted_count;
     let mut out = b;
-    let mut i = 0;
-    while i < count {
-        let t = out.submitted[i];
-        let next = set_aside(t);
+    for i in 0..b.submitted_count {
+        let next = set_aside(out.submitted[i]);
         out.submitted[i] = next;
-        i += 1;
     }
     DoneReply {
         answer: CallAnswer::Done,

@@ -2,7 +2,7 @@
 #![tactic(auto)]
 
 ghost use Rattle.std.specs.Prelude.{◌≡◌, true};
-ghost use Rattle.book.specs.Model.{view, ids16};
+ghost use Rattle.book.specs.Model.{view, id_cells};
 ghost use Rattle.book.specs.Sound.{soundb};
 ghost use Rattle.rules.specs.Steps.{run_book};
 ghost use Rattle.rules.specs.Calls.RetainSubmitted.{to_remove, retain_submitted};
@@ -10,20 +10,18 @@ ghost use Rattle.part_replies.specs.Reply.{ids_reply};
 ghost use Rattle.part_lookup.specs.Normal.{Normal};
 
 use book::refusals::{BAD_LIST, FULL};
-use book::{BookData, Ids16};
-use part_ids::{among16, rising16, widened};
+use book::{BookData, Ids};
+use part_ids::{among, rising, widened};
 use part_lookup::submitted_ids;
 use part_replies::{CallAnswer, IdsReply, refused_ids};
 use part_withdraw::withdraw_each;
 
 // The ids of the submissions that are among those of a list, rising.
-fn to_remove(b: BookData, ids: &[u64]) -> Ids16
+fn to_remove(b: BookData, ids: &[u64]) -> Ids<16>
     requires { Normal b }
-    ensures { result ≡ ids16 (to_remove ids.now (view b)) }
+    ensures { result ≡ id_cells 16 (to_remove ids.now (view b)) }
 {
-    let held = submitted_ids(b);
-    let gone = among16(held, ids);
-    rising16(gone)
+    rising(&among(&submitted_ids(&b), ids))
 }
 
 pub fn retain_submitted_sound(b: BookData, ids: &[u64]) -> IdsReply
@@ -34,15 +32,12 @@ pub fn retain_submitted_sound(b: BookData, ids: &[u64]) -> IdsReply
         return refused_ids(b, BAD_LIST);
     }
     let gone = to_remove(b, ids);
-    let left = withdraw_each(b, gone);
-    let out = left.book;
-    if left.full {
+    let Some(out) = withdraw_each(b, gone) else {
         return refused_ids(b, FULL);
-    }
-    let answered = widened(gone);
+    };
     IdsReply {
         answer: CallAnswer::Done,
-        ids: answered,
+        ids: widened(&gone),
         book: out,
     }
 }

@@ -13,7 +13,7 @@ use book::{BookData, Token};
 use book_answers::SubmissionAttemptStatus;
 use part_attempt_answers::{live_place, status_done, status_inactive};
 use part_change::store_submitted;
-use part_lookup::{Place, find_attempt, submitted_at};
+use part_lookup::{find_attempt, submitted_at};
 use part_replies::StatusReply;
 use part_slots::stop_lent;
 
@@ -21,9 +21,9 @@ pub fn stop_attempt_sound(b: BookData, t: Token) -> StatusReply
     requires { soundb b ≡ true }
     ensures { result ≡ status_reply b (run_book (stop_attempt t.0) (view b)) }
 {
-    let place = find_attempt(b, t);
+    let place = find_attempt(&b, t);
     let live = live_place(place);
-    let Place::At(k) = live else {
+    let Some(k) = live else {
         return status_inactive(b, place);
     };
     stop_live(b, k)
@@ -33,7 +33,7 @@ fn stop_live(b: BookData, k: usize) -> StatusReply
     requires { (soundb b ≡ true) × (k < length (view b).submitted) }
     ensures { result ≡ status_reply b (run_book (stop_live (at (view b) k)) (view b)) }
 {
-    let s = submitted_at(b, k);
+    let s = submitted_at(&b, k);
     let old = s.slots;
     let slots = stop_lent(old);
     let mut next = s;

@@ -9,7 +9,7 @@ ghost use Rattle.rules.specs.Steps.{run_book};
 ghost use Rattle.rules.specs.Calls.WriteArchive.{write_archive};
 ghost use Rattle.part_replies.specs.Reply.{written_reply, buffer_left};
 
-use archive_write_checked::{Wrote, write_if_sound};
+use archive_write_checked::{NotWritten, write_if_sound};
 use book::BookData;
 use book::refusals::{NO_BOOK, SHORT_BUFFER};
 use part_replies::{CallAnswer, WrittenReply};
@@ -21,9 +21,13 @@ pub fn write_archive_sound(b: BookData, out: &mut [u8]) -> WrittenReply
 {
     let wrote = write_if_sound(b, true, out);
     match wrote {
-        Wrote::Unsound => refused_written(b, NO_BOOK),
-        Wrote::Short => refused_written(b, SHORT_BUFFER),
-        Wrote::Bytes(n) => {
+        Err(why) => {
+            match why {
+                NotWritten::Unsound => refused_written(b, NO_BOOK),
+                NotWritten::Short => refused_written(b, SHORT_BUFFER),
+            }
+        }
+        Ok(n) => {
             WrittenReply {
                 answer: CallAnswer::Done,
                 length: n,

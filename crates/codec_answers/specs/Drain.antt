@@ -7,11 +7,11 @@ use Rattle.codec_forms.specs.Number.{be_length}
 use Rattle.codec_forms.specs.Puts.{Size}
 use Rattle.archive_bundle_form.specs.Forms.{encode_bundle, encode_height, encode_fee_intent}
 use Rattle.archive_form.specs.Encode.{encode_id}
-use Rattle.book.specs.declared.OptionalId.{OptionalId}
-use Rattle.book.specs.declared.OptionalId.TheVariants as optional
+use Rattle.std.specs.Prelude.{Option, Some}
+use Rattle.book.specs.declared.SubmissionId.{SubmissionId}
 use Rattle.rules.specs.Call.{stage_of, retained_id}
-use Rattle.book_answers.specs.declared.OptionalToken.{OptionalToken}
-use Rattle.book_answers.specs.declared.OptionalToken.TheVariants.{NoToken, Of}
+use Rattle.book.specs.declared.Token.{Token}
+use Rattle.std.specs.Prelude.{None, Some}
 use Rattle.book_answers.specs.declared.DrainedSubmission.{DrainedSubmission}
 use Rattle.book_answers.specs.declared.SubmissionDrainFailure.{SubmissionDrainFailure}
 use Rattle.book_answers.specs.declared.SubmissionDrainFailureStage.{SubmissionDrainFailureStage}
@@ -27,7 +27,7 @@ stage_number stage.SubmissionId = 3
 -- candidate index, retained id, candidate id, intent fingerprint, stage
 unfoldable pub encode_failure : SubmissionDrainFailure → List ℕ
 unfolding be encode_id
-encode_failure f = be 8 f.candidate_index ++ encode_id (retained_id f) ++ encode_id (optional.Of f.candidate_id) ++ f.intent_fingerprint ++ be 1 (stage_number (stage_of f.cause))
+encode_failure f = be 8 f.candidate_index ++ encode_id (retained_id f) ++ encode_id (Some f.candidate_id) ++ f.intent_fingerprint ++ be 1 (stage_number (stage_of f.cause))
 
 -- the count, and the first n of 16 cells
 unfoldable pub encode_submissions : ℕ → List DrainedSubmission → List ℕ
@@ -39,10 +39,10 @@ unfolding be enc_many encode_failure
 encode_failures n a = be 1 (min n 16) ++ enc_many encode_failure (take n a)
 
 -- ---- lengths
-pub token_most : (t : OptionalToken) → length (encode_token t) ≤ 9
+pub token_most : (t : Option Token) → length (encode_token t) ≤ 9
 unfolding encode_token
-token_most NoToken = omega (arith, be_length 1 0)
-token_most (Of t) = omega (arith, length-append (be 1 1) (be 8 t.0), be_length 1 1, be_length 8 t.0)
+token_most None = omega (arith, be_length 1 0)
+token_most (Some t) = omega (arith, length-append (be 1 1) (be 8 t.0), be_length 1 1, be_length 8 t.0)
 
 pub drained_most : (d : DrainedSubmission) {i j k : ℕ} → Size (encode_bundle d.bundle) 1073 i → Size (encode_height d.expiry) 9 j → Size (encode_fee_intent d.fee_intent) 41 k → length (encode_drained d) ≤ 1149
 unfolding encode_drained
@@ -74,7 +74,7 @@ drained_most d s t u =
       u.few,
     )
 
-pub failure_most : (n : ℕ) (i j : OptionalId) (h : List ℕ) (k : ℕ) → length h ≡ 32 → length (be 8 n ++ encode_id i ++ encode_id j ++ h ++ be 1 k) ≤ 59
+pub failure_most : (n : ℕ) (i j : Option SubmissionId) (h : List ℕ) (k : ℕ) → length h ≡ 32 → length (be 8 n ++ encode_id i ++ encode_id j ++ h ++ be 1 k) ≤ 59
 failure_most n i j h k e =
     let a = be 8 n in
     let b = encode_id i in
@@ -83,11 +83,11 @@ failure_most n i j h k e =
     omega (arith, length-append (a ++ b ++ c ++ h) d, length-append (a ++ b ++ c) h, length-append (a ++ b) c, length-append a b, be_length 8 n, be_length 1 k, id_size i, id_size j)
 
 -- ---- what the parts of a failure are
-pub failed_parts : (f : SubmissionDrainFailure) (r : OptionalId) (k : ℕ) → r ≡ retained_id f → k ≡ stage_number (stage_of f.cause)
-    → be 8 f.candidate_index ++ encode_id r ++ encode_id (optional.Of f.candidate_id) ++ f.intent_fingerprint ++ be 1 k ≡ encode_failure f
+pub failed_parts : (f : SubmissionDrainFailure) (r : Option SubmissionId) (k : ℕ) → r ≡ retained_id f → k ≡ stage_number (stage_of f.cause)
+    → be 8 f.candidate_index ++ encode_id r ++ encode_id (Some f.candidate_id) ++ f.intent_fingerprint ++ be 1 k ≡ encode_failure f
 unfolding encode_failure
 failed_parts f r k e q =
     let x = be 8 f.candidate_index in
-    let i = encode_id (optional.Of f.candidate_id) in
+    let i = encode_id (Some f.candidate_id) in
     let h = f.intent_fingerprint in
-    ap (λ (y : OptionalId). x ++ encode_id y ++ i ++ h ++ be 1 k) e ∙ ap (λ (n : ℕ). x ++ encode_id (retained_id f) ++ i ++ h ++ be 1 n) q
+    ap (λ (y : Option SubmissionId). x ++ encode_id y ++ i ++ h ++ be 1 k) e ∙ ap (λ (n : ℕ). x ++ encode_id (retained_id f) ++ i ++ h ++ be 1 n) q

@@ -3,7 +3,7 @@ use Rattle.std.specs.Prelude.{◌≡◌, Bool, true, false, List, ◌++◌, ℕ,
 use Rattle.std.proofs.Common.{sym, ap}
 use Rattle.codec_forms.specs.Wire.{be, enc_many}
 use Rattle.archive_bundle_form.specs.Forms.{encode_bundle, encode_height, encode_fee_intent}
-use Rattle.book.specs.declared.Ids64.{Ids64}
+use Rattle.book.specs.declared.Ids.{Ids}
 use Rattle.part_replies.specs.declared.CallAnswer.{CallAnswer}
 use Rattle.part_replies.specs.declared.CallAnswer.TheVariants.{Done, Refused}
 use Rattle.archive_form.specs.Encode.{chain_number, resolution_number}
@@ -17,8 +17,8 @@ use Rattle.book_answers.specs.declared.FinalizedSubmission.{FinalizedSubmission}
 use Rattle.book_answers.specs.declared.SubmissionAttemptRelationship.{SubmissionAttemptRelationship}
 use Rattle.book_answers.specs.declared.SubmissionAttemptRelationship.TheVariants.{Initial, Exact, NewerFeeBearing, Other}
 use Rattle.book.specs.declared.Token.{Token}
-use Rattle.book_answers.specs.declared.OptionalToken.{OptionalToken}
-use Rattle.book_answers.specs.declared.OptionalToken.TheVariants.{NoToken, Of}
+use Rattle.std.specs.Prelude.{Option}
+use Rattle.std.specs.Prelude.{None, Some}
 use Rattle.book_answers.specs.declared.DrainedSubmission.{DrainedSubmission}
 
 abbrev pub flag_number : Bool → ℕ
@@ -45,20 +45,20 @@ relationship_number NewerFeeBearing = 2
 relationship_number Other = 3
 
 -- count, ids of 8 bytes
-unfoldable pub encode_ids : Ids64 → List ℕ
+unfoldable pub encode_ids : Ids 64 → List ℕ
 unfolding be enc_many
 encode_ids i = be 1 (min i.count 64) ++ enc_many (be 8) (take i.count i.items)
 
-unfoldable pub encode_token : OptionalToken → List ℕ
+unfoldable pub encode_token : Option Token → List ℕ
 unfolding be
-encode_token NoToken = be 1 0
-encode_token (Of t) = be 1 1 ++ be 8 t.0
+encode_token None = be 1 0
+encode_token (Some t) = be 1 1 ++ be 8 t.0
 
-pub token_no : (t : OptionalToken) → t ≡ NoToken → be 1 0 ≡ encode_token t
+pub token_no : (t : Option Token) → t ≡ None → be 1 0 ≡ encode_token t
 unfolding encode_token
 token_no t e = sym (ap encode_token e)
 
-pub token_of_lem : (t : OptionalToken) (x : Token) → t ≡ Of x → be 1 1 ++ be 8 x.0 ≡ encode_token t
+pub token_of_lem : (t : Option Token) (x : Token) → t ≡ Some x → be 1 1 ++ be 8 x.0 ≡ encode_token t
 unfolding encode_token
 token_of_lem t x e = sym (ap encode_token e)
 

@@ -1,3 +1,4 @@
 pub mod Forms
 pub mod Drain
 pub mod Looks
+pub mod Numbers

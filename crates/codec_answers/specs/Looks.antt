@@ -5,17 +5,18 @@ use Rattle.codec_forms.specs.Wire.{be, enc_opt}
 use Rattle.codec_forms.specs.Number.{be_length}
 use Rattle.archive_form.specs.Encode.{chain_number, resolution_number}
 use Rattle.archive_bundle_form.specs.Forms.{encode_height}
-use Rattle.book.specs.declared.OptionalHeight.{OptionalHeight}
-use Rattle.book.specs.declared.OptionalHeight.TheVariants.{NoHeight, At}
+use Rattle.std.specs.Prelude.{Option}
+use Rattle.book.specs.declared.Height.{Height}
+use Rattle.std.specs.Prelude.{None, Some}
 use Rattle.book_answers.specs.declared.BookSummary.{BookSummary}
 use Rattle.book_answers.specs.declared.SubmissionLook.{SubmissionLook}
 use Rattle.codec_answers.specs.Forms.{flag_number, encode_token, encode_look, encode_summary}
 use Rattle.codec_answers.specs.Drain.{token_most}
 
-height_most : (h : OptionalHeight) → length (encode_height h) ≤ 9
+height_most : (h : Option Height) → length (encode_height h) ≤ 9
 unfolding encode_height
-height_most NoHeight = omega (arith, be_length 1 0)
-height_most (At h) = omega (arith, length-append (be 1 1) (be 8 h.0), be_length 1 1, be_length 8 h.0)
+height_most None = omega (arith, be_length 1 0)
+height_most (Some h) = omega (arith, length-append (be 1 1) (be 8 h.0), be_length 1 1, be_length 8 h.0)
 
 present_most : (l : SubmissionLook) → length (encode_look l) ≤ 38
 unfolding encode_look

@@ -1,89 +1,74 @@
 // What a drain hands out: submissions and failures.
-ghost use Rattle.std.specs.Prelude.{◌≡◌, ◌++◌, take};
+ghost use Rattle.std.specs.Prelude.{List, ◌++◌, ℕ, ◌+◌, ◌*◌, min, take};
 ghost use Rattle.codec_forms.specs.Wire.{be, enc_many};
 ghost use Rattle.archive_form.specs.Encode.{encode_id};
 ghost use Rattle.codec_append.specs.Fits.{Fits, FitsWithin};
-ghost use Rattle.codec_answers.specs.Forms.{relationship_number, encode_token, encode_drained};
-ghost use Rattle.codec_answers.specs.Drain.{stage_number, encode_failure, encode_submissions, encode_failures};
+ghost use Rattle.codec_answers.specs.Forms.{encode_token, encode_drained};
+ghost use Rattle.codec_answers.specs.Drain.{encode_failure, encode_submissions, encode_failures};
 
 use archive_bundle_size::{size_bundle, size_fee_intent, size_height};
 use archive_bundle_write::write::{append_bundle, append_fee_intent, append_height};
 use archive_entry_write::append_id;
-use base_lists::at_most;
-use book::OptionalId;
-use book_answers::{
-    DrainedSubmission, OptionalToken, SubmissionAttemptRelationship, SubmissionDrainFailure,
-    SubmissionDrainFailureStage,
-};
+use book::{SubmissionId, Token};
+use book_answers::{DrainedSubmission, SubmissionDrainFailure};
 use codec_append::{append_byte, append_bytes, append_number};
 use part_drain_answers::{retained_id, stage_of};
 
-pub fn relationship_number(r: SubmissionAttemptRelationship) -> u8
-    ensures { result ≡ relationship_number r }
-{
-    match r {
-        SubmissionAttemptRelationship::Initial => 0,
-        SubmissionAttemptRelationship::Exact => 1,
-        SubmissionAttemptRelationship::NewerFeeBearing => 2,
-        SubmissionAttemptRelationship::Other => 3,
-    }
-}
-
-pub fn append_token(out: &mut [u8], at: usize, t: OptionalToken) -> usize
+pub fn append_token(out: &mut [u8], at: usize, t: Option<Token>) -> usize
     ensures { Fits (encode_token t) at out.old out.new result }
 {
     match t {
-        OptionalToken::NoToken => append_byte(out, at, 0),
-        OptionalToken::Of(x) => {
+        None => append_byte(out, at, 0),
+        Some(x) => {
             let e = append_byte(&mut *out, at, 1);
             append_number(out, e, x.0)
         }
     }
 }
 
-pub fn append_drained(out: &mut [u8], at: usize, d: DrainedSubmission) -> usize
-    ensures { FitsWithin 1149 (encode_drained d) at out.old out.new result }
+pub fn append_drained(out: &mut [u8], at: usize, d: &DrainedSubmission) -> usize
+    ensures { FitsWithin 1149 (encode_drained d.now) at out.old out.new result }
 {
-    let predecessor = d.predecessor_attempt_token;
-    let relationship = d.relationship;
-    let bundle = d.bundle;
-    let expiry = d.expiry;
-    let fee_intent = d.fee_intent;
     // at most 1073, 9 and 41: the parts that decide how long the whole can be
-    size_bundle(bundle);
-    size_height(expiry);
-    size_fee_intent(fee_intent);
-    let n = relationship_number(relationship);
+    size_bundle(d.bundle);
+    size_height(d.expiry);
+    size_fee_intent(d.fee_intent);
     let id_end = append_number(&mut *out, at, d.id.0);
     let token_end = append_number(&mut *out, id_end, d.attempt_token.0);
-    let predecessor_end = append_token(&mut *out, token_end, predecessor);
-    let relationship_end = append_byte(&mut *out, predecessor_end, n);
-    let bundle_end = append_bundle(&mut *out, relationship_end, bundle);
-    let expiry_end = append_height(&mut *out, bundle_end, expiry);
-    append_fee_intent(out, expiry_end, fee_intent)
+    let predecessor_end = append_token(&mut *out, token_end, d.predecessor_attempt_token);
+    let relationship_end = append_byte(&mut *out, predecessor_end, d.relationship as u8);
+    let bundle_end = append_bundle(&mut *out, relationship_end, d.bundle);
+    let expiry_end = append_height(&mut *out, bundle_end, d.expiry);
+    append_fee_intent(out, expiry_end, d.fee_intent)
 }
 
-fn append_each(out: &mut [u8], at: usize, a: [DrainedSubmission; 16], n: usize) -> usize
-    ensures { FitsWithin 18384 (enc_many encode_drained (take n a)) at out.old out.new result }
+// The count, and the first n of 16 parts. The caller names the function that appends one part; the ghost value is the form of a part,
+// and how long it is at most.
+fn append_first<T, F: Fn(&mut [u8], usize, &T) -> usize>(
+    out: &mut [u8],
+    at: usize,
+    parts: &[T; 16],
+    n: usize,
+    append: F,
+) -> usize
+    ghost form: { (T → List ℕ) × ℕ }
+    requires callable { F.IsAlwaysCallable append }
+    requires appends { (d : _) (e : _) (x : _) (r : _) (d' : _) → F.post append d e x r d' → FitsWithin form.1 (form.0 x.now) e d.now d'.now r }
+    ensures { FitsWithin (1 + 16 * form.1) (be 1 (min n 16) ++ enc_many form.0 (take n parts.now)) at out.old out.new result }
 {
-    let k = at_most(n, 16);
-    let mut e = at;
-    let mut i: usize = 0;
-    while i < k {
-        let d = a[i];
-        e = append_drained(&mut *out, e, d);
-        i += 1;
+    let k = n.min(16);
+    let first = &parts[..k];
+    let mut e = append_byte(&mut *out, at, k as u8);
+    for x in first {
+        e = append(&mut *out, e, x);
     }
     e
 }
 
-// The count, and the first n submissions.
 pub fn append_submissions(out: &mut [u8], at: usize, a: [DrainedSubmission; 16], n: usize) -> usize
     ensures { FitsWithin 18385 (encode_submissions n a) at out.old out.new result }
 {
-    let k = at_most(n, 16);
-    let e = append_byte(&mut *out, at, k as u8);
-    append_each(out, e, a, n)
+    append_first(out, at, &a, n, append_drained)
 }
 
 // A failure of a drain. The stage is 0 Fingerprint, 1 RetainedState, 2 ExpectedOutputs, 3 SubmissionId.
@@ -91,8 +76,8 @@ fn append_failure(
     out: &mut [u8],
     at: usize,
     index: u64,
-    retained: OptionalId,
-    candidate: OptionalId,
+    retained: Option<SubmissionId>,
+    candidate: Option<SubmissionId>,
     fingerprint: [u8; 32],
     stage: u8,
 ) -> usize
@@ -105,57 +90,23 @@ fn append_failure(
     append_byte(out, fingerprint_end, stage)
 }
 
-pub fn stage_number(s: SubmissionDrainFailureStage) -> u8
-    ensures { result ≡ stage_number s }
+fn append_drain_failure(out: &mut [u8], at: usize, f: &SubmissionDrainFailure) -> usize
+    ensures { FitsWithin 59 (encode_failure f.now) at out.old out.new result }
 {
-    match s {
-        SubmissionDrainFailureStage::Fingerprint => 0,
-        SubmissionDrainFailureStage::RetainedState => 1,
-        SubmissionDrainFailureStage::ExpectedOutputs => 2,
-        SubmissionDrainFailureStage::SubmissionId => 3,
-    }
-}
-
-fn append_drain_failure(out: &mut [u8], at: usize, f: SubmissionDrainFailure) -> usize
-    ensures { FitsWithin 59 (encode_failure f) at out.old out.new result }
-{
-    let cause = f.cause;
-    let id = f.candidate_id;
     let fingerprint = f.intent_fingerprint;
-    let stage = stage_of(cause);
-    let n = stage_number(stage);
-    let retained = retained_id(f);
+    let stage = stage_of(f.cause);
+    let retained = retained_id(*f);
     append_failure(
         out,
         at,
         f.candidate_index as u64,
         retained,
-        OptionalId::Of(id),
+        Some(f.candidate_id),
         fingerprint,
-        n,
+        stage as u8,
     )
 }
 
-fn append_each_failure(
-    out: &mut [u8],
-    at: usize,
-    a: [SubmissionDrainFailure; 16],
-    n: usize,
-) -> usize
-    ensures { FitsWithin 944 (enc_many encode_failure (take n a)) at out.old out.new result }
-{
-    let k = at_most(n, 16);
-    let mut e = at;
-    let mut i: usize = 0;
-    while i < k {
-        let f = a[i];
-        e = append_drain_failure(&mut *out, e, f);
-        i += 1;
-    }
-    e
-}
-
-// The count, and the first n failures.
 pub fn append_failures(
     out: &mut [u8],
     at: usize,
@@ -164,7 +115,5 @@ pub fn append_failures(
 ) -> usize
     ensures { FitsWithin 945 (encode_failures n a) at out.old out.new result }
 {
-    let k = at_most(n, 16);
-    let e = append_byte(&mut *out, at, k as u8);
-    append_each_failure(out, e, a, n)
+    append_first(out, at, &a, n, append_drain_failure)
 }

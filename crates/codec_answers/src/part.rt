@@ -1,5 +1,4 @@
 // Flags and lengths.
-ghost use Rattle.std.specs.Prelude.{◌≡◌};
 ghost use Rattle.codec_forms.specs.Wire.{be};
 ghost use Rattle.codec_append.specs.Fits.{Fits};
 ghost use Rattle.codec_answers.specs.Forms.{flag_number};
@@ -7,17 +6,10 @@ ghost use Rattle.codec_answers.specs.Forms.{flag_number};
 use codec_append::{append_byte, append_bytes};
 use codec_forms::write::number_bytes;
 
-pub fn flag_number(b: bool) -> u8
-    ensures { result ≡ flag_number b }
-{
-    if b { 1 } else { 0 }
-}
-
 pub fn append_flag(out: &mut [u8], at: usize, b: bool) -> usize
     ensures { Fits (be 1 (flag_number b)) at out.old out.new result }
 {
-    let n = flag_number(b);
-    append_byte(out, at, n)
+    append_byte(out, at, b as u8)
 }
 
 // The length of what was written into a lent buffer: the low four bytes.

@@ -1,19 +1,16 @@
 // The values that calls answer.
-ghost use Rattle.std.specs.Prelude.{◌≡◌, take};
-ghost use Rattle.codec_forms.specs.Wire.{be, enc_many, enc_opt};
+ghost use Rattle.std.specs.Prelude.{◌≡◌};
+ghost use Rattle.codec_forms.specs.Wire.{be, enc_opt};
 ghost use Rattle.archive_bundle_form.specs.Forms.{encode_fee_intent};
 ghost use Rattle.codec_append.specs.Fits.{Fits};
-ghost use Rattle.codec_answers.specs.Forms.{refusal_number, status_number, disposition_number, encode_ids, encode_final, encode_look, encode_summary};
+ghost use Rattle.codec_answers.specs.Forms.{refusal_number, status_number, encode_ids, encode_final, encode_look, encode_summary};
 
 use crate::drained::append_token;
 use crate::part::append_flag;
+use archive_bundle_write::each::append_each;
 use archive_bundle_write::write::{append_bundle, append_fee_intent, append_height};
-use archive_entry_write::{chain_number, resolution_number};
-use base_lists::at_most;
-use book::{Ids64, SubmissionFeeIntent};
-use book_answers::{
-    BookSummary, FeeSourceDisposition, FinalizedSubmission, SubmissionAttemptStatus, SubmissionLook,
-};
+use book::{Ids, SubmissionFeeIntent};
+use book_answers::{BookSummary, FinalizedSubmission, SubmissionAttemptStatus, SubmissionLook};
 use codec_append::{append_byte, append_bytes, append_number};
 use part_replies::CallAnswer;
 
@@ -27,45 +24,26 @@ pub fn refusal_number(a: CallAnswer) -> u8
     }
 }
 
-pub fn status_number(s: SubmissionAttemptStatus) -> u8
-    ensures { result ≡ status_number s }
-{
-    match s {
-        SubmissionAttemptStatus::Applied => 0,
-        SubmissionAttemptStatus::Stale => 1,
-    }
-}
-
 pub fn append_status(out: &mut [u8], at: usize, s: SubmissionAttemptStatus) -> usize
     ensures { Fits (be 1 (status_number s)) at out.old out.new result }
 {
-    let n = status_number(s);
-    append_byte(out, at, n)
+    append_byte(out, at, s as u8)
 }
 
-fn append_numbers(out: &mut [u8], at: usize, a: [u64; 64], n: usize) -> usize
-    ensures { Fits (enc_many (be 8) (take n a)) at out.old out.new result }
-{
-    let k = at_most(n, 64);
-    let mut e = at;
-    let mut i: usize = 0;
-    while i < k {
-        e = append_number(&mut *out, e, a[i]);
-        i += 1;
-    }
-    e
-}
-
-pub fn append_ids(out: &mut [u8], at: usize, ids: Ids64) -> usize
+pub fn append_ids(out: &mut [u8], at: usize, ids: Ids<64>) -> usize
     ensures { Fits (encode_ids ids) at out.old out.new result }
 {
-    let items = ids.items;
-    let n = ids.count;
-    let k = at_most(n, 64);
+    let k = ids.count.min(64);
     let e = append_byte(&mut *out, at, k as u8);
-    append_numbers(out, e, items, n)
+    append_each(
+        out,
+        e,
+        &ids.items[..k],
+        |out, at, id| append_number(out, at, *id),
+    )
 }
 
+// Three `if`s of one shape: a call with a closure for the part behind the mark is no shorter.
 pub fn append_optional_fee_intent(
     out: &mut [u8],
     at: usize,
@@ -81,28 +59,14 @@ pub fn append_optional_fee_intent(
     append_fee_intent(out, e, f)
 }
 
-pub fn disposition_number(d: FeeSourceDisposition) -> u8
-    ensures { result ≡ disposition_number d }
-{
-    match d {
-        FeeSourceDisposition::Attached => 0,
-        FeeSourceDisposition::Unused => 1,
-        FeeSourceDisposition::NotRequested => 2,
-    }
-}
-
 fn append_finalized(out: &mut [u8], at: usize, f: FinalizedSubmission) -> usize
     ensures { Fits (encode_final f) at out.old out.new result }
 {
-    let bundle = f.bundle;
-    let disposition = f.disposition;
-    let fingerprint = f.variant_fingerprint;
-    let d = disposition_number(disposition);
-    let bundle_end = append_bundle(&mut *out, at, bundle);
+    let bundle_end = append_bundle(&mut *out, at, f.bundle);
     let fee_end = append_number(&mut *out, bundle_end, f.applied_fee);
     let warning_end = append_flag(&mut *out, fee_end, f.warning);
-    let disposition_end = append_byte(&mut *out, warning_end, d);
-    let fingerprint_end = append_bytes(&mut *out, disposition_end, &fingerprint);
+    let disposition_end = append_byte(&mut *out, warning_end, f.disposition as u8);
+    let fingerprint_end = append_bytes(&mut *out, disposition_end, &f.variant_fingerprint);
     append_flag(out, fingerprint_end, f.should_broadcast)
 }
 
@@ -124,20 +88,13 @@ pub fn append_optional_finalized(
 fn append_look(out: &mut [u8], at: usize, l: SubmissionLook) -> usize
     ensures { Fits (encode_look l) at out.old out.new result }
 {
-    let chain = l.chain_terminality;
-    let resolution = l.fee_resolution;
-    let expiry = l.expiry;
-    let active = l.active_attempt_token;
-    let completed = l.completed_attempt_token;
-    let c = chain_number(chain);
-    let f = resolution_number(resolution);
-    let chain_end = append_byte(&mut *out, at, c);
+    let chain_end = append_byte(&mut *out, at, l.chain_terminality as u8);
     let acknowledged_end = append_flag(&mut *out, chain_end, l.acknowledged);
-    let mark_end = append_byte(&mut *out, acknowledged_end, f);
+    let mark_end = append_byte(&mut *out, acknowledged_end, l.fee_resolution as u8);
     let fee_end = append_number(&mut *out, mark_end, l.applied_fee);
-    let expiry_end = append_height(&mut *out, fee_end, expiry);
-    let active_end = append_token(&mut *out, expiry_end, active);
-    append_token(out, active_end, completed)
+    let expiry_end = append_height(&mut *out, fee_end, l.expiry);
+    let active_end = append_token(&mut *out, expiry_end, l.active_attempt_token);
+    append_token(out, active_end, l.completed_attempt_token)
 }
 
 pub fn append_optional_look(out: &mut [u8], at: usize, present: bool, l: SubmissionLook) -> usize
@@ -153,12 +110,11 @@ pub fn append_optional_look(out: &mut [u8], at: usize, present: bool, l: Submiss
 pub fn append_summary(out: &mut [u8], at: usize, s: BookSummary) -> usize
     ensures { Fits (encode_summary s) at out.old out.new result }
 {
-    let height = s.rollback_height;
     let token_end = append_number(&mut *out, at, s.next_delivery_attempt_token.0);
     let id_end = append_number(&mut *out, token_end, s.next_submission_id.0);
     let retained_end = append_number(&mut *out, id_end, s.submitted_count as u64);
     let queued_end = append_number(&mut *out, retained_end, s.pending_count as u64);
     let retired_end = append_number(&mut *out, queued_end, s.retired_count as u64);
     let replayed_end = append_number(&mut *out, retired_end, s.replayed_count as u64);
-    append_height(out, replayed_end, height)
+    append_height(out, replayed_end, s.rollback_height)
 }

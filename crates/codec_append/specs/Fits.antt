@@ -1,6 +1,6 @@
 -- Parts appended to a buffer: written where there is room for them.
-use Rattle.std.specs.Prelude.{◌≡◌, refl, Bool, true, false, not, List, [], ◌++◌, ℕ, ◌+◌, ◌-◌, ◌*◌, ◌≤◌, ◌<◌, min, length, get_or, take, drop, leb}
-use Rattle.std.proofs.Common.{sym, ap, ◌∙◌, subst, zero-le, arith, add-zero, one-mul, add-mul, length-append, length-drop, drop_of_length-le, length-take-le, le-leb, leb-true}
+use Rattle.std.specs.Prelude.{◌≡◌, refl, Bool, true, false, not, List, [], ◌++◌, ℕ, ◌+◌, ◌-◌, ◌*◌, ◌≤◌, ◌<◌, min, length, get_or, take, drop}
+use Rattle.std.proofs.Common.{sym, ap, ◌∙◌, subst, zero-le, arith, add-zero, one-mul, add-mul, length-append, length-drop, drop_of_length-le, length-take-le}
 use Rattle.std.proofs.lemmas.Bool.{not-true, not-false}
 use Rattle.base_lists.specs.Laws.{take_cut, part_to_end}
 use Rattle.codec_forms.specs.Wire.{be, enc_many, enc_opt}
@@ -25,14 +25,6 @@ fits_as {a} {b} {at} {d} {d'} {e} q p = subst (λ (l : List ℕ). Fits l at d d'
 
 pub fits_none : (at : ℕ) (d : List ℕ) → Fits [] at d d at
 fits_none at d = record { puts = λ h. record { next = sym (add-zero at); holds = sym (splice_none at d) }; long = refl; inside = λ h. h }
-
--- ---- a part of n bytes behind the test for its room
-module _ (l : List ℕ) (at n : ℕ) (d : List ℕ) {r : Bool} (e : r ≡ leb (at + n) (length d)) (q : n ≡ length l) where
-  pub room_there : not r ≡ false → Room l at d
-  room_there h = record { fits = let k = leb-true (at + n) (length d) (sym e ∙ not-false r h) in omega (arith, k) }
-
-  pub fits_absent : not r ≡ true → Fits l at d d at
-  fits_absent h = record { puts = λ m. absurd (let k = le-leb (at + n) (length d) (omega (arith, m.fits)) in let x : ◌≡◌ {A = Bool} true false = sym k ∙ sym e ∙ not-true r h in let z : ◌≡◌ {A = ℕ} 0 1 = cc in omega arith); long = refl; inside = λ k. k }
 
 pub fits_put : {l : List ℕ} {at : ℕ} {d d' : List ℕ} {e : ℕ} → Room l at d → Puts l at d d' e → Fits l at d d' e
 fits_put h p = record { puts = λ k. p; long = puts_long h p; inside = λ k. omega (arith, h.fits, p.next) }
@@ -108,10 +100,3 @@ pub within_more : {A : Type 0} (m : ℕ) (z : A) (enc : A → List ℕ) (l : Lis
 within_more m z enc l i {at} {d} {d₁} {d₂} {e₁} {e₂} h f g =
     let q : i * m + m ≡ (i + 1) * m = ap (λ (x : ℕ). i * m + x) (sym (one-mul m)) ∙ sym (add-mul i 1 m) in
     within_as (sym (many_suc z enc l i h)) (subst (λ (x : ℕ). FitsWithin x (enc_many enc (take i l) ++ enc (get_or l i z)) at d d₂ e₂) q (within_join f g))
-
--- all n of them, or as many as there are cells
-pub within_done : {A : Type 0} (m : ℕ) (enc : A → List ℕ) (l : List A) (n k i : ℕ) {at : ℕ} {d d' : List ℕ} {e : ℕ} → length l ≡ 16 → k ≡ min n 16 → i ≤ k → k ≤ i → FitsWithin (i * m) (enc_many enc (take i l)) at d d' e → FitsWithin (16 * m) (enc_many enc (take n l)) at d d' e
-within_done m enc l n k i {at} {d} {d'} {e} h q a b f =
-    let w : i ≡ k = omega arith in
-    let p : enc_many enc (take i l) ≡ enc_many enc (take n l) = ap (λ (x : ℕ). enc_many enc (take x l)) w ∙ ap (enc_many enc) (take_cut 16 n k l h q) in
-    within_as p (record { fits = f.fits; few = omega (arith, f.few, fewer m i 16 (omega arith)) })

@@ -6,35 +6,28 @@ ghost use Rattle.codec_forms.specs.Wire.{be};
 ghost use Rattle.codec_append.specs.Fits.{Fits};
 
 use codec_bytes::read::has;
-use codec_forms::write::{put_byte, put_bytes, put_number};
+use codec_forms::write::{number_bytes, put_bytes};
 
 pub fn append_bytes(out: &mut [u8], at: usize, src: &[u8]) -> usize
     ensures { Fits src.now at out.old out.new result }
 {
-    let room = has(&*out, at, src.len());
-    if !room {
-        return at;
+    if has(&*out, at, src.len()) {
+        put_bytes(out, at, src)
+    } else {
+        at
     }
-    put_bytes(out, at, src)
 }
 
 // A count, a kind or a mark.
+#[tactic(auto, using(codec_forms::specs::Overlay::one_byte))]
 pub fn append_byte(out: &mut [u8], at: usize, b: u8) -> usize
     ensures { Fits (be 1 b) at out.old out.new result }
 {
-    let room = has(&*out, at, 1);
-    if !room {
-        return at;
-    }
-    put_byte(out, at, b)
+    append_bytes(out, at, &[b])
 }
 
 pub fn append_number(out: &mut [u8], at: usize, n: u64) -> usize
     ensures { Fits (be 8 n) at out.old out.new result }
 {
-    let room = has(&*out, at, 8);
-    if !room {
-        return at;
-    }
-    put_number(out, at, n)
+    append_bytes(out, at, &number_bytes(n))
 }

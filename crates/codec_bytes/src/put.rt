@@ -2,14 +2,12 @@
 ghost use Rattle.std.specs.Prelude.{◌≤◌, length};
 ghost use Rattle.codec_bytes.specs.Writing.{Wrote};
 
+#[tactic(auto, unfolding(codec_forms::specs::Wire::overlay))]
 pub fn put(src: &[u8], dst: &mut [u8]) -> usize
     requires { length src.now ≤ length dst.old }
     ensures { Wrote src.now dst.old dst.new result }
 {
-    let mut i = 0;
-    while i < src.len() {
-        dst[i] = src[i];
-        i += 1;
-    }
-    i
+    let n = src.len();
+    dst[..n].copy_from_slice(src);
+    n
 }

@@ -5,14 +5,11 @@ ghost use Rattle.std.specs.Prelude.{◌≡◌, ◌+◌, length, leb};
 pub fn has(s: &[u8], at: usize, n: usize) -> bool
     ensures { result ≡ leb (at + n) (length s.now) }
 {
-    if s.len() < at {
-        return false;
-    }
-    n <= s.len() - at
+    at <= s.len() && n <= s.len() - at
 }
 
 pub fn wide(x: u8) -> u64
     ensures { result ≡ x }
 {
-    x as u64
+    u64::from(x)
 }

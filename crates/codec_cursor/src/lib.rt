@@ -9,7 +9,7 @@ ghost use Rattle.codec_cursor.specs.Cursor.{Reads, passed, refused_at};
 ghost use Rattle.codec_cursor.specs.Items.{Counts, ReadsCell};
 
 use codec_bytes::put;
-use codec_bytes::read::{has, wide};
+use codec_bytes::read::has;
 
 // A byte run of at most 73 bytes in its cell.
 #[derive(Clone, Copy)]
@@ -18,7 +18,7 @@ pub struct Cell73 {
     pub bytes: [u8; 73],
 }
 
-// Longer than any slice.
+// Longer than any slice. A cursor is a number and no Result, with which every reader would test behind each of its items.
 pub const FAR: usize = 9223372036854775808;
 
 // The cursor of a refusal at `at`; a refusal stays as it is.
@@ -68,13 +68,9 @@ fn number_at(s: &[u8], at: usize) -> u64
     requires { at + 8 ≤ length s.now }
     ensures { result ≡ be_from 0 (take 8 (drop at s.now)) }
 {
-    let mut v: u64 = 0;
-    let mut i: usize = 0;
-    while i < 8 {
-        v = v * 256 + wide(s[at + i]);
-        i += 1;
-    }
-    v
+    let mut bytes = [0; 8];
+    bytes.copy_from_slice(&s[at..at + 8]);
+    u64::from_be_bytes(bytes)
 }
 
 pub fn read_number(s: &[u8], at: &mut usize) -> u64

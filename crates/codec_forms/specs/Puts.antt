@@ -1,7 +1,6 @@
 -- Bytes written at a place of a buffer: what they leave, and the same for parts written one after the other.
-use Rattle.std.specs.Prelude.{ℕ, zero, suc, ◌+◌, ◌-◌, ◌*◌, ◌≤◌, ◌<◌, ◌≡◌, refl, List, [], ◌∷◌, ◌++◌, length, get_or, take, drop, set}
-use Rattle.std.proofs.Common.{zero-le, sym, ap, ◌∙◌, subst, append_assoc, append-nil, zero-add, add-zero, one-mul, add-mul, add-one, arith, length-append, length-drop, drop_of_length-le, take-append-drop, take_at, drop_at, drop-drop, length-take-le}
-use Rattle.std.proofs.Math.Seq.{take-length, paste, paste-zero, paste-suc}
+use Rattle.std.specs.Prelude.{ℕ, zero, suc, ◌+◌, ◌-◌, ◌*◌, ◌≤◌, ◌<◌, ◌≡◌, refl, List, [], ◌∷◌, ◌++◌, length, get_or, take, drop}
+use Rattle.std.proofs.Common.{zero-le, sym, ap, ◌∙◌, subst, append_assoc, append-nil, zero-add, add-zero, one-mul, add-mul, arith, length-append, length-drop, drop_of_length-le, take-append-drop, take_at, drop_at, drop-drop, length-take-le}
 use Rattle.base_lists.specs.Laws.{part_to_end}
 use Rattle.codec_forms.specs.Wire.{overlay, enc_many}
 
@@ -18,22 +17,13 @@ pub record Puts (l : List ℕ) (at : ℕ) (d d' : List ℕ) (e : ℕ) : Type 0 w
 pub record Room (l : List ℕ) (at : ℕ) (d : List ℕ) : Type 0 where
   pub fits : at + length l ≤ length d
 
--- ---- a copy loop
-pub copy_start : (d : List ℕ) (at : ℕ) (s : List ℕ) → d ≡ paste d at s 0
-copy_start d at s = paste-zero d at s
-
-pub copy_turn : (d₀ d : List ℕ) (at : ℕ) (s : List ℕ) (i : ℕ) → d ≡ paste d₀ at s i → at + i < length d₀ → i < length s → set d (at + i) (get_or s i 0) ≡ paste d₀ at s (i + 1)
-copy_turn d₀ d at s i e h k =
-    ap (λ (l : List ℕ). set l (at + i) (get_or s i 0)) e ∙ paste-suc d₀ at s i 0 h k ∙ ap (λ (n : ℕ). paste d₀ at s n) (sym (add-one i))
-
-pub copy_done : (d₀ d : List ℕ) (at : ℕ) (s : List ℕ) (i : ℕ) → d ≡ paste d₀ at s i → i ≤ length s → length s ≤ i → Puts s at d₀ d (at + i)
+-- ---- a copy
+pub puts_whole : (l d : List ℕ) (at : ℕ) → Puts l at d (take at d ++ (l ++ drop (length l) (drop at d))) (at + length l)
 unfolding splice
-copy_done d₀ d at s i e h k =
-    let q : i ≡ length s = omega arith in
-    record {
-      next = ap (λ (n : ℕ). at + n) q;
-      holds = e ∙ ap (λ (n : ℕ). take at d₀ ++ take n s ++ drop (at + n) d₀) q ∙ ap (λ (l : List ℕ). take at d₀ ++ l ++ drop (at + length s) d₀) (take-length s);
-    }
+puts_whole l d at = record {
+  next = refl;
+  holds = ap (λ (t : List ℕ). take at d ++ (l ++ t)) (drop-drop (length l) at d) ∙ sym (append_assoc (take at d) l (drop (at + length l) d));
+}
 
 -- ---- parts
 pub splice_length : (at : ℕ) (l d : List ℕ) → Room l at d → length (splice at l d) ≡ length d

@@ -8,8 +8,8 @@ use Rattle.book.specs.declared.SubmittedTx.{SubmittedTx}
 use Rattle.rules.specs.Calls.Common.{Found, find, by_live, with_live}
 use Rattle.rules.specs.Rule.{Rule, Outcome, ended, undone, run}
 use Rattle.rules.specs.Steps.{run_book}
-use Rattle.part_lookup.specs.declared.Place.{Place}
-use Rattle.part_lookup.specs.declared.Place.TheVariants.{At, Nothing}
+use Rattle.std.specs.Prelude.{Option}
+use Rattle.std.specs.Prelude.{Some, None}
 use Rattle.part_lookup.specs.declared.AttemptPlace.{AttemptPlace}
 use Rattle.part_lookup.specs.declared.AttemptPlace.TheVariants.{Live, SetAside, Gone, NeverIssued}
 use Rattle.part_lookup.specs.Lookup.{attempt_place}
@@ -17,11 +17,11 @@ use Rattle.part_lookup.specs.LookupLaws.{found_at, find_is, live_found}
 use Rattle.book.specs.Refusals as refusals
 
 -- ---- what is asked of a place
-abbrev pub live_place : AttemptPlace → Place
-live_place (Live k) = At k
-live_place (SetAside k) = Nothing
-live_place Gone = Nothing
-live_place NeverIssued = Nothing
+abbrev pub live_place : AttemptPlace → Option ℕ
+live_place (Live k) = Some k
+live_place (SetAside k) = None
+live_place Gone = None
+live_place NeverIssued = None
 
 abbrev pub is_never_issued : AttemptPlace → Bool
 is_never_issued (Live k) = false
@@ -45,7 +45,7 @@ abbrev pub at : Book → ℕ → SubmittedTx
 at m k = get_or m.submitted k zero_submitted
 
 -- ---- from the place to the rules
-is_live : (p : AttemptPlace) {k : ℕ} → live_place p ≡ At k → p ≡ Live k
+is_live : (p : AttemptPlace) {k : ℕ} → live_place p ≡ Some k → p ≡ Live k
 is_live (Live j) {k} e = let z : j ≡ k = cc in ap Live z
 is_live (SetAside j) e = let z : ◌≡◌ {A = ℕ} 0 1 = cc in absurd (omega arith)
 is_live Gone e = let z : ◌≡◌ {A = ℕ} 0 1 = cc in absurd (omega arith)
@@ -57,11 +57,11 @@ module _ (t : ℕ) (m : Book) where
   find_by here = find_is t m ∙ ap (found_at m) (sym here)
 
   -- the two answers of the code's lookup
-  module _ {p : AttemptPlace} {q : Place} (here : p ≡ attempt_place t m) (told : q ≡ live_place p) where
-    live_at : {k : ℕ} → q ≡ At k → attempt_place t m ≡ Live k
+  module _ {p : AttemptPlace} {q : Option ℕ} (here : p ≡ attempt_place t m) (told : q ≡ live_place p) where
+    live_at : {k : ℕ} → q ≡ Some k → attempt_place t m ≡ Live k
     live_at e = sym here ∙ is_live p (sym told ∙ e)
 
-    pub live_within : {k : ℕ} → q ≡ At k → k < length m.submitted
+    pub live_within : {k : ℕ} → q ≡ Some k → k < length m.submitted
     live_within e = (live_found t m (live_at e)).within
 
     module _ {A : Type 0} (v : A) (f : SubmittedTx → Rule A) where
@@ -69,14 +69,14 @@ module _ (t : ℕ) (m : Book) where
       unfolding with_live run
       found = ap (λ (x : Found). run_book (by_live v f x) m) (find_by here)
 
-      pub with_live_lem : {k : ℕ} → q ≡ At k → run_book (f (at m k)) m ≡ run_book (with_live t v f) m
+      pub with_live_lem : {k : ℕ} → q ≡ Some k → run_book (f (at m k)) m ≡ run_book (with_live t v f) m
       with_live_lem e = sym (found ∙ ap (λ (x : AttemptPlace). run_book (by_live v f (found_at m x)) m) (is_live p (sym told ∙ e)))
 
-      pub with_inactive : q ≡ Nothing → inactive m v p ≡ run_book (with_live t v f) m
+      pub with_inactive : q ≡ None → inactive m v p ≡ run_book (with_live t v f) m
       unfolding run
       with_inactive e = sym (found ∙ go p (sym told ∙ e))
         where
-          go : (x : AttemptPlace) → live_place x ≡ Nothing → run_book (by_live v f (found_at m x)) m ≡ inactive m v x
+          go : (x : AttemptPlace) → live_place x ≡ None → run_book (by_live v f (found_at m x)) m ≡ inactive m v x
           go (Live k) z = let y : ◌≡◌ {A = ℕ} 0 1 = cc in absurd (omega arith)
           go (SetAside k) z = refl
           go Gone z = refl

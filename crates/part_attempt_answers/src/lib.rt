@@ -13,29 +13,22 @@ ghost use Rattle.part_attempt_answers.specs.Live.{live_place, is_never_issued, i
 use book::BookData;
 use book::refusals::UNKNOWN_TOKEN;
 use book_answers::SubmissionAttemptStatus;
-use part_lookup::{AttemptPlace, Place};
+use part_lookup::AttemptPlace;
 use part_replies::{CallAnswer, StatusReply};
 
-pub fn live_place(p: AttemptPlace) -> Place
+pub fn live_place(p: AttemptPlace) -> Option<usize>
     ensures { result ≡ live_place p }
 {
     match p {
-        AttemptPlace::Live(k) => Place::At(k),
-        AttemptPlace::SetAside(_) => Place::Nothing,
-        AttemptPlace::Gone => Place::Nothing,
-        AttemptPlace::NeverIssued => Place::Nothing,
+        AttemptPlace::Live(k) => Some(k),
+        _ => None,
     }
 }
 
 pub fn is_never_issued(p: AttemptPlace) -> bool
     ensures { result ≡ is_never_issued p }
 {
-    match p {
-        AttemptPlace::Live(_) => false,
-        AttemptPlace::SetAside(_) => false,
-        AttemptPlace::Gone => false,
-        AttemptPlace::NeverIssued => true,
-    }
+    matches!(p, AttemptPlace::NeverIssued)
 }
 
 pub fn status_refused(b: BookData, n: u8) -> StatusReply
@@ -53,7 +46,7 @@ pub fn status_done(b: BookData, status: SubmissionAttemptStatus) -> StatusReply
 {
     StatusReply {
         answer: CallAnswer::Done,
-        status: status,
+        status,
         book: b,
     }
 }
@@ -63,8 +56,7 @@ pub fn status_inactive(b: BookData, place: AttemptPlace) -> StatusReply
     requires { Normal b }
     ensures { result ≡ status_reply b (inactive (view b) Stale place) }
 {
-    let never = is_never_issued(place);
-    if never {
+    if is_never_issued(place) {
         return status_refused(b, UNKNOWN_TOKEN);
     }
     status_done(b, SubmissionAttemptStatus::Stale)

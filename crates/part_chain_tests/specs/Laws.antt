@@ -1,9 +1,9 @@
 -- What the tests answer, in the words of the rules.
-use Rattle.std.specs.Prelude.{◌≡◌, refl, Bool, true, false, ◌&&◌, ◌||◌, List, [], ◌∷◌, map, ℕ, min, length, take}
+use Rattle.std.specs.Prelude.{◌≡◌, refl, Bool, ◌||◌, List, [], ◌∷◌, map, ℕ, min, length, take}
 use Rattle.std.proofs.Common.{sym, ap, ◌∙◌}
-use Rattle.std.proofs.Math.Bool.{not}
 use Rattle.std.proofs.lemmas.List.{length-map}
-use Rattle.base_lists.specs.Lists.{allb, anyb, cells}
+use Rattle.base_lists.specs.Lists.{cells}
+use Rattle.std.specs.List.{list_all, list_any}
 use Rattle.base_lists.specs.Laws.{take_cells, count_cut, any_same}
 use Rattle.base_lists.specs.Bytes.{eqs, is_in}
 use Rattle.base_coin_string.specs.Coin.{coin_id_of}
@@ -11,14 +11,12 @@ use Rattle.book.specs.Zero.{zeros}
 use Rattle.book.specs.Sound.{spends_of}
 use Rattle.book.specs.declared.RetainedIntent.{RetainedIntent}
 use Rattle.book.specs.declared.SpendBundle.{SpendBundle}
-use Rattle.book.specs.declared.SubmittedEntry.{SubmittedEntry}
 use Rattle.book_coins.specs.Coins.{input_coin_ids, expected_output_coins}
 use Rattle.book_coins.specs.Found.{found_of, is_found, found_any}
 use Rattle.book_coins.specs.Laws.{spent_id, input_ids}
 use Rattle.rules.specs.Doors.{among}
-use Rattle.rules.specs.Parts.{active_entry, is_input_spent}
 use Rattle.rules.specs.Calls.ReconcileChainTerminality.{output_observed, input_spent}
-use Rattle.rules.specs.Calls.CausallyRolledBackIds.{outer_input_ids, rolled_back}
+use Rattle.rules.specs.Calls.CausallyRolledBackIds.{outer_input_ids}
 use Rattle.part_chain_tests.specs.ListLaws.{all_same, all_filter}
 use Rattle.part_chain_tests.specs.Made.{bundle_makes, made_among}
 
@@ -33,7 +31,7 @@ pub found_observed : (seen : List (List ℕ)) (p : RetainedIntent) → is_found 
 unfolding output_observed
 found_observed seen p = found_any seen p.base_bundle ∙ sym (any_same (among seen) (is_in seen) (among_in seen) (expected_output_coins p.base_bundle))
 
-pub spent_is : (seen : List (List ℕ)) (p : RetainedIntent) → anyb (is_in seen) (input_coin_ids p.base_bundle) ≡ input_spent seen p
+pub spent_is : (seen : List (List ℕ)) (p : RetainedIntent) → list_any (is_in seen) (input_coin_ids p.base_bundle) ≡ input_spent seen p
 unfolding input_spent
 spent_is seen p = sym (any_same (among seen) (is_in seen) (among_in seen) (input_coin_ids p.base_bundle))
 
@@ -41,7 +39,7 @@ spent_is seen p = sym (any_same (among seen) (is_in seen) (among_in seen) (input
 abbrev pub live_or_made : List (List ℕ) → SpendBundle → List ℕ → Bool
 live_or_made live b id = is_in live id || bundle_makes id b
 
-pub outer_is : (live : List (List ℕ)) (b : SpendBundle) → allb (live_or_made live b) (input_coin_ids b) ≡ allb (among live) (outer_input_ids b)
+pub outer_is : (live : List (List ℕ)) (b : SpendBundle) → list_all (live_or_made live b) (input_coin_ids b) ≡ list_all (among live) (outer_input_ids b)
 unfolding outer_input_ids
 outer_is live b =
     sym (all_filter (among live) (among (map coin_id_of (expected_output_coins b))) (input_coin_ids b)
@@ -54,20 +52,3 @@ module _ (b : SpendBundle) (n : ℕ) (long : length b.spends ≡ 4) (cut : n ≡
 
   pub rows_are : take n ids ≡ input_coin_ids b
   rows_are = ap (λ (k : ℕ). take k ids) rows ∙ ap (take (length (input_coin_ids b))) held ∙ take_cells 4 (zeros 32) (input_coin_ids b)
-
--- ---- the three questions of a rollback
-module _ (absent inputs : List (List ℕ)) (e : SubmittedEntry) where
-  asked : {a o : Bool} → active_entry e ≡ a → (is_input_spent e.state.status.chain_terminality || output_observed absent e.intent) ≡ o
-      → rolled_back absent inputs e ≡ (not a && o && allb (among inputs) (outer_input_ids e.intent.base_bundle))
-  unfolding rolled_back output_observed
-  asked {a} {o} p q = λ i. not (p i) && q i && allb (among inputs) (outer_input_ids e.intent.base_bundle)
-
-  pub still_active : active_entry e ≡ true → false ≡ rolled_back absent inputs e
-  still_active p = sym (asked p refl)
-
-  pub still_there : active_entry e ≡ false → (is_input_spent e.state.status.chain_terminality || output_observed absent e.intent) ≡ false → false ≡ rolled_back absent inputs e
-  still_there p q = sym (asked p q)
-
-  pub by_inputs : {r : Bool} → active_entry e ≡ false → (is_input_spent e.state.status.chain_terminality || output_observed absent e.intent) ≡ true
-      → r ≡ allb (among inputs) (outer_input_ids e.intent.base_bundle) → r ≡ rolled_back absent inputs e
-  by_inputs p q h = h ∙ sym (asked p q)

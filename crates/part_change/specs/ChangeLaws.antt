@@ -8,10 +8,10 @@ use Rattle.std.proofs.Math.Dec.{ltb}
 use Rattle.base_lists.specs.Lists.{distinctb, push_new}
 use Rattle.base_lists.specs.Laws.{filter_length}
 use Rattle.book.specs.Zero.{zero_submitted, zero_delivery}
-use Rattle.book.specs.Model.{Book, view, back, ids64}
+use Rattle.book.specs.Model.{Book, view, back, id_cells}
 use Rattle.book.specs.Sound.{id_of, sound_delivery}
 use Rattle.book.specs.SoundLaws.{Fits, Counted}
-use Rattle.book.specs.declared.Ids64.{Ids64}
+use Rattle.book.specs.declared.Ids.{Ids}
 use Rattle.book.specs.declared.SubmittedTx.{SubmittedTx}
 use Rattle.book.specs.declared.AttemptSlots.{AttemptSlots}
 use Rattle.book.specs.declared.PendingDelivery.{PendingDelivery}
@@ -22,10 +22,9 @@ use Rattle.rules.specs.Rule.{Revision, enqueue, unqueue, unqueue_all, unretire_a
 use Rattle.rules.specs.Steps.{with_submitted, with_entry, with_slots, rest_of, with_rest, note_book, revise_book, mark_book, remove_book}
 use Rattle.rules.specs.Steps.Entry.{revised}
 use Rattle.rules.specs.Steps.Notes.{is_id, with_pending, with_retired, noted, unqueued, unreplayed, forgotten}
-use Rattle.part_ids.specs.Ids.{pushed64}
-use Rattle.part_ids.specs.declared.Pushed64.{Pushed64}
+use Rattle.part_ids.specs.Ids.{push_within}
 use Rattle.part_ids.specs.Counted.{counted_none, counted_set, counted_push}
-use Rattle.part_ids.specs.IdLaws.{counted64, ids16_of}
+use Rattle.part_ids.specs.IdLaws.{counted_ids, ids_counted}
 use Rattle.part_replay.specs.Epoch as Epoch
 use Rattle.part_replay.specs.Epoch.{replayed_of, removed}
 use Rattle.part_lookup.specs.Normal.{Normal, view_of, normal_of, sizes, submitted_are, pending_are, replayed_are}
@@ -67,23 +66,25 @@ module _ (b : BookData) (h : Normal b) where
   unfolding note_book noted
   unqueue_is i n cs c = pending_back b h n cs (unqueued i (view b).pending) c
 
-  pub unretire_is : {x : Ids64} → x ≡ ids64 [] → put_rest x b.replay_epoch b ≡ back (note_book unretire_all (view b))
+  pub unretire_is : {x : Ids 64} → x ≡ id_cells 64 [] → put_rest x b.replay_epoch b ≡ back (note_book unretire_all (view b))
   unfolding note_book noted
-  unretire_is {x} e = retired_back b h x [] (counted64 x [] e)
+  unretire_is {x} e = retired_back b h x [] (counted_ids x [] e)
 
   -- a retirement: the list with the id once, or full
-  pub retire_is : (i : ℕ) {x : Pushed64} → x ≡ pushed64 (view b).retired i → record { full = x.full; book = put_rest x.ids b.replay_epoch b } ≡ retiring i (view b)
-  unfolding retiring pushed64 note_book noted
-  retire_is i {x} e =
-      ap (λ (y : Pushed64). record { full = y.full; book = put_rest y.ids b.replay_epoch b }) e
+  pub retire_is : (i : ℕ) {f : Bool} {x : Ids 64} → f ≡ ltb 64 (length (push_new (view b).retired i)) → x ≡ id_cells 64 (push_within 64 (view b).retired i)
+      → record { full = f; book = put_rest x b.replay_epoch b } ≡ retiring i (view b)
+  unfolding retiring push_within note_book noted
+  retire_is i {f} {x} q e =
+      ap (λ (y : Ids 64). record { full = f; book = put_rest y b.replay_epoch b }) e
+      ∙ ap (λ (t : Bool). record { full = t; book = put_rest (id_cells 64 (push_within 64 (view b).retired i)) b.replay_epoch b }) q
       ∙ ap {B = Retired} (λ (y : BookData). record { full = over; book = y }) (go over)
     where
       over : Bool
       over = ltb 64 (length (push_new (view b).retired i))
 
-      go : (t : Bool) → put_rest (ids64 (cond t (view b).retired (push_new (view b).retired i))) b.replay_epoch b ≡ back (cond t (view b) (with_rest (with_retired (push_new (view b).retired i) (rest_of (view b))) (view b)))
-      go true = retired_back b h (ids64 (view b).retired) (view b).retired (record { count = refl; held = refl })
-      go false = retired_back b h (ids64 (push_new (view b).retired i)) (push_new (view b).retired i) (record { count = refl; held = refl })
+      go : (t : Bool) → put_rest (id_cells 64 (cond t (view b).retired (push_new (view b).retired i))) b.replay_epoch b ≡ back (cond t (view b) (with_rest (with_retired (push_new (view b).retired i) (rest_of (view b))) (view b)))
+      go true = retired_back b h (id_cells 64 (view b).retired) (view b).retired (record { count = refl; held = refl })
+      go false = retired_back b h (id_cells 64 (push_new (view b).retired i)) (push_new (view b).retired i) (record { count = refl; held = refl })
 
 -- ---- removal: what is left fits, step by step
 module _ (i : ℕ) (m : Book) (f : Fits m) where
@@ -115,7 +116,7 @@ pub epoch_normal : (b : BookData) → Normal b → Epoch.Normal b.replay_epoch
 unfolding view
 epoch_normal b h = record {
   count = (sizes b h).replayed;
-  held = ids16_of b.replay_epoch.replayed_submission_ids (replayed_of b.replay_epoch) (replayed_are b h);
+  held = ids_counted b.replay_epoch.replayed_submission_ids (replayed_of b.replay_epoch) (replayed_are b h);
 }
 
 -- the book without the submission, without its queue entries, and without its replay mark

@@ -2,7 +2,8 @@
 use Rattle.std.specs.Prelude.{cond, List, ℕ, ltb, length, set}
 use Rattle.base_lists.specs.Lists.{push_new}
 use Rattle.book.specs.Model.{Book, back}
-use Rattle.book.specs.declared.OptionalHeight.{OptionalHeight}
+use Rattle.std.specs.Prelude.{Option}
+use Rattle.book.specs.declared.Height.{Height}
 use Rattle.book.specs.declared.SubmittedTx.{SubmittedTx}
 use Rattle.rules.specs.Rule.{retire}
 use Rattle.rules.specs.Steps.{with_submitted, rest_of, with_rest, note_book}
@@ -13,7 +14,7 @@ use Rattle.part_change.specs.declared.Retired.{Retired}
 abbrev pub stored_at : ℕ → SubmittedTx → Book → Book
 stored_at k t m = with_submitted (set m.submitted k t) m
 
-abbrev pub with_epoch_of : OptionalHeight → List ℕ → Book → Book
+abbrev pub with_epoch_of : Option Height → List ℕ → Book → Book
 with_epoch_of h is m = with_rest (with_epoch h is (rest_of m)) m
 
 -- `emit_retirement`; a 65th retirement is refused, and the book is as it was

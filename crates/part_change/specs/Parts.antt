@@ -7,7 +7,7 @@ use Rattle.book.specs.declared.Token.{Token}
 use Rattle.book.specs.declared.SubmissionId.{SubmissionId}
 use Rattle.book.specs.declared.SubmittedTx.{SubmittedTx}
 use Rattle.book.specs.declared.PendingDelivery.{PendingDelivery}
-use Rattle.book.specs.declared.Ids64.{Ids64}
+use Rattle.book.specs.declared.Ids.{Ids}
 use Rattle.book.specs.declared.ReplayEpoch.{ReplayEpoch}
 use Rattle.book.specs.declared.BookData.{BookData}
 use Rattle.rules.specs.Steps.{with_submitted, rest_of, with_rest}
@@ -44,7 +44,7 @@ put_pending n cs b = record {
   replay_epoch = b.replay_epoch;
 }
 
-abbrev pub put_rest : Ids64 → ReplayEpoch → BookData → BookData
+abbrev pub put_rest : Ids 64 → ReplayEpoch → BookData → BookData
 put_rest x e b = record {
   next_delivery_attempt_token = b.next_delivery_attempt_token;
   next_submission_id = b.next_submission_id;
@@ -87,7 +87,7 @@ module _ (b : BookData) (h : Normal b) where
       back_of_lem (put_pending n cs b) (with_rest (with_pending ds (rest_of (view b))) (view b))
       (record { token = (plain_is b h).token; id = (plain_is b h).id; rollback = (plain_is b h).rollback }) (submitted_are b h) c (retired_are b h) (replayed_are b h)
 
-  pub retired_back : (x : Ids64) (is : List ℕ) → Counted 64 0 x.count x.items is → put_rest x b.replay_epoch b ≡ back (with_rest (with_retired is (rest_of (view b))) (view b))
+  pub retired_back : (x : Ids 64) (is : List ℕ) → Counted 64 0 x.count x.items is → put_rest x b.replay_epoch b ≡ back (with_rest (with_retired is (rest_of (view b))) (view b))
   retired_back x is c =
       back_of_lem (put_rest x b.replay_epoch b) (with_rest (with_retired is (rest_of (view b))) (view b))
       (record { token = (plain_is b h).token; id = (plain_is b h).id; rollback = (plain_is b h).rollback }) (submitted_are b h) (pending_are b h) c (replayed_are b h)

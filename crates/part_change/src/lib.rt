@@ -15,7 +15,7 @@ ghost use Rattle.part_lookup.specs.Normal.{Normal};
 ghost use Rattle.part_change.specs.Changes.{stored_at, with_epoch_of, retiring};
 
 use book::{BookData, PendingDelivery, ReplayEpoch, SubmissionId, SubmittedTx};
-use part_ids::{empty64, push_new64};
+use part_ids::{empty, push_new};
 use part_lookup::is_id;
 
 // The book with one more retirement; full where that would be a 65th, and then the book as it was.
@@ -51,21 +51,19 @@ fn drop_submitted(b: BookData, id: SubmissionId) -> BookData
     let z = SubmittedTx::zero();
     let mut out = b;
     let mut w: usize = 0;
-    let mut i = 0;
-    while i < n {
+    for i in 0..n {
         let t = out.submitted[i];
-        if t.entry.id.0 == id.0 {
+        if t.entry.id == id {
             out.submitted[i] = z;
-            i += 1;
-        } else if w == i {
-            w += 1;
-            i += 1;
-        } else {
-            out.submitted[i] = z;
-            out.submitted[w] = t;
-            w += 1;
-            i += 1;
+            continue;
         }
+        if w == i {
+            w += 1;
+            continue;
+        }
+        out.submitted[i] = z;
+        out.submitted[w] = t;
+        w += 1;
     }
     out.submitted_count = w;
     out
@@ -116,23 +114,19 @@ fn keep_others(a: [PendingDelivery; 16], n: usize, id: SubmissionId) -> Deliveri
     let z = PendingDelivery::zero();
     let mut out = a;
     let mut w: usize = 0;
-    let mut i = 0;
-    while i < n {
+    for i in 0..n {
         let d = out[i];
-        let intent = d.intent;
-        let of = intent.id;
-        if is_id(of, id) {
+        if is_id(d.intent.id, id) {
             out[i] = z;
-            i += 1;
-        } else if w == i {
-            w += 1;
-            i += 1;
-        } else {
-            out[i] = z;
-            out[w] = d;
-            w += 1;
-            i += 1;
+            continue;
         }
+        if w == i {
+            w += 1;
+            continue;
+        }
+        out[i] = z;
+        out[w] = d;
+        w += 1;
     }
     Deliveries {
         count: w,
@@ -160,24 +154,17 @@ pub fn retire(b: BookData, id: SubmissionId) -> Retired
     requires { Normal b }
     ensures { result ≡ retiring id.0 (view b) }
 {
-    let held = b.retired_submission_ids;
-    let next = push_new64(held, id);
-    let ids = next.ids;
     let mut out = b;
-    out.retired_submission_ids = ids;
-    Retired {
-        full: next.full,
-        book: out,
-    }
+    let full = push_new(&mut out.retired_submission_ids, id);
+    Retired { full, book: out }
 }
 
 pub fn clear_retired(b: BookData) -> BookData
     requires { Normal b }
     ensures { result ≡ back (note_book unretire_all (view b)) }
 {
-    let none = empty64();
     let mut out = b;
-    out.retired_submission_ids = none;
+    out.retired_submission_ids = empty();
     out
 }
 

@@ -1,7 +1,7 @@
 -- Laws of lists that building coin lists asks.
 use Rattle.std.specs.Prelude.{◌≡◌, refl, List, [], ◌∷◌, ◌++◌, map, ℕ, zero, suc, take, drop}
 use Rattle.std.proofs.Common.{sym, ap, ◌∙◌, append_assoc}
-use Rattle.base_lists.specs.Lists.{foldl}
+use Rattle.std.specs.List.{fold}
 use Rattle.codec_forms.specs.Wire.{enc_many}
 
 module _ {A B : Type 0} (f : A → B) where
@@ -15,7 +15,7 @@ module _ {A B : Type 0} (f : A → B) where
   map_drop (suc k) [] = refl
   map_drop (suc k) (x ∷ xs) = map_drop k xs
 
-pub fold_append : {A B : Type 0} (f : B → A → B) (b : B) (xs ys : List A) → foldl f b (xs ++ ys) ≡ foldl f (foldl f b xs) ys
+pub fold_append : {A B : Type 0} (f : B → A → B) (b : B) (xs ys : List A) → fold f b (xs ++ ys) ≡ fold f (fold f b xs) ys
 fold_append f b [] ys = refl
 fold_append f b (x ∷ xs) ys = fold_append f (f b x) xs ys
 

@@ -1,9 +1,8 @@
 -- Coins written into a buffer, each behind its length.
-use Rattle.std.specs.Prelude.{◌≡◌, refl, Bool, true, false, List, [], ◌∷◌, ◌++◌, map, ℕ, ◌+◌, ◌-◌, ◌*◌, ◌≤◌, ◌<◌, length, take, get_or}
+use Rattle.std.specs.Prelude.{◌≡◌, refl, Bool, true, false, List, [], ◌∷◌, ◌++◌, map, ℕ, ◌+◌, ◌*◌, ◌≤◌, ◌<◌, length, take, get_or}
 use Rattle.std.proofs.Common.{sym, ap, ◌∙◌, append-nil, arith, add-zero, add-one, length-append, take-suc}
 use Rattle.std.proofs.lemmas.List.{map-append}
-use Rattle.std.proofs.Math.Nat.{sub-zero}
-use Rattle.base_lists.specs.Lists.{filterb}
+use Rattle.std.specs.List.{filter}
 use Rattle.base_lists.specs.Laws.{filter_keep, filter_skip, filter_done}
 use Rattle.base_lists.specs.Bytes.{is_in}
 use Rattle.codec_forms.specs.Wire.{be, enc_many}
@@ -33,9 +32,6 @@ pub record Listed (cs : List (List ℕ)) (at : ℕ) (d d' : List ℕ) (r : Place
   pub count : r.count ≡ length cs
 
 -- ---- laws
-first_bytes : {c : CoinString} {n : ℕ} → Used c n → take (n - 0) c.bytes ≡ coin_bytes c
-first_bytes {c} {n} u = ap (λ (k : ℕ). take k c.bytes) (sub-zero n) ∙ u.is
-
 -- a coin's length, and then its bytes
 module _ {c : CoinString} {n at : ℕ} {d : List ℕ} (u : Used c n) (h : at + 74 ≤ length d) where
   whole_room : Room (be 1 n ++ coin_bytes c) at d
@@ -45,13 +41,13 @@ module _ {c : CoinString} {n at : ℕ} {d : List ℕ} (u : Used c n) (h : at + 7
   length_room = room_first (coin_bytes c) whole_room
 
   module _ {d₁ : List ℕ} {e : ℕ} (p : Puts (be 1 n) at d d₁ e) where
-    pub bytes_room : Room (take (n - 0) c.bytes) e d₁
-    bytes_room = room_as (first_bytes u) (room_next whole_room p)
+    pub bytes_room : Room (take n c.bytes) e d₁
+    bytes_room = room_as u.is (room_next whole_room p)
 
-    pub put_coin : {d₂ : List ℕ} {r : ℕ} → Puts (take (n - 0) c.bytes) e d₁ d₂ r → PutCoin (coin_bytes c) at d d₂ r
+    pub put_coin : {d₂ : List ℕ} {r : ℕ} → Puts (take n c.bytes) e d₁ d₂ r → PutCoin (coin_bytes c) at d d₂ r
     unfolding encode_coin
     put_coin q =
-        let b = puts_as (first_bytes u) q in
+        let b = puts_as u.is q in
         record {
           puts = puts_as (ap (λ (k : ℕ). be 1 k ++ coin_bytes c) (sym (used_length u))) (puts_join whole_room p b);
           short = omega (arith, b.next, p.next, be_length 1 n, used_length u, u.most);
@@ -101,9 +97,9 @@ pub record Putting (p : List ℕ → Bool) (w : List (List ℕ)) (at : ℕ) (d d
   pub done : List (List ℕ)
   pub put : PutCoins done at d d' e
   pub count : k ≡ length done
-  pub is : done ++ filterb p cs ≡ w
+  pub is : done ++ filter p cs ≡ w
 
-pub putting_start : (p : List ℕ → Bool) (cs : List (List ℕ)) (at : ℕ) (d : List ℕ) → Putting p (filterb p cs) at d d at 0 cs
+pub putting_start : (p : List ℕ → Bool) (cs : List (List ℕ)) (at : ℕ) (d : List ℕ) → Putting p (filter p cs) at d d at 0 cs
 putting_start p cs at d = record { done = []; put = put_none at d; count = refl; is = refl }
 
 module _ {p : List ℕ → Bool} {w : List (List ℕ)} {at : ℕ} {d d₁ : List ℕ} {e k : ℕ} {cs : List (List ℕ)} (h : Putting p w at d d₁ e k cs) where

@@ -11,7 +11,7 @@ use book_sound::is_sound;
 pub fn door(b: BookData) -> u8
     ensures { result ≡ door_number b }
 {
-    let sound = is_sound(b);
+    let sound = is_sound(&b);
     if !sound {
         return NO_BOOK;
     }

@@ -6,7 +6,7 @@ ghost use Rattle.rules.specs.Call.{removes, retained_id, stage_of as stageBy};
 ghost use Rattle.rules.specs.Rule.{undone};
 ghost use Rattle.part_drain_answers.specs.DrainReply.{drain_reply};
 
-use book::{BookData, OptionalId};
+use book::{BookData, SubmissionId};
 use book_answers::{
     DrainFailureCause, DrainedSubmission, SubmissionDrainFailure, SubmissionDrainFailureStage,
 };
@@ -26,13 +26,14 @@ pub fn stage_of(cause: DrainFailureCause) -> SubmissionDrainFailureStage
     ensures { result ≡ stageBy cause }
 {
     match cause {
-        DrainFailureCause::NoRetainedState => SubmissionDrainFailureStage::RetainedState,
-        DrainFailureCause::FeeIntentDiffers => SubmissionDrainFailureStage::RetainedState,
-        DrainFailureCause::InvalidRetainedState => SubmissionDrainFailureStage::RetainedState,
-        DrainFailureCause::IntentDiffers => SubmissionDrainFailureStage::RetainedState,
-        DrainFailureCause::IdCollides => SubmissionDrainFailureStage::SubmissionId,
+        DrainFailureCause::NoRetainedState
+        | DrainFailureCause::FeeIntentDiffers
+        | DrainFailureCause::InvalidRetainedState
+        | DrainFailureCause::IntentDiffers => SubmissionDrainFailureStage::RetainedState,
+        DrainFailureCause::IdCollides | DrainFailureCause::IdsExhausted => {
+            SubmissionDrainFailureStage::SubmissionId
+        }
         DrainFailureCause::OutputsUnreadable => SubmissionDrainFailureStage::ExpectedOutputs,
-        DrainFailureCause::IdsExhausted => SubmissionDrainFailureStage::SubmissionId,
     }
 }
 
@@ -40,41 +41,34 @@ pub fn stage_of(cause: DrainFailureCause) -> SubmissionDrainFailureStage
 fn is_removal(cause: DrainFailureCause) -> bool
     ensures { result ≡ removes cause }
 {
-    match cause {
-        DrainFailureCause::NoRetainedState => false,
-        DrainFailureCause::FeeIntentDiffers => true,
-        DrainFailureCause::InvalidRetainedState => true,
-        DrainFailureCause::IntentDiffers => true,
-        DrainFailureCause::IdCollides => false,
-        DrainFailureCause::OutputsUnreadable => false,
-        DrainFailureCause::IdsExhausted => false,
-    }
+    matches!(
+        cause,
+        DrainFailureCause::FeeIntentDiffers
+            | DrainFailureCause::InvalidRetainedState
+            | DrainFailureCause::IntentDiffers
+    )
 }
 
 // `retained_submission_id`.
-pub fn retained_id(f: SubmissionDrainFailure) -> OptionalId
+pub fn retained_id(f: SubmissionDrainFailure) -> Option<SubmissionId>
     ensures { result ≡ retained_id f }
 {
-    let cause = f.cause;
-    let id = f.candidate_id;
-    if is_removal(cause) {
-        return OptionalId::Of(id);
+    if is_removal(f.cause) {
+        return Some(f.candidate_id);
     }
-    OptionalId::NoId
+    None
 }
 
 // A refusal: its number, nothing beside it, and the book that it leaves.
 pub fn refused(n: u8, b: BookData) -> DrainReply
     ensures { result ≡ drain_reply b (undone n) }
 {
-    let x = DrainedSubmission::zero();
-    let f = SubmissionDrainFailure::zero();
     DrainReply {
         answer: CallAnswer::Refused(n),
         submission_count: 0,
-        submissions: [x; 16],
+        submissions: [DrainedSubmission::zero(); 16],
         failure_count: 0,
-        failures: [f; 16],
+        failures: [SubmissionDrainFailure::zero(); 16],
         book: b,
     }
 }

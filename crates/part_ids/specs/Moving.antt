@@ -4,7 +4,8 @@ use Rattle.std.specs.Prelude.{◌≡◌, refl, Bool, true, false, List, [], ◌�
 use Rattle.std.proofs.Common.{sym, ap, ◌∙◌, subst, append_assoc, arith, length-append, drop_of_length-le}
 use Rattle.std.proofs.lemmas.List.{length-replicate, replicate-append-replicate, set_at, get_or_at}
 use Rattle.std.proofs.Math.ListN.{get_or-append}
-use Rattle.base_lists.specs.Lists.{filterb, cells}
+use Rattle.base_lists.specs.Lists.{cells}
+use Rattle.std.specs.List.{filter}
 use Rattle.base_lists.specs.Laws.{rest_step, filter_keep, filter_skip, filter_done, drop_cells}
 use Rattle.book.specs.SoundLaws.{Counted}
 
@@ -15,7 +16,7 @@ pub record Moving {A : Type 0} (N : ℕ) (z : A) (p : A → Bool) (xs cs : List 
   pub fewer : w ≤ i
   pub within : i ≤ length xs
   pub held : cs ≡ kept ++ (replicate (i - w) z ++ drop i (cells N z xs))
-  pub rest : kept ++ filterb p (drop i xs) ≡ filterb p xs
+  pub rest : kept ++ filter p (drop i xs) ≡ filter p xs
 
 replicate_snoc : {A : Type 0} (n : ℕ) (z : A) (ys : List A) → replicate n z ++ (z ∷ ys) ≡ z ∷ (replicate n z ++ ys)
 replicate_snoc zero z ys = refl
@@ -34,10 +35,10 @@ module _ {A : Type 0} (N : ℕ) (z : A) (p : A → Bool) (xs : List A) where
 
   module _ (cs : List A) (w i : ℕ) (m : Moving N z p xs cs w i) where
     -- at the end the cells hold what passes
-    pub move_done : length xs ≤ i → length xs ≤ N → Counted N z w cs (filterb p xs)
+    pub move_done : length xs ≤ i → length xs ≤ N → Counted N z w cs (filter p xs)
     move_done h room =
         let e : i ≡ length xs = let l = m.within in omega arith in
-        let f : m.kept ≡ filterb p xs = filter_done p m.kept (drop_of_length-le xs {i = i} h) m.rest in
+        let f : m.kept ≡ filter p xs = filter_done p m.kept (drop_of_length-le xs {i = i} h) m.rest in
         let c : length m.kept ≡ w = m.count in
         let l : w ≤ i = m.fewer in
         record {

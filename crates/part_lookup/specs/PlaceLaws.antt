@@ -9,11 +9,13 @@ use Prim.Native.Nat.{ℕ, zero, suc, ◌≤◌, ◌<◌}
 use Rattle.std.proofs.Math.Dec.{ltb}
 use borrow.Author.Tests.{eq-eqb, ne_eqb, not-true, lt-ltb, le-ltb, ltb-true, ltb-false}
 use Rattle.std.proofs.Math.ListN.{length}
-use Rattle.base_lists.specs.Lists.{filterb, anyb, elemb, distinctb, index_of}
+use Rattle.base_lists.specs.Lists.{elemb, distinctb, index_of}
+use Rattle.std.specs.List.{filter, list_any, prefix_len}
 use Rattle.base_lists.specs.Laws.{and_split, any_index, or-false}
 use Rattle.rules.specs.Keyed.{pick, change}
-use Rattle.part_lookup.specs.declared.Place.TheVariants.{At, Nothing}
-use Rattle.part_lookup.specs.Place.{placed, place_of}
+use Rattle.std.specs.Prelude.{Option, Some, None, ◌+◌, unwrap_or}
+use Rattle.std.proofs.lemmas.Option.{none-some}
+use Rattle.part_lookup.specs.Place.{place_of}
 
 -- ---- a place that was found, and one that was not
 module _ {A : Type 0} (p : A → Bool) where
@@ -31,85 +33,81 @@ module _ {A : Type 0} (p : A → Bool) where
       go true e l ih = e
       go false e l ih = ih (omega arith)
 
-  filtered : (xs : List A) (d : A) → index_of p xs < length xs → filterb p xs ≡ get_or xs (index_of p xs) d ∷ filterb p (drop (suc (index_of p xs)) xs)
+  filtered : (xs : List A) (d : A) → index_of p xs < length xs → filter p xs ≡ get_or xs (index_of p xs) d ∷ filter p (drop (suc (index_of p xs)) xs)
   filtered [] d h = absurd (omega arith)
   filtered (x ∷ xs) d h = go (p x) h (λ l. filtered xs d l)
     where
       go : (t : Bool) → cond t 0 (suc (index_of p xs)) < suc (length xs)
-          → (index_of p xs < length xs → filterb p xs ≡ get_or xs (index_of p xs) d ∷ filterb p (drop (suc (index_of p xs)) xs))
-          → cond t (x ∷ filterb p xs) (filterb p xs) ≡ get_or (x ∷ xs) (cond t 0 (suc (index_of p xs))) d ∷ filterb p (drop (suc (cond t 0 (suc (index_of p xs)))) (x ∷ xs))
+          → (index_of p xs < length xs → filter p xs ≡ get_or xs (index_of p xs) d ∷ filter p (drop (suc (index_of p xs)) xs))
+          → cond t (x ∷ filter p xs) (filter p xs) ≡ get_or (x ∷ xs) (cond t 0 (suc (index_of p xs))) d ∷ filter p (drop (suc (cond t 0 (suc (index_of p xs)))) (x ∷ xs))
       go true l ih = refl
       go false l ih = ih (omega arith)
 
-  none : (xs : List A) → length xs ≤ index_of p xs → filterb p xs ≡ []
+  none : (xs : List A) → length xs ≤ index_of p xs → filter p xs ≡ []
   none [] h = refl
   none (x ∷ xs) h = go (p x) h (λ l. none xs l)
     where
-      go : (t : Bool) → suc (length xs) ≤ cond t 0 (suc (index_of p xs)) → (length xs ≤ index_of p xs → filterb p xs ≡ []) → cond t (x ∷ filterb p xs) (filterb p xs) ≡ []
+      go : (t : Bool) → suc (length xs) ≤ cond t 0 (suc (index_of p xs)) → (length xs ≤ index_of p xs → filter p xs ≡ []) → cond t (x ∷ filter p xs) (filter p xs) ≡ []
       go true l ih = absurd (omega arith)
       go false l ih = ih (omega arith)
+
+  index_is : (xs : List A) → prefix_len (λ x. not (p x)) xs ≡ index_of p xs
+  index_is [] = refl
+  index_is (x ∷ xs) = go (p x) (index_is xs)
+    where
+      go : (t : Bool) → prefix_len (λ y. not (p y)) xs ≡ index_of p xs → cond (not t) (1 + prefix_len (λ y. not (p y)) xs) 0 ≡ cond t 0 (suc (index_of p xs))
+      go true e = refl
+      go false e = omega arith
+
+  -- by the place of the first that passes, or the length
+  abbrev placed : Bool → ℕ → Option ℕ
+  placed true k = Some k
+  placed false k = None
+
+  place_placed : (xs : List A) → place_of p xs ≡ placed (ltb (index_of p xs) (length xs)) (index_of p xs)
+  place_placed xs = ap (λ (k : ℕ). cond (ltb k (length xs)) (Some k) None) (index_is xs) ∙ by (ltb (index_of p xs) (length xs))
+    where
+      by : (t : Bool) → cond t (Some (index_of p xs)) None ≡ placed t (index_of p xs)
+      by true = refl
+      by false = refl
 
   module _ (xs : List A) where
     pub first_passes : {k : ℕ} (d : A) → First xs k → p (get_or xs k d) ≡ true
     first_passes d f = ap (λ (j : ℕ). p (get_or xs j d)) f.index ∙ passes xs d (let e = f.index in let h = f.within in omega arith)
 
-    pub first_filter : {k : ℕ} (d : A) → First xs k → filterb p xs ≡ get_or xs k d ∷ filterb p (drop (suc k) xs)
+    pub first_filter : {k : ℕ} (d : A) → First xs k → filter p xs ≡ get_or xs k d ∷ filter p (drop (suc k) xs)
     first_filter d f =
         filtered xs d (let e = f.index in let h = f.within in omega arith)
-        ∙ ap (λ (j : ℕ). get_or xs j d ∷ filterb p (drop (suc j) xs)) (sym f.index)
+        ∙ ap (λ (j : ℕ). get_or xs j d ∷ filter p (drop (suc j) xs)) (sym f.index)
 
     -- the two answers
-    pub at_first : {k : ℕ} → place_of p xs ≡ At k → First xs k
-    unfolding place_of
-    at_first {k} e = go (ltb (index_of p xs) (length xs)) refl e
+    pub at_first : {k : ℕ} → place_of p xs ≡ Some k → First xs k
+    at_first {k} e = go (ltb (index_of p xs) (length xs)) refl (sym (place_placed xs) ∙ e)
       where
-        go : (t : Bool) → ltb (index_of p xs) (length xs) ≡ t → placed t (index_of p xs) ≡ At k → First xs k
+        go : (t : Bool) → ltb (index_of p xs) (length xs) ≡ t → placed t (index_of p xs) ≡ Some k → First xs k
         go true h q =
-            let s : k ≡ index_of p xs = cc in
+            let s : k ≡ index_of p xs = ap (λ o. unwrap_or o k) (sym q) in
             let l : index_of p xs < length xs = ltb-true (index_of p xs) (length xs) h in
             record { within = omega arith; index = s }
-        go false h q = let z : ◌≡◌ {A = ℕ} 0 1 = cc in absurd (omega arith)
+        go false h q = absurd (none-some k q)
 
-    pub none_passes : place_of p xs ≡ Nothing → filterb p xs ≡ []
-    unfolding place_of
-    none_passes e = go (ltb (index_of p xs) (length xs)) refl e
+    pub none_passes : place_of p xs ≡ None → filter p xs ≡ []
+    none_passes e = go (ltb (index_of p xs) (length xs)) refl (sym (place_placed xs) ∙ e)
       where
-        go : (t : Bool) → ltb (index_of p xs) (length xs) ≡ t → placed t (index_of p xs) ≡ Nothing → filterb p xs ≡ []
-        go true h q = let z : ◌≡◌ {A = ℕ} 0 1 = cc in absurd (omega arith)
+        go : (t : Bool) → ltb (index_of p xs) (length xs) ≡ t → placed t (index_of p xs) ≡ None → filter p xs ≡ []
+        go true h q = absurd (none-some (index_of p xs) (sym q))
         go false h q = none xs (ltb-false (index_of p xs) (length xs) h)
 
-    pub any_placed : {k : ℕ} → place_of p xs ≡ At k → anyb p xs ≡ true
+    pub any_placed : {k : ℕ} → place_of p xs ≡ Some k → list_any p xs ≡ true
     any_placed e = let f = at_first e in any_index p xs ∙ lt-ltb (index_of p xs) (length xs) (let i = f.index in let h = f.within in omega arith)
 
-    pub none_any : place_of p xs ≡ Nothing → anyb p xs ≡ false
-    unfolding place_of
-    none_any e = any_index p xs ∙ go (ltb (index_of p xs) (length xs)) e
+    pub none_any : place_of p xs ≡ None → list_any p xs ≡ false
+    none_any e = any_index p xs ∙ go (ltb (index_of p xs) (length xs)) (sym (place_placed xs) ∙ e)
       where
-        go : (t : Bool) → placed t (index_of p xs) ≡ Nothing → t ≡ false
-        go true q = let z : ◌≡◌ {A = ℕ} 0 1 = cc in absurd (omega arith)
+        go : (t : Bool) → placed t (index_of p xs) ≡ None → t ≡ false
+        go true q = absurd (none-some (index_of p xs) (sym q))
         go false q = refl
 
-    -- what a search answers: a hit at k, or none up to the end
-    pub place_hit : {k : ℕ} → k < length xs → k ≡ index_of p xs → At k ≡ place_of p xs
-    unfolding place_of
-    place_hit {k} h e = ap At e ∙ ap (λ (t : Bool). placed t (index_of p xs)) (sym (lt-ltb (index_of p xs) (length xs) (omega arith)))
-
-    pub place_end : {k : ℕ} → length xs ≤ k → k ≡ index_of p xs → Nothing ≡ place_of p xs
-    unfolding place_of
-    place_end {k} h e = ap (λ (t : Bool). placed t (index_of p xs)) (sym (le-ltb (index_of p xs) (length xs) (omega arith)))
-
--- a loop that looks for one that passes: the answer of the whole w is the answer of what is left
-module _ {A : Type 0} (p : A → Bool) {w : Bool} {rest : List A} where
-  pub any_hit : {x : A} {rest' : List A} → rest ≡ x ∷ rest' → p x ≡ true → w ≡ anyb p rest → true ≡ w
-  any_hit {x} {rest'} e y h = sym (h ∙ ap (anyb p) e ∙ ap (λ (t : Bool). t || anyb p rest') y)
-
-  pub any_turn : {x : A} {rest' : List A} → rest ≡ x ∷ rest' → p x ≡ false → w ≡ anyb p rest → w ≡ anyb p rest'
-  any_turn {x} {rest'} e y h = h ∙ ap (anyb p) e ∙ ap (λ (t : Bool). t || anyb p rest') y
-
-  pub any_done : rest ≡ [] → w ≡ anyb p rest → false ≡ w
-  any_done e h = sym (h ∙ ap (anyb p) e)
-
--- ---- by key: where no key stands twice, what is said by key is said by place
 module _ {A : Type 0} (key : A → ℕ) where
   pub absent_pick : (i : ℕ) (xs : List A) → elemb i (map key xs) ≡ false → pick key i xs ≡ []
   unfolding pick
@@ -122,7 +120,7 @@ module _ {A : Type 0} (key : A → ℕ) where
   absent_change i f (x ∷ xs) h = let t = or-false (eqb (key x) i) (elemb i (map key xs)) h in rw (t.0, absent_change i f xs t.1) refl
 
   -- the keys have i exactly if an element of that key is found
-  pub any_key : (i : ℕ) (xs : List A) → anyb (λ x. eqb (key x) i) xs ≡ elemb i (map key xs)
+  pub any_key : (i : ℕ) (xs : List A) → list_any (λ x. eqb (key x) i) xs ≡ elemb i (map key xs)
   any_key i [] = refl
   any_key i (x ∷ xs) = ap (λ (t : Bool). eqb (key x) i || t) (any_key i xs)
 

@@ -1,5 +1,5 @@
 -- Rules that go through a list, one element after the other, as the loops of the code do.
-use Rattle.std.specs.Prelude.{Bool, true, false, ◌≡◌, refl}
+use Rattle.std.specs.Prelude.{true, ◌≡◌, refl}
 use mathlib.Core.List.{List, [], ◌∷◌}
 use Rattle.std.proofs.Math.Path.{ap}
 use Rattle.std.proofs.Common.{◌∙◌}
@@ -8,16 +8,13 @@ use Rattle.book.specs.Model.{Book, view}
 use Rattle.book.specs.Sound.{soundb}
 use Rattle.rules.specs.Rule.{Rule, done, ◌>>=◌, Outcome, undone, run}
 use Rattle.rules.specs.Steps.{run_book}
-use Rattle.part_offer.specs.Ends.{Reached, Ends, ends_full, ends_on, bind_full, bind_on}
+use Rattle.part_offer.specs.Ends.{Reached, bind_full, bind_on}
 use Rattle.book.specs.Refusals as refusals
 
 -- the rules r on the sound book q come to w, what the whole comes to
 pub record Left {A : Type 0} (w : Outcome Book A) (q : BookData) (r : Rule A) : Type 0 where
   pub sound : soundb q ≡ true
   pub rest : w ≡ run_book r (view q)
-
-pub left_start : {A : Type 0} (q : BookData) (r : Rule A) → soundb q ≡ true → Left (run_book r (view q)) q r
-left_start q r h = record { sound = h; rest = refl }
 
 -- the rules `every` of a list are the rules `one` of its first element, and then those of the others
 pub record Each {X A : Type 0} (every : List X → Rule A) (one : X → Rule (Unit {0})) (a : A) : Type 0 where
@@ -26,10 +23,10 @@ pub record Each {X A : Type 0} (every : List X → Rule A) (one : X → Rule (Un
 
 module _ {X A : Type 0} {every : List X → Rule A} {one : X → Rule (Unit {0})} {a : A} (each : Each every one a) {w : Outcome Book A} {q : BookData} where
   -- the turn of x, refused as full
-  pub each_full : {x : X} {xs xs' : List X} (next : BookData) {t : Bool} → Left w q (every xs) → xs ≡ x ∷ xs' → t ≡ true → Ends tt t next (run_book (one x) (view q)) → w ≡ undone refusals.full
-  each_full {x} {xs} {xs'} next l e t h =
+  pub each_full : {x : X} {xs xs' : List X} → Left w q (every xs) → xs ≡ x ∷ xs' → run_book (one x) (view q) ≡ undone refusals.full → w ≡ undone refusals.full
+  each_full {x} {xs} {xs'} l e h =
       l.rest ∙ ap (λ (ys : List X). run_book (every ys) (view q)) e ∙ each.more x xs' (view q)
-      ∙ bind_full (one x) (λ _. every xs') (view q) (ends_full tt next (run_book (one x) (view q)) t h)
+      ∙ bind_full (one x) (λ _. every xs') (view q) h
 
   -- the turn of x, which left the book next
   pub each_on : {x : X} {xs xs' : List X} (next : BookData) → Left w q (every xs) → xs ≡ x ∷ xs' → Reached tt next (run_book (one x) (view q)) → Left w next (every xs')
@@ -37,9 +34,6 @@ module _ {X A : Type 0} {every : List X → Rule A} {one : X → Rule (Unit {0})
     sound = h.sound;
     rest = l.rest ∙ ap (λ (ys : List X). run_book (every ys) (view q)) e ∙ each.more x xs' (view q) ∙ bind_on (one x) (λ _. every xs') (view q) h.outcome;
   }
-
-  pub each_turn : {x : X} {xs xs' : List X} (next : BookData) {t : Bool} → Left w q (every xs) → xs ≡ x ∷ xs' → t ≡ false → Ends tt t next (run_book (one x) (view q)) → Left w next (every xs')
-  each_turn {x} next l e t h = each_on next l e (ends_on tt next (run_book (one x) (view q)) t h)
 
   pub each_done : {xs : List X} → Left w q (every xs) → xs ≡ [] → Reached a q w
   unfolding run

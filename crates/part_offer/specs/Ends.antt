@@ -1,5 +1,5 @@
 -- How rules that put deliveries into the queue come out: refused as full, or with an answer and a sound book. And the replies of that.
-use Rattle.std.specs.Prelude.{ℕ, Bool, true, false, [], ◌≡◌, refl}
+use Rattle.std.specs.Prelude.{ℕ, true, [], ◌≡◌, refl, Option, Some, None}
 use Rattle.std.proofs.Common.{ap, sym, ◌∙◌, subst}
 use Rattle.book.specs.declared.BookData.{BookData}
 use Rattle.book.specs.Model.{Book, view}
@@ -18,22 +18,13 @@ pub record Reached {A : Type 0} (a : A) (q : BookData) (o : Outcome Book A) : Ty
   pub sound : soundb q ≡ true
   pub outcome : o ≡ ended (view q) [] a
 
-abbrev pub Ends : {A : Type 0} → A → Bool → BookData → Outcome Book A → Type 0
-Ends a true q o = o ≡ undone refusals.full
-Ends a false q o = Reached a q o
+-- what the code answers of them: no book, where the queue was full, or else the book that is left
+abbrev pub Ends : {A : Type 0} → A → Option BookData → Outcome Book A → Type 0
+Ends a None o = o ≡ undone refusals.full
+Ends a (Some q) o = Reached a q o
 
-module _ {A : Type 0} (a : A) (q : BookData) (o : Outcome Book A) where
-  pub ends_full : {t : Bool} → t ≡ true → Ends a t q o → o ≡ undone refusals.full
-  ends_full e h = subst (λ (t : Bool). Ends a t q o) e h
-
-  pub full_ends : {t : Bool} → t ≡ true → o ≡ undone refusals.full → Ends a t q o
-  full_ends e h = subst (λ (t : Bool). Ends a t q o) (sym e) h
-
-  pub ends_on : {t : Bool} → t ≡ false → Ends a t q o → Reached a q o
-  ends_on e h = subst (λ (t : Bool). Ends a t q o) e h
-
-  pub ends_as : (t : Bool) {p : Outcome Book A} → p ≡ o → Ends a t q o → Ends a t q p
-  ends_as t e h = subst (λ (k : Outcome Book A). Ends a t q k) (sym e) h
+pub ends_as : {A : Type 0} (a : A) (r : Option BookData) (o : Outcome Book A) {p : Outcome Book A} → p ≡ o → Ends a r o → Ends a r p
+ends_as {A = A} a r o e h = subst (λ (k : Outcome Book A). Ends a r k) (sym e) h
 
 -- a book that is left as it is
 pub stays : {A : Type 0} (a : A) (q : BookData) (o : Outcome Book A) → soundb q ≡ true → o ≡ ended (view q) [] a → Reached a q o
@@ -58,25 +49,25 @@ bind_turn m r b = run_bind (λ (x : Book). x) on_book m (λ _. turn r) b ∙ go 
     go (stopped s xs n) = refl
 
 -- rules that end with a, one after the other
-pub ends_then : {A B : Type 0} (a : A) (c : B) (t : Bool) (q : BookData) (m : Rule A) (b : Book) → Ends a t q (run_book m b) → Ends c t q (run_book (m >>= (λ _. turn (done c))) b)
+pub ends_then : {A B : Type 0} (a : A) (c : B) (r : Option BookData) (m : Rule A) (b : Book) → Ends a r (run_book m b) → Ends c r (run_book (m >>= (λ _. turn (done c))) b)
 unfolding run
-ends_then a c true q m b h = bind_full m (λ _. turn (done c)) b h
-ends_then a c false q m b h = record { sound = h.sound; outcome = bind_on m (λ _. turn (done c)) b h.outcome }
+ends_then a c None m b h = bind_full m (λ _. turn (done c)) b h
+ends_then a c (Some q) m b h = record { sound = h.sound; outcome = bind_on m (λ _. turn (done c)) b h.outcome }
 
 -- ---- replies
 abbrev pub refused_reply : BookData → ℕ → DoneReply
 refused_reply b n = record { answer = Refused n; book = b }
 
-abbrev pub settled_reply : BookData → Bool → BookData → DoneReply
-settled_reply b true q = refused_reply b refusals.full
-settled_reply b false q = record { answer = Done; book = q }
+abbrev pub settled_reply : BookData → Option BookData → DoneReply
+settled_reply b None = refused_reply b refusals.full
+settled_reply b (Some q) = record { answer = Done; book = q }
 
 -- the reply of a refusal
 pub refused_is : (b : BookData) (n : ℕ) (o : Outcome Book (Unit {0})) → o ≡ undone n → refused_reply b n ≡ done_reply b o
 refused_is b n o e = ap (done_reply b) (sym e)
 
-pub settled_is : (b : BookData) (t : Bool) (q : BookData) (o : Outcome Book (Unit {0})) → Ends tt t q o → settled_reply b t q ≡ done_reply b o
-settled_is b true q o h = refused_is b refusals.full o h
-settled_is b false q o h =
+pub settled_is : (b : BookData) (r : Option BookData) (o : Outcome Book (Unit {0})) → Ends tt r o → settled_reply b r ≡ done_reply b o
+settled_is b None o h = refused_is b refusals.full o h
+settled_is b (Some q) o h =
     ap {B = DoneReply} (λ (x : BookData). record { answer = Done; book = x }) (sym (back_view q h.sound))
     ∙ ap (done_reply b) (sym h.outcome)

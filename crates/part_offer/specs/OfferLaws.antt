@@ -17,7 +17,7 @@ use Rattle.book.specs.Sound.{soundb, sound_submitted, sound_delivery}
 use Rattle.book.specs.SoundLaws.{sound, sound_submitted_lem}
 use Rattle.book.specs.Zero.{zero_submitted}
 use Rattle.part_lookup.specs.Normal.{sound_normal, pending_are}
-use Rattle.part_lookup.specs.declared.Place.TheVariants.{At, Nothing}
+use Rattle.std.specs.Prelude.{Some, None}
 use Rattle.part_lookup.specs.Place.{place_of_id, has_id}
 use Rattle.part_lookup.specs.PlaceLaws.{at_first, first_filter, none_passes}
 use Rattle.rules.specs.Keyed.{pick}
@@ -62,11 +62,11 @@ module _ (b : BookData) (h : soundb b ≡ true) (d : PendingDelivery) (s : sound
 
 -- ---- an offer, by the place of the submission and the two tests
 module _ (b : BookData) (h : soundb b ≡ true) (i : ℕ) (trigger : DeliveryTrigger) (g : SubmissionDeliveryGoal) where
-  pub offer_absent : place_of_id i (view b) ≡ Nothing → run_book (offer i trigger g) (view b) ≡ ended (view b) [] tt
+  pub offer_absent : place_of_id i (view b) ≡ None → run_book (offer i trigger g) (view b) ≡ ended (view b) [] tt
   unfolding offer pick run
   offer_absent e = ap (λ (ts : List SubmittedTx). run_book (offer_to trigger g (is_queued i (view b)) ts) (view b)) (none_passes (has_id i) (view b).submitted e)
 
-  module _ (k : ℕ) (e : place_of_id i (view b) ≡ At k) where
+  module _ (k : ℕ) (e : place_of_id i (view b) ≡ Some k) where
     abbrev there : SubmittedTx
     there = get_or (view b).submitted k zero_submitted
 

@@ -11,51 +11,36 @@ ghost use Rattle.rules.specs.Calls.Offer.{is_news, deliverable as isDeliverable,
 
 use book::refusals::FULL;
 use book::{
-    BookData, DeliveryTrigger, OptionalId, PendingDelivery, PendingSubmissionIntent,
-    SubmissionDeliveryGoal, SubmissionId, SubmittedEntry, SubmittedTx,
+    BookData, DeliveryTrigger, PendingDelivery, PendingSubmissionIntent, SubmissionDeliveryGoal,
+    SubmissionId, SubmittedEntry, SubmittedTx,
 };
 use part_change::push_pending;
-use part_lookup::{Place, is_queued, position_of, submitted_at};
+use part_lookup::{is_queued, position_of, submitted_at};
 use part_replies::{CallAnswer, DoneReply};
 use part_submitted::entry::{active_entry, fee_unresolved};
 use part_submitted::fingerprint::current_variant_acknowledged;
 
-// The queue was full, or else the book that is left.
-#[derive(Clone, Copy)]
-pub struct Offered {
-    pub full: bool,
-    pub book: BookData,
-}
-
-// A 17th entry is refused.
-pub fn enqueue(b: BookData, d: PendingDelivery) -> Offered
+// The book with one more entry; none where that would be a 17th.
+pub fn enqueue(b: BookData, d: PendingDelivery) -> Option<BookData>
     requires { (soundb b ≡ true) × (sound_delivery d ≡ true) }
-    ensures { Ends tt result.full result.book (run_book (step (note (toQueue d))) (view b)) }
+    ensures { Ends tt result (run_book (step (note (toQueue d))) (view b)) }
 {
     if b.pending_count == 16 {
-        return Offered {
-            full: true,
-            book: b,
-        };
+        return None;
     }
-    let out = push_pending(b, d);
-    Offered {
-        full: false,
-        book: out,
-    }
+    Some(push_pending(b, d))
 }
 
 fn is_news(trigger: DeliveryTrigger) -> bool
     ensures { result ≡ is_news trigger }
 {
-    match trigger {
-        DeliveryTrigger::Protocol => false,
-        DeliveryTrigger::FreshChain => true,
-        DeliveryTrigger::Rollback => false,
-        DeliveryTrigger::ProviderReadiness => true,
-    }
+    matches!(
+        trigger,
+        DeliveryTrigger::FreshChain | DeliveryTrigger::ProviderReadiness
+    )
 }
 
+#[tactic(auto, unfolding(rules::specs::Calls::Offer::deliverable))]
 fn deliverable(t: SubmittedTx, trigger: DeliveryTrigger, goal: SubmissionDeliveryGoal) -> bool
     ensures { result ≡ isDeliverable trigger goal t }
 {
@@ -63,8 +48,8 @@ fn deliverable(t: SubmittedTx, trigger: DeliveryTrigger, goal: SubmissionDeliver
     let active = active_entry(e);
     let unresolved = fee_unresolved(e);
     let news = is_news(trigger);
-    let protocol = trigger.is_protocol();
-    let ensure = goal.is_ensure_broadcast();
+    let protocol = trigger == DeliveryTrigger::Protocol;
+    let ensure = goal == SubmissionDeliveryGoal::EnsureBroadcast;
     let live = t.slots.active_attempt.present;
     let finalized = t
         .slots
@@ -76,6 +61,7 @@ fn deliverable(t: SubmittedTx, trigger: DeliveryTrigger, goal: SubmissionDeliver
 }
 
 // The queue entry of a retained submission's own intent.
+#[tactic(auto, unfolding(rules::specs::Calls::Offer::redelivery))]
 fn redelivery(
     e: SubmittedEntry,
     trigger: DeliveryTrigger,
@@ -83,55 +69,45 @@ fn redelivery(
 ) -> PendingDelivery
     ensures { result ≡ redeliveryOf trigger goal e }
 {
-    let id = e.id;
-    let bundle = e.intent.base_bundle;
-    let status = e.state.status;
-    let expiry = status.expiry;
-    let fee = e.intent.fee_intent;
     let intent = PendingSubmissionIntent {
-        id: OptionalId::Of(id),
-        bundle: bundle,
-        expiry: expiry,
-        fee_intent: fee,
+        id: Some(e.id),
+        bundle: e.intent.base_bundle,
+        expiry: e.state.status.expiry,
+        fee_intent: e.intent.fee_intent,
     };
     PendingDelivery {
-        intent: intent,
-        trigger: trigger,
-        goal: goal,
+        intent,
+        trigger,
+        goal,
     }
 }
 
-// `queue_retained_delivery` of the Rust. What is not retained, is queued, or is not to be delivered leaves the book as it is.
+// `queue_retained_delivery` of the Rust: none where the queue is full. What is not retained, is queued, or is not to be delivered leaves
+// the book as it is.
 pub fn offer(
     b: BookData,
     id: SubmissionId,
     trigger: DeliveryTrigger,
     goal: SubmissionDeliveryGoal,
-) -> Offered
+) -> Option<BookData>
     requires { soundb b ≡ true }
-    ensures { Ends tt result.full result.book (run_book (offerOf id.0 trigger goal) (view b)) }
+    ensures { Ends tt result (run_book (offerOf id.0 trigger goal) (view b)) }
 {
-    let place = position_of(b, id);
-    let Place::At(k) = place else {
-        return Offered {
-            full: false,
-            book: b,
-        };
+    let place = position_of(&b, id);
+    let Some(k) = place else {
+        return Some(b);
     };
-    let queued = is_queued(b, id);
-    let t = submitted_at(b, k);
+    let queued = is_queued(&b, id);
+    let t = submitted_at(&b, k);
     let due = deliverable(t, trigger, goal);
     if !queued & due {
-        let e = t.entry;
-        return enqueue(b, redelivery(e, trigger, goal));
+        return enqueue(b, redelivery(t.entry, trigger, goal));
     }
-    Offered {
-        full: false,
-        book: b,
-    }
+    Some(b)
 }
 
 // A fee upgrade where the current variant is acknowledged.
+#[tactic(auto, unfolding(rules::specs::Calls::Offer::goal_for))]
 pub fn goal_for(e: SubmittedEntry) -> SubmissionDeliveryGoal
     ensures { result ≡ goal_for e }
 {
@@ -151,13 +127,12 @@ pub fn refused(b: BookData, n: u8) -> DoneReply
 }
 
 // What a call on the book b answers after its offers.
-pub fn settled(b: BookData, o: Offered) -> DoneReply
-    ensures { result ≡ settled_reply b o.full o.book }
+pub fn settled(b: BookData, o: Option<BookData>) -> DoneReply
+    ensures { result ≡ settled_reply b o }
 {
-    let out = o.book;
-    if o.full {
+    let Some(out) = o else {
         return refused(b, FULL);
-    }
+    };
     DoneReply {
         answer: CallAnswer::Done,
         book: out,

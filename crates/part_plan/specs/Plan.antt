@@ -1,7 +1,7 @@
 -- Paper 01, "Drain and its plan": what is decided about one candidate, as data. `drain` has the law that carrying it out is what the
 -- rules do.
 use Rattle.std.specs.Prelude.{ℕ, ◌+◌, cond, not, List, eqb, ltb, length}
-use Rattle.std.proofs.Math.Option.{Option, none, some}
+use Rattle.std.specs.Prelude.{Option, None, Some}
 use Rattle.base_lists.specs.Lists.{elemb, push_new}
 use Rattle.book.specs.declared.SubmissionId.{SubmissionId}
 use Rattle.book.specs.declared.SubmissionDeliveryGoal.{SubmissionDeliveryGoal}
@@ -67,8 +67,8 @@ unfoldable pub removal_plan : List ℕ → SubmissionDrainFailure → Submission
 removal_plan retired f = failing (cond (ltb 64 (length (push_new retired f.candidate_id.0))) Full (Planned Removed)) f
 
 abbrev pub known_plan_by : SubmittedPlace → List ℕ → List ℕ → ℕ → PendingDelivery → List ℕ → SubmittedTx → Option DrainFailureCause → SubmissionPlanDelta
-known_plan_by p emitted retired n c f t none = met_plan p emitted c t
-known_plan_by p emitted retired n c f t (some m) =
+known_plan_by p emitted retired n c f t None = met_plan p emitted c t
+known_plan_by p emitted retired n c f t (Some m) =
     removal_plan retired (failure_at n m t.entry.id f)
 
 unfoldable pub known_plan : SubmittedPlace → List ℕ → List ℕ → ℕ → PendingDelivery → List ℕ → SubmittedTx → SubmissionPlanDelta

@@ -2,15 +2,15 @@
 #![tactic(auto)]
 
 ghost use Rattle.std.specs.Prelude.{◌≡◌, ◌≤◌, ◌<◌};
-ghost use Rattle.book.specs.Model.{list16};
+ghost use Rattle.book.specs.Model.{id_list};
 ghost use Rattle.rules.specs.Calls.Plan.{last64};
 ghost use Rattle.part_plan.specs.declared.PlanAction.TheVariants.{Failed};
 ghost use Rattle.part_plan.specs.declared.PlanAnswer.TheVariants.{Planned};
 ghost use Rattle.part_plan.specs.Plan.{failing, failure_at, storing, issue_plan, deliver_plan};
 
-use book::{Ids16, SubmissionDeliveryGoal, SubmissionId, SubmittedTx, Token};
+use book::{Ids, SubmissionDeliveryGoal, SubmissionId, SubmittedTx, Token};
 use book_answers::{DrainFailureCause, DrainedSubmission, SubmissionDrainFailure};
-use part_ids::has16;
+use part_ids::has;
 use part_slots::{issued, taken};
 use part_submitted::drained::handed;
 use part_submitted::fingerprint::current_variant_fingerprint;
@@ -63,13 +63,11 @@ pub fn failing(answer: PlanAnswer, f: SubmissionDrainFailure) -> SubmissionPlanD
         next_id: SubmissionId(0),
         next_token: Token(0),
     };
-    let tx = SubmittedTx::zero();
-    let submission = DrainedSubmission::zero();
     SubmissionPlanDelta {
-        answer: answer,
-        place: place,
-        tx: tx,
-        submission: submission,
+        answer,
+        place,
+        tx: SubmittedTx::zero(),
+        submission: DrainedSubmission::zero(),
         failure: f,
     }
 }
@@ -78,14 +76,12 @@ pub fn failing(answer: PlanAnswer, f: SubmissionDrainFailure) -> SubmissionPlanD
 pub fn storing(answer: PlanAnswer, place: SubmittedPlace, tx: SubmittedTx) -> SubmissionPlanDelta
     ensures { result ≡ storing answer place tx }
 {
-    let submission = DrainedSubmission::zero();
-    let f = SubmissionDrainFailure::zero();
     SubmissionPlanDelta {
-        answer: answer,
-        place: place,
-        tx: tx,
-        submission: submission,
-        failure: f,
+        answer,
+        place,
+        tx,
+        submission: DrainedSubmission::zero(),
+        failure: SubmissionDrainFailure::zero(),
     }
 }
 
@@ -100,7 +96,7 @@ pub fn fails(
 {
     let failure = SubmissionDrainFailure {
         candidate_index: n,
-        cause: cause,
+        cause,
         candidate_id: id,
         intent_fingerprint: f,
     };
@@ -109,53 +105,45 @@ pub fn fails(
 
 // ---- issuing
 // The submission with the next token as live.
+#[tactic(auto, unfolding(crate::specs::Plan::issue_plan))]
 fn issue(place: SubmittedPlace, t: SubmittedTx, goal: SubmissionDeliveryGoal) -> SubmissionPlanDelta
     requires { place.next_token.0 < last64 }
     ensures { result ≡ issue_plan place t goal }
 {
     let token = place.next_token;
-    let next_id = place.next_id;
     let slots = t.slots;
     let entry = t.entry;
     let fingerprint = current_variant_fingerprint(entry);
     let submission = handed(token, goal, entry, taken(slots), fingerprint);
     let live = issued(slots, token, goal, fingerprint);
     let after = SubmittedPlace {
-        index: place.index,
-        count: place.count,
-        next_id: next_id,
         next_token: Token(token.0 + 1),
+        ..place
     };
-    let tx = SubmittedTx {
-        slots: live,
-        entry: entry,
-    };
-    let f = SubmissionDrainFailure::zero();
     SubmissionPlanDelta {
         answer: PlanAnswer::Planned(PlanAction::Issued),
         place: after,
-        tx: tx,
-        submission: submission,
-        failure: f,
+        tx: SubmittedTx { slots: live, entry },
+        submission,
+        failure: SubmissionDrainFailure::zero(),
     }
 }
 
 // An id is emitted once a drain.
+#[tactic(auto, unfolding(crate::specs::Plan::deliver_plan))]
 pub fn deliver(
     place: SubmittedPlace,
-    emitted: Ids16,
+    emitted: Ids<16>,
     t: SubmittedTx,
     goal: SubmissionDeliveryGoal,
 ) -> SubmissionPlanDelta
     requires { emitted.count ≤ 16 }
-    ensures { result ≡ deliver_plan place (list16 emitted) t goal }
+    ensures { result ≡ deliver_plan place (id_list emitted) t goal }
 {
-    let entry = t.entry;
-    let id = entry.id;
-    if has16(emitted, id) {
+    if has(&emitted, t.entry.id) {
         return storing(PlanAnswer::Planned(PlanAction::Stored), place, t);
     }
-    if place.next_token.0 == 18446744073709551615 {
+    if place.next_token.0 == u64::MAX {
         return storing(PlanAnswer::Exhausted, place, t);
     }
     issue(place, t, goal)

@@ -6,9 +6,9 @@ use Rattle.std.proofs.Math.Bool.{true, false, cond, not}
 use mathlib.Core.List.{List}
 use Rattle.base_lists.specs.Lists.{elemb, insert_up}
 use Rattle.base_lists.specs.Laws.{take_cells}
-use Rattle.book.specs.Model.{ids16}
+use Rattle.book.specs.Model.{id_cells}
 use Rattle.book.specs.declared.Height.{Height}
-use Rattle.book.specs.declared.OptionalHeight.{OptionalHeight}
+use Rattle.std.specs.Prelude.{Option}
 use Rattle.book.specs.declared.ReplayEpoch.{ReplayEpoch}
 use Rattle.rules.specs.Calls.Replay.{is_at, is_before}
 use Rattle.rules.specs.Rule.{begin_epoch, end_epoch, unreplay}
@@ -19,8 +19,8 @@ use Rattle.part_replay.specs.Epoch.{Normal, epoch, begun, finished, marked, remo
 abbrev pub epoch_of : Rest → ReplayEpoch
 epoch_of s = epoch s.rollback s.replayed
 
-pub normal_epoch : (h : OptionalHeight) (is : List ℕ) → length is ≤ 16 → Normal (epoch h is)
-normal_epoch h is l = record { count = l; held = ap ids16 (sym (take_cells 16 0 is)) }
+pub normal_epoch : (h : Option Height) (is : List ℕ) → length is ≤ 16 → Normal (epoch h is)
+normal_epoch h is l = record { count = l; held = ap (id_cells 16) (sym (take_cells 16 0 is)) }
 
 module _ (s : Rest) where
   pub begin_starts : (h : Height) → is_at s.rollback h.0 ≡ false → begun (epoch_of s) h ≡ record { started = true; epoch = epoch_of (noted (begin_epoch h) s) }

@@ -1,15 +1,14 @@
 -- What each answer struct says: paper 01's number and values for each outcome of a call's rules, and the book that is left.
 use Rattle.std.specs.Prelude.{ℕ, Bool, true, false, cond, List, [], length}
-use Rattle.std.proofs.Math.Option.{Option, none, some}
+use Rattle.std.specs.Prelude.{Option, None, Some}
 use Rattle.codec_forms.specs.Wire.{overlay}
-use Rattle.book.specs.Model.{Book, view, back, ids64}
+use Rattle.book.specs.Model.{Book, view, back, id_cells}
 use Rattle.book.specs.Sound.{soundb}
 use Rattle.book.specs.Zero.{zero_fee_intent, no_attempt}
 use Rattle.book.specs.declared.BookData.{BookData}
 use Rattle.book.specs.declared.DeliveryAttempt.{DeliveryAttempt}
 use Rattle.book.specs.declared.OptionalAttempt.{OptionalAttempt}
-use Rattle.book.specs.declared.OptionalHeight.{OptionalHeight}
-use Rattle.book.specs.declared.OptionalHeight.TheVariants.{NoHeight}
+use Rattle.book.specs.declared.Height.{Height}
 use Rattle.book.specs.declared.SubmissionFeeIntent.{SubmissionFeeIntent}
 use Rattle.book_answers.specs.declared.BookSummary.{BookSummary}
 use Rattle.book_answers.specs.declared.FinalizedSubmission.{FinalizedSubmission}
@@ -59,16 +58,16 @@ value_of z (stopped m xs n) = z
 
 -- ---- an optional value as a mark and a cell
 abbrev pub is_some : {A : Type 0} → Option A → Bool
-is_some none = false
-is_some (some a) = true
+is_some None = false
+is_some (Some a) = true
 
 abbrev pub or_else : {A : Type 0} → A → Option A → A
-or_else z none = z
-or_else z (some a) = a
+or_else z None = z
+or_else z (Some a) = a
 
 abbrev pub attempt_in : Option DeliveryAttempt → OptionalAttempt
-attempt_in none = no_attempt
-attempt_in (some a) = record { present = true; attempt = a }
+attempt_in None = no_attempt
+attempt_in (Some a) = record { present = true; attempt = a }
 
 -- ---- a reply for each kind of value
 abbrev pub done_reply : BookData → Outcome Book (Unit {0}) → DoneReply
@@ -78,28 +77,28 @@ abbrev pub status_reply : BookData → Outcome Book SubmissionAttemptStatus → 
 status_reply b o = record { answer = answer_of o; status = value_of Stale o; book = book_left b o }
 
 abbrev pub ids_reply : BookData → Outcome Book (List ℕ) → IdsReply
-ids_reply b o = record { answer = answer_of o; ids = ids64 (value_of [] o); book = book_left b o }
+ids_reply b o = record { answer = answer_of o; ids = id_cells 64 (value_of [] o); book = book_left b o }
 
 abbrev pub flag_reply : BookData → Outcome Book Bool → FlagReply
 flag_reply b o = record { answer = answer_of o; flag = value_of false o; book = book_left b o }
 
-abbrev pub height_reply : BookData → Outcome Book OptionalHeight → HeightReply
-height_reply b o = record { answer = answer_of o; height = value_of NoHeight o; book = book_left b o }
+abbrev pub height_reply : BookData → Outcome Book (Option Height) → HeightReply
+height_reply b o = record { answer = answer_of o; height = value_of None o; book = book_left b o }
 
 abbrev pub attempt_reply : BookData → Outcome Book (Option DeliveryAttempt) → AttemptReply
-attempt_reply b o = record { answer = answer_of o; attempt = attempt_in (value_of none o); book = book_left b o }
+attempt_reply b o = record { answer = answer_of o; attempt = attempt_in (value_of None o); book = book_left b o }
 
 abbrev pub look_reply : BookData → Outcome Book (Option SubmissionLook) → LookReply
-look_reply b o = record { answer = answer_of o; present = is_some (value_of none o); look = or_else zero_look (value_of none o); book = book_left b o }
+look_reply b o = record { answer = answer_of o; present = is_some (value_of None o); look = or_else zero_look (value_of None o); book = book_left b o }
 
 abbrev pub summary_reply : BookData → Outcome Book BookSummary → SummaryReply
 summary_reply b o = record { answer = answer_of o; summary = value_of zero_summary o; book = book_left b o }
 
 abbrev pub fee_intent_reply : BookData → Outcome Book (Option SubmissionFeeIntent) → FeeIntentReply
-fee_intent_reply b o = record { answer = answer_of o; present = is_some (value_of none o); fee_intent = or_else zero_fee_intent (value_of none o); book = book_left b o }
+fee_intent_reply b o = record { answer = answer_of o; present = is_some (value_of None o); fee_intent = or_else zero_fee_intent (value_of None o); book = book_left b o }
 
 abbrev pub finalize_reply : BookData → Outcome Book (Option FinalizedSubmission) → FinalizeReply
-finalize_reply b o = record { answer = answer_of o; present = is_some (value_of none o); finalized = or_else zero_final (value_of none o); book = book_left b o }
+finalize_reply b o = record { answer = answer_of o; present = is_some (value_of None o); finalized = or_else zero_final (value_of None o); book = book_left b o }
 
 -- what is written into the lent buffer: the bytes beyond it stay
 abbrev pub written_reply : BookData → Outcome Book (List ℕ) → WrittenReply

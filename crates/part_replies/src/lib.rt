@@ -6,7 +6,7 @@ ghost use Rattle.std.specs.Prelude.{◌≡◌};
 ghost use Rattle.rules.specs.Rule.{undone};
 ghost use Rattle.part_replies.specs.Reply.{done_reply, ids_reply};
 
-use book::{BookData, Ids64, OptionalAttempt, OptionalHeight, SubmissionFeeIntent};
+use book::{BookData, Height, Ids, OptionalAttempt, SubmissionFeeIntent};
 use book_answers::{BookSummary, FinalizedSubmission, SubmissionAttemptStatus, SubmissionLook};
 
 #[derive(Clone, Copy)]
@@ -32,7 +32,7 @@ pub struct StatusReply {
 #[derive(Clone, Copy)]
 pub struct IdsReply {
     pub answer: CallAnswer,
-    pub ids: Ids64,
+    pub ids: Ids<64>,
     pub book: BookData,
 }
 
@@ -46,7 +46,7 @@ pub struct FlagReply {
 #[derive(Clone, Copy)]
 pub struct HeightReply {
     pub answer: CallAnswer,
-    pub height: OptionalHeight,
+    pub height: Option<Height>,
     pub book: BookData,
 }
 
@@ -109,7 +109,7 @@ pub fn refused_done(b: BookData, n: u8) -> DoneReply
 pub fn refused_ids(b: BookData, n: u8) -> IdsReply
     ensures { result ≡ ids_reply b (undone n) }
 {
-    let none = Ids64 {
+    let none = Ids {
         count: 0,
         items: [0; 64],
     };

@@ -5,7 +5,6 @@ ghost use Rattle.std.specs.Prelude.{◌≡◌};
 ghost use Rattle.rules.specs.Steps.Slots.{present, issue_attempt, taken as taken_of, slots_issued, slots_aside, slots_final, resolved, relationship_to};
 ghost use Rattle.rules.specs.Calls.Common.{has_token};
 
-use base_lists::same32;
 use book::{
     AttemptSlots, DeliveryAttempt, OptionalAttempt, OptionalHash, SubmissionDeliveryGoal, Token,
 };
@@ -22,20 +21,21 @@ pub fn filled(a: DeliveryAttempt) -> OptionalAttempt
 }
 
 // The live attempt, if any, is set aside.
+#[tactic(auto, unfolding(rules::specs::Steps::Slots::slots_aside))]
 pub fn stopped(s: AttemptSlots) -> AttemptSlots
     ensures { result ≡ slots_aside s }
 {
     if s.active_attempt.present {
-        let live = s.active_attempt;
         return AttemptSlots {
             active_attempt: OptionalAttempt::zero(),
-            completed_attempt: live,
+            completed_attempt: s.active_attempt,
         };
     }
     s
 }
 
 // What issuing takes as predecessor: the live attempt, else the one set aside.
+#[tactic(auto, unfolding(rules::specs::Steps::Slots::taken))]
 pub fn taken(s: AttemptSlots) -> OptionalAttempt
     ensures { result ≡ taken_of s }
 {
@@ -46,6 +46,7 @@ pub fn taken(s: AttemptSlots) -> OptionalAttempt
     }
 }
 
+#[tactic(auto, unfolding(rules::specs::Steps::Slots::issue_attempt))]
 pub fn new_attempt(
     token: Token,
     goal: SubmissionDeliveryGoal,
@@ -54,14 +55,15 @@ pub fn new_attempt(
     ensures { result ≡ issue_attempt token.0 goal fingerprint }
 {
     DeliveryAttempt {
-        token: token,
-        goal: goal,
+        token,
+        goal,
         drained_variant_fingerprint: fingerprint,
         finalized_variant_fingerprint: OptionalHash::zero(),
     }
 }
 
 // The slot that issuing took is emptied, and the new attempt is the live one.
+#[tactic(auto, unfolding(rules::specs::Steps::Slots::slots_issued))]
 pub fn issued(
     s: AttemptSlots,
     token: Token,
@@ -72,10 +74,9 @@ pub fn issued(
 {
     let live = filled(new_attempt(token, goal, fingerprint));
     if s.active_attempt.present {
-        let kept = s.completed_attempt;
         return AttemptSlots {
             active_attempt: live,
-            completed_attempt: kept,
+            completed_attempt: s.completed_attempt,
         };
     }
     AttemptSlots {
@@ -85,25 +86,25 @@ pub fn issued(
 }
 
 // The live attempt, if any, gets its final fingerprint.
+#[tactic(auto, unfolding(rules::specs::Steps::Slots::slots_final))]
 pub fn finalized(s: AttemptSlots, fingerprint: [u8; 32]) -> AttemptSlots
     ensures { result ≡ slots_final fingerprint s }
 {
     if s.active_attempt.present {
-        let last = OptionalHash {
+        let mut a = s.active_attempt.attempt;
+        a.finalized_variant_fingerprint = OptionalHash {
             present: true,
             hash: fingerprint,
         };
-        let mut a = s.active_attempt.attempt;
-        a.finalized_variant_fingerprint = last;
-        let aside = s.completed_attempt;
         return AttemptSlots {
             active_attempt: filled(a),
-            completed_attempt: aside,
+            completed_attempt: s.completed_attempt,
         };
     }
     s
 }
 
+#[tactic(auto, unfolding(rules::specs::Steps::Slots::resolved))]
 pub fn resolved_variant_fingerprint(a: DeliveryAttempt) -> [u8; 32]
     ensures { result ≡ resolved a }
 {
@@ -115,6 +116,7 @@ pub fn resolved_variant_fingerprint(a: DeliveryAttempt) -> [u8; 32]
 }
 
 // The relationship of an attempt with this goal and fingerprint to its predecessor p.
+#[tactic(auto, unfolding(rules::specs::Steps::Slots::relationship_to))]
 pub fn relationship(
     p: OptionalAttempt,
     goal: SubmissionDeliveryGoal,
@@ -123,15 +125,16 @@ pub fn relationship(
     ensures { result ≡ relationship_to p goal fingerprint }
 {
     if p.present {
-        if goal.is_ensure_broadcast() {
-            let a = p.attempt;
-            let before = resolved_variant_fingerprint(a);
-            if same32(&before, &fingerprint) {
-                return SubmissionAttemptRelationship::Exact;
+        return match goal {
+            SubmissionDeliveryGoal::FeeUpgrade => SubmissionAttemptRelationship::NewerFeeBearing,
+            SubmissionDeliveryGoal::EnsureBroadcast => {
+                if resolved_variant_fingerprint(p.attempt) == fingerprint {
+                    SubmissionAttemptRelationship::Exact
+                } else {
+                    SubmissionAttemptRelationship::Other
+                }
             }
-            return SubmissionAttemptRelationship::Other;
-        }
-        return SubmissionAttemptRelationship::NewerFeeBearing;
+        };
     }
     SubmissionAttemptRelationship::Initial
 }
@@ -139,7 +142,7 @@ pub fn relationship(
 pub fn holds_token(a: OptionalAttempt, t: Token) -> bool
     ensures { result ≡ has_token t.0 a }
 {
-    a.present & (a.attempt.token.0 == t.0)
+    a.present && a.attempt.token == t
 }
 
 // The same as `stopped`, of the slots behind a borrow: these two slots and nothing else.

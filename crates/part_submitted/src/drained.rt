@@ -12,18 +12,17 @@ use book::{
     RetainedIntent, SubmissionBroadcastVariant, SubmissionChainTerminality, SubmissionDeliveryGoal,
     SubmissionId, SubmissionState, SubmissionStatus, SubmittedEntry, Token,
 };
-use book_answers::{DrainedSubmission, OptionalToken};
+use book_answers::DrainedSubmission;
 use part_slots::relationship;
 
 // The token in a slot.
-pub fn token_in(p: OptionalAttempt) -> OptionalToken
+pub fn token_in(p: OptionalAttempt) -> Option<Token>
     ensures { result ≡ token_in p }
 {
     if p.present {
-        let t = p.attempt.token;
-        return OptionalToken::Of(t);
+        return Some(p.attempt.token);
     }
-    OptionalToken::NoToken
+    None
 }
 
 // What is handed out for an entry that gets this token, with predecessor p. The fingerprint is that of its current variant.
@@ -37,21 +36,14 @@ pub fn handed(
     requires { fingerprint ≡ current_fingerprint e }
     ensures { result ≡ handed_out token.0 goal e p }
 {
-    let id = e.id;
-    let status = e.state.status;
-    let expiry = status.expiry;
-    let before = token_in(p);
-    let relation = relationship(p, goal, fingerprint);
-    let bundle = current_bundle(e);
-    let fee = open_fee_intent(e);
     DrainedSubmission {
-        id: id,
+        id: e.id,
         attempt_token: token,
-        predecessor_attempt_token: before,
-        relationship: relation,
-        bundle: bundle,
-        expiry: expiry,
-        fee_intent: fee,
+        predecessor_attempt_token: token_in(p),
+        relationship: relationship(p, goal, fingerprint),
+        bundle: current_bundle(e),
+        expiry: e.state.status.expiry,
+        fee_intent: open_fee_intent(e),
     }
 }
 
@@ -75,28 +67,20 @@ pub fn new_entry(
     requires { fingerprint ≡ intent_of p }
     ensures { result ≡ new_entry id p }
 {
-    let base = p.bundle;
-    let fee = p.fee_intent;
-    let kind = fee.kind;
-    let expiry = p.expiry;
     let status = SubmissionStatus {
-        fee_resolution: first_resolution(kind),
+        fee_resolution: first_resolution(p.fee_intent.kind),
         chain_terminality: SubmissionChainTerminality::Active,
-        expiry: expiry,
+        expiry: p.expiry,
     };
     let intent = RetainedIntent {
         intent_fingerprint: fingerprint,
-        base_bundle: base,
-        fee_intent: fee,
+        base_bundle: p.bundle,
+        fee_intent: p.fee_intent,
     };
     let state = SubmissionState {
         current_variant: SubmissionBroadcastVariant::zero(),
         wallet_acknowledged_variant: OptionalHash::zero(),
-        status: status,
+        status,
     };
-    SubmittedEntry {
-        id: id,
-        intent: intent,
-        state: state,
-    }
+    SubmittedEntry { id, intent, state }
 }

@@ -1,20 +1,19 @@
 // What is asked of a submission, a fee intent or an expiry.
 ghost use Rattle.std.specs.Prelude.{◌≡◌};
-ghost use Rattle.archive_bundle_form.specs.Forms.{kind_number};
 ghost use Rattle.rules.specs.Parts.{min_expiry, same_fee_intent, current_bundle, current_applied_fee, fee_unresolved, open_fee_intent, active_entry, holds_hash};
 
-use base_lists::same32;
 use book::{
-    FeeIntentKind, OptionalHash, OptionalHeight, SpendBundle, SubmissionFeeIntent, SubmittedEntry,
+    FeeResolution, Height, OptionalHash, SpendBundle, SubmissionChainTerminality,
+    SubmissionFeeIntent, SubmittedEntry,
 };
 
-pub fn min_expiry(a: OptionalHeight, b: OptionalHeight) -> OptionalHeight
+pub fn min_expiry(a: Option<Height>, b: Option<Height>) -> Option<Height>
     ensures { result ≡ min_expiry a b }
 {
-    let OptionalHeight::At(g) = a else {
+    let Some(g) = a else {
         return b;
     };
-    let OptionalHeight::At(h) = b else {
+    let Some(h) = b else {
         return a;
     };
     if h.0 < g.0 {
@@ -23,27 +22,10 @@ pub fn min_expiry(a: OptionalHeight, b: OptionalHeight) -> OptionalHeight
     a
 }
 
-pub fn kind_number(k: FeeIntentKind) -> u64
-    ensures { result ≡ kind_number k }
-{
-    match k {
-        FeeIntentKind::AlreadyPaid => 0,
-        FeeIntentKind::NoFeeConfigured => 1,
-        FeeIntentKind::Attach => 2,
-    }
-}
-
 pub fn same_fee_intent(a: SubmissionFeeIntent, b: SubmissionFeeIntent) -> bool
     ensures { result ≡ same_fee_intent a b }
 {
-    let ka = a.kind;
-    let kb = b.kind;
-    let ta = a.target;
-    let tb = b.target;
-    let m = kind_number(ka);
-    let n = kind_number(kb);
-    let t = same32(&ta, &tb);
-    (m == n) & (a.amount == b.amount) & t
+    (a.kind as u8 == b.kind as u8) & (a.amount == b.amount) & (a.target == b.target)
 }
 
 pub fn current_bundle(e: SubmittedEntry) -> SpendBundle
@@ -69,9 +51,7 @@ pub fn current_applied_fee(e: SubmittedEntry) -> u64
 pub fn fee_unresolved(e: SubmittedEntry) -> bool
     ensures { result ≡ fee_unresolved e }
 {
-    let status = e.state.status;
-    let r = status.fee_resolution;
-    r.is_unresolved()
+    e.state.status.fee_resolution == FeeResolution::Unresolved
 }
 
 // The unresolved fee intent, or `AlreadyPaid`.
@@ -87,16 +67,12 @@ pub fn open_fee_intent(e: SubmittedEntry) -> SubmissionFeeIntent
 pub fn active_entry(e: SubmittedEntry) -> bool
     ensures { result ≡ active_entry e }
 {
-    let status = e.state.status;
-    let c = status.chain_terminality;
-    c.is_active()
+    e.state.status.chain_terminality == SubmissionChainTerminality::Active
 }
 
 // The fingerprint is there, and it is this one.
 pub fn holds_hash(h: OptionalHash, f: [u8; 32]) -> bool
     ensures { result ≡ holds_hash h f }
 {
-    let x = h.hash;
-    let t = same32(&x, &f);
-    h.present & t
+    h.present & (h.hash == f)
 }

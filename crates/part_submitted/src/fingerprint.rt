@@ -7,8 +7,7 @@ ghost use Rattle.rules.specs.Parts.{current_fingerprint, current_acknowledged, i
 
 use crate::entry::{current_bundle, holds_hash};
 use archive_fingerprints::{intent_fingerprint, variant_fingerprint};
-use base_lists::same32;
-use book::{FeeResolution, PendingSubmissionIntent, SpendBundle, SubmittedEntry};
+use book::{FeeIntentKind, FeeResolution, PendingSubmissionIntent, SpendBundle, SubmittedEntry};
 use book_sound::is_readable_bundle;
 
 pub fn current_variant_fingerprint(e: SubmittedEntry) -> [u8; 32]
@@ -22,8 +21,10 @@ pub fn current_variant_acknowledged(e: SubmittedEntry) -> bool
     ensures { result ≡ current_acknowledged e }
 {
     if e.state.wallet_acknowledged_variant.present {
-        let h = e.state.wallet_acknowledged_variant;
-        return holds_hash(h, current_variant_fingerprint(e));
+        return holds_hash(
+            e.state.wallet_acknowledged_variant,
+            current_variant_fingerprint(e),
+        );
     }
     false
 }
@@ -32,25 +33,16 @@ pub fn current_variant_acknowledged(e: SubmittedEntry) -> bool
 pub fn intent_of(p: PendingSubmissionIntent) -> [u8; 32]
     ensures { result ≡ intent_of p }
 {
-    let bundle = p.bundle;
-    let expiry = p.expiry;
-    let fee = p.fee_intent;
-    intent_fingerprint(bundle, expiry, fee)
+    intent_fingerprint(p.bundle, p.expiry, p.fee_intent)
 }
 
 fn consistent(r: FeeResolution, attach: bool, bearing: bool) -> bool
     ensures { result ≡ consistent_fee r attach bearing }
 {
     match r {
-        FeeResolution::Unresolved => {
-            return attach & !bearing;
-        }
-        FeeResolution::NotRequested => {
-            return !bearing;
-        }
-        FeeResolution::Attached => {
-            return bearing;
-        }
+        FeeResolution::Unresolved => attach & !bearing,
+        FeeResolution::NotRequested => !bearing,
+        FeeResolution::Attached => bearing,
     }
 }
 
@@ -58,22 +50,18 @@ fn consistent(r: FeeResolution, attach: bool, bearing: bool) -> bool
 pub fn consistent_fee(e: SubmittedEntry) -> bool
     ensures { result ≡ consistent_fee e.state.status.fee_resolution (is_attach e.intent.fee_intent.kind) e.state.current_variant.fee_bearing }
 {
-    let status = e.state.status;
-    let resolution = status.fee_resolution;
-    let fee = e.intent.fee_intent;
-    let kind = fee.kind;
-    let attach = kind.is_attach();
-    consistent(resolution, attach, e.state.current_variant.fee_bearing)
+    consistent(
+        e.state.status.fee_resolution,
+        e.intent.fee_intent.kind == FeeIntentKind::Attach,
+        e.state.current_variant.fee_bearing,
+    )
 }
 
 // The cell of the acknowledged fingerprint has that of b.
 fn acknowledges(e: SubmittedEntry, b: SpendBundle) -> bool
     ensures { result ≡ eqs e.state.wallet_acknowledged_variant.hash (variant_fingerprint b) }
 {
-    let h = e.state.wallet_acknowledged_variant;
-    let x = h.hash;
-    let f = variant_fingerprint(b);
-    same32(&x, &f)
+    e.state.wallet_acknowledged_variant.hash == variant_fingerprint(b)
 }
 
 // An acknowledged variant is the base or the current one. Each of the two is hashed at most once.
@@ -81,14 +69,11 @@ pub fn known_acknowledged(e: SubmittedEntry) -> bool
     ensures { result ≡ known_acknowledged e }
 {
     if e.state.wallet_acknowledged_variant.present {
-        let base = e.intent.base_bundle;
-        if acknowledges(e, base) {
+        if acknowledges(e, e.intent.base_bundle) {
             return true;
         }
         if e.state.current_variant.fee_bearing {
-            let variant = e.state.current_variant;
-            let current = variant.bundle;
-            return acknowledges(e, current);
+            return acknowledges(e, e.state.current_variant.bundle);
         }
         return false;
     }
@@ -98,8 +83,7 @@ pub fn known_acknowledged(e: SubmittedEntry) -> bool
 pub fn validate(e: SubmittedEntry) -> bool
     ensures { result ≡ valid e }
 {
-    let base = e.intent.base_bundle;
-    let readable = is_readable_bundle(base);
+    let readable = is_readable_bundle(&e.intent.base_bundle);
     let fee = consistent_fee(e);
     let known = known_acknowledged(e);
     readable & fee & known

@@ -1,6 +1,6 @@
 -- Withdrawing ids one by one: each turn is the rules' `withdraw`, on a sound book.
-use Rattle.std.specs.Prelude.{true, false, ◌≡◌, ℕ, ◌+◌, drop}
-use Rattle.std.proofs.Common.{true≢false, sym, ◌∙◌}
+use Rattle.std.specs.Prelude.{true, false, ◌≡◌, ℕ, ◌+◌, drop, Some, None}
+use Rattle.std.proofs.Common.{sym, ◌∙◌}
 use mathlib.Core.List.{List, [], ◌∷◌}
 use Rattle.std.proofs.Math.Path.{refl, ap}
 use Rattle.book.specs.declared.BookData.{BookData}
@@ -78,15 +78,15 @@ module _ {b : BookData} (is : List ℕ) {out : BookData} (i : ℕ) (v : Withdraw
       rest = turn_on ∙ withdraw_on out v.sound x e (drop (i + 1) is) f;
     }
 
-    pub each_full : r.full ≡ true → {o : BookData} → Withdrawal b is (record { full = true; book = o })
+    pub each_full : r.full ≡ true → Withdrawal b is None
     each_full f = record {
       outcome = turn_on ∙ withdraw_full out v.sound x e (drop (i + 1) is) f;
-      sound = λ z. absurd (true≢false z);
+      sound = tt;
     }
 
-  pub each_end : drop i is ≡ [] → Withdrawal b is (record { full = false; book = out })
+  pub each_end : drop i is ≡ [] → Withdrawal b is (Some out)
   unfolding withdraw_each run
   each_end d = record {
     outcome = v.rest ∙ ap (λ (l : List ℕ). run_book (withdraw_each l) (view out)) d;
-    sound = λ z. v.sound;
+    sound = v.sound;
   }

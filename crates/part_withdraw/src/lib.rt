@@ -2,21 +2,14 @@
 #![tactic(auto)]
 
 ghost use Rattle.std.specs.Prelude.{◌≡◌, true, ◌≤◌};
-ghost use Rattle.book.specs.Model.{view, list16};
+ghost use Rattle.book.specs.Model.{view, id_list};
 ghost use Rattle.book.specs.Sound.{soundb};
 ghost use Rattle.rules.specs.Steps.{remove_book};
 ghost use Rattle.part_change.specs.Changes.{retiring};
 ghost use Rattle.part_withdraw.specs.Withdrawal.{Withdrawal};
 
-use book::{BookData, Ids16, SubmissionId};
+use book::{BookData, Ids, SubmissionId};
 use part_change::{Retired, remove_submitted, retire};
-
-// The book without the submissions that were withdrawn; full where a retirement would be a 65th, and then the book is one under way.
-#[derive(Clone, Copy)]
-pub struct Withdrawn {
-    pub full: bool,
-    pub book: BookData,
-}
 
 // The submission of the id goes and is retired.
 fn withdraw(b: BookData, id: SubmissionId) -> Retired
@@ -27,27 +20,18 @@ fn withdraw(b: BookData, id: SubmissionId) -> Retired
     retire(kept, id)
 }
 
-pub fn withdraw_each(b: BookData, ids: Ids16) -> Withdrawn
+// The book without the submissions of the ids; none where a retirement would be a 65th.
+pub fn withdraw_each(b: BookData, ids: Ids<16>) -> Option<BookData>
     requires { (soundb b ≡ true) × (ids.count ≤ 16) }
-    ensures { Withdrawal b (list16 ids) result }
+    ensures { Withdrawal b (id_list ids) result }
 {
-    let n = ids.count;
-    let items = ids.items;
     let mut out = b;
-    let mut i = 0;
-    while i < n {
-        let next = withdraw(out, SubmissionId(items[i]));
-        out = next.book;
+    for id in &ids.items[..ids.count] {
+        let next = withdraw(out, SubmissionId(*id));
         if next.full {
-            return Withdrawn {
-                full: true,
-                book: out,
-            };
+            return None;
         }
-        i += 1;
+        out = next.book;
     }
-    Withdrawn {
-        full: false,
-        book: out,
-    }
+    Some(out)
 }

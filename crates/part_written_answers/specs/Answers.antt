@@ -1,8 +1,7 @@
 -- What a call that writes into a lent buffer answers: a law for each way that its rules end.
-use Rattle.std.specs.Prelude.{◌≡◌, refl, Bool, true, false, cond, List, [], ◌++◌, ℕ, ◌+◌, ◌-◌, ◌≤◌, ◌<◌, length, take, drop}
+use Rattle.std.specs.Prelude.{◌≡◌, refl, Bool, true, false, cond, List, [], ◌++◌, ℕ, ◌+◌, ◌≤◌, ◌<◌, length, take, drop}
 use Rattle.std.proofs.Common.{sym, ◌∙◌, subst, arith, length-append, take_at, le-leb}
 use Rattle.std.proofs.Math.Path.{ap}
-use Rattle.std.proofs.Math.Nat.{sub-zero}
 use Rattle.std.proofs.lemmas.Bool.{lt-leb}
 use Rattle.codec_forms.specs.Wire.{be, enc_many, overlay}
 use Rattle.codec_forms.specs.Number.{be_length}
@@ -78,8 +77,8 @@ module _ (count : ℕ) (coins d : List ℕ) (m : Book) where
         answers_as b d (sym (writes (length d) all m (omega (arith, list_length)) ∙ ap (λ (x : Book). ended x [] all) v)) (written_is b s all (puts_join list_room p q))
 
 -- ---- the coins written at the start of a buffer, read from it
-pub front : {cs : List (List ℕ)} {d d' : List ℕ} {n : ℕ} → PutCoins cs 0 d d' n → take (n - 0) d' ≡ enc_many encode_coin cs
+pub front : {cs : List (List ℕ)} {d d' : List ℕ} {n : ℕ} → PutCoins cs 0 d d' n → take n d' ≡ enc_many encode_coin cs
 unfolding overlay
 front {cs} {d} {d'} {n} p =
     let o = puts_overlay p.puts in
-    ap (λ (k : ℕ). take k d') (sub-zero n) ∙ ap (take n) o.1 ∙ take_at (enc_many encode_coin cs) (drop (length (enc_many encode_coin cs)) d) n (sym o.0)
+    ap (take n) o.1 ∙ take_at (enc_many encode_coin cs) (drop (length (enc_many encode_coin cs)) d) n (sym o.0)

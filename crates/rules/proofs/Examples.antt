@@ -2,8 +2,8 @@
 use Rattle.base_sha256.specs.Fips
 use Rattle.std.specs.Prelude.{[], ◌∷◌, map, ◌≡◌, refl}
 use Rattle.archive_bundle_form.specs.Forms.{intent_fingerprint}
-use Rattle.book.specs.declared.OptionalHeight.TheVariants.{At}
-use Rattle.book.specs.declared.OptionalId.TheVariants.{NoId}
+use Rattle.std.specs.Prelude.{Some}
+use Rattle.std.specs.Prelude.{None}
 use Rattle.book.specs.declared.SubmissionChainTerminality.TheVariants.{Landed}
 use Rattle.book.specs.Zero.{zero_bundle, zero_fee_intent}
 use Rattle.rules.specs.Calls.Candidate.{met}
@@ -18,7 +18,7 @@ use Rattle.rules.specs.Examples.{brief, play, played, claimed, failed_at, indice
 -- ---- one example each, so that a wrong definition is refused with the value that it gives and the one that it should. Those that need no hash
 -- come first, since a hash takes too many steps to be shown.
 -- the expiry is part of the intent
-pub intent_expires : intent_of (intent_by NoId 7) ≡ intent_fingerprint zero_bundle (At (height 7)) zero_fee_intent
+pub intent_expires : intent_of (intent_by None 7) ≡ intent_fingerprint zero_bundle (Some (height 7)) zero_fee_intent
 unfolding intent_of intent_by
 intent_expires = refl
 
@@ -29,7 +29,7 @@ unfolding brief met run on_book full holding seventh live_slot delivery by_id he
 met_expires = refl
 
 -- the sixteenth is retained
-pub sixteenth_retained : answered (run_book (step (retain (intent_by NoId 7))) fifteen) ≡ answer [] tt
+pub sixteenth_retained : answered (run_book (step (retain (intent_by None 7))) fifteen) ≡ answer [] tt
 unfolding run on_book full intent_by fifteen
 sixteenth_retained = refl
 

@@ -1,17 +1,16 @@
 -- The calls of a list, with their arguments, and what they answer besides the submissions that a drain hands out. Tokens, submission ids
 -- and heights are numbers here; bytes are lists of numbers; a lent buffer is its length.
 use Rattle.std.specs.Prelude.{ℕ, Bool, true, false, cond, List}
-use Rattle.std.proofs.Math.Option.{Option}
+use Rattle.std.specs.Prelude.{Option}
 use Rattle.book.specs.declared.Height.{Height}
 use Rattle.book.specs.declared.SpendBundle.{SpendBundle}
 use Rattle.book.specs.declared.SubmissionFeeIntent.{SubmissionFeeIntent}
 use Rattle.book.specs.declared.DeliveryAttempt.{DeliveryAttempt}
 use Rattle.book.specs.declared.PendingDelivery.{PendingDelivery}
-use Rattle.book.specs.declared.OptionalHeight.{OptionalHeight}
 use Rattle.book.specs.declared.SubmissionDeliveryGoal.{SubmissionDeliveryGoal}
 use Rattle.book.specs.declared.DeliveryTrigger.{DeliveryTrigger}
-use Rattle.book.specs.declared.OptionalId.{OptionalId}
-use Rattle.book.specs.declared.OptionalId.TheVariants.{NoId, Of}
+use Rattle.book.specs.declared.SubmissionId.{SubmissionId}
+use Rattle.std.specs.Prelude.{None, Some}
 use Rattle.book_answers.specs.declared.BookSummary.{BookSummary}
 use Rattle.book_answers.specs.declared.DrainFailureCause.{DrainFailureCause}
 use Rattle.book_answers.specs.declared.DrainFailureCause.TheVariants.{NoRetainedState, FeeIntentDiffers, InvalidRetainedState, IntentDiffers, IdCollides, OutputsUnreadable, IdsExhausted}
@@ -77,8 +76,8 @@ removes OutputsUnreadable = false
 removes IdsExhausted = false
 
 -- `retained_submission_id`
-abbrev pub retained_id : SubmissionDrainFailure → OptionalId
-retained_id f = cond (removes f.cause) (Of f.candidate_id) NoId
+abbrev pub retained_id : SubmissionDrainFailure → Option SubmissionId
+retained_id f = cond (removes f.cause) (Some f.candidate_id) None
 
 pub data Value : Type 0 where
   no_value : Value
@@ -88,7 +87,7 @@ pub data Value : Type 0 where
   status_is : SubmissionAttemptStatus → Value
   ids_are : List ℕ → Value
   flag : Bool → Value
-  height_is : OptionalHeight → Value
+  height_is : Option Height → Value
   attempt_is : Option DeliveryAttempt → Value
   look_is : Option SubmissionLook → Value
   summary_is : BookSummary → Value

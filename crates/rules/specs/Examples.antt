@@ -3,18 +3,15 @@
 pub mod Pieces
 use Rattle.base_sha256.specs.Fips
 use Rattle.std.specs.Prelude.{ℕ, true, List, [], ◌∷◌, map, ◌≡◌, refl}
-use Rattle.std.proofs.Math.Option.{none, some}
+use Rattle.std.specs.Prelude.{None, Some}
 use Rattle.std.proofs.Common.{ap}
-use Rattle.base_lists.specs.Lists.{allb}
+use Rattle.std.specs.List.{list_all}
 use Rattle.book.specs.declared.FeeResolution.TheVariants.{Attached}
-use Rattle.book.specs.declared.OptionalHeight.TheVariants.{At}
-use Rattle.book.specs.declared.OptionalId.TheVariants.{NoId}
 use Rattle.book.specs.declared.SubmissionChainTerminality.TheVariants.{Active, InputSpent, Landed}
 use Rattle.book.specs.Model.{Book}
 use Rattle.book.specs.Sound.{id_of, sound_lists}
 use Rattle.book.specs.Zero.{zero_bundle, zero_fee_intent}
 use Rattle.rules.specs.Books.{book_after, answers_book}
-use Rattle.book_answers.specs.declared.OptionalToken.TheVariants.{NoToken, Of}
 use Rattle.book_answers.specs.declared.DrainFailureCause.TheVariants.{NoRetainedState, FeeIntentDiffers}
 use Rattle.book_answers.specs.declared.SubmissionAttemptRelationship.TheVariants.{Initial}
 use Rattle.book_answers.specs.declared.SubmissionAttemptStatus.TheVariants.{Applied, Stale}
@@ -122,16 +119,16 @@ abbrev pub looks : Specimen
 looks = record {
   start = holding fee_attached (live_slot 5) (1 ∷ []);
   calls = Call.Look 1 ∷ Call.Look 4 ∷ Call.Summary ∷ Call.EmitRetirement 7 ∷ Call.EmitRetirement 8 ∷ Call.Summary ∷ [];
-  answers = answer [] (look_is (some (record {
-    expiry = At (height 9);
-    active_attempt_token = Of (record { 0 = 5 });
-    completed_attempt_token = NoToken;
+  answers = answer [] (look_is (Some (record {
+    expiry = Some (height 9);
+    active_attempt_token = Some (record { 0 = 5 });
+    completed_attempt_token = None;
     applied_fee = 3;
     fee_resolution = Attached;
     chain_terminality = InputSpent;
     acknowledged = true;
   })))
-      ∷ answer [] (look_is none)
+      ∷ answer [] (look_is None)
       ∷ answer [] (summary_is (counted 0))
       ∷ answer [] no_value
       ∷ answer [] no_value
@@ -144,8 +141,8 @@ looks = record {
 abbrev pub last_token : Specimen
 last_token = record {
   start = opened 18446744073709551614 3;
-  calls = Call.Queue (delivery NoId 7) ∷ Call.Drain ∷ Call.AbandonAttempt 18446744073709551614 ∷ [];
-  answers = answer [] no_value ∷ answer (drained 3 18446744073709551614 none Initial 7 ∷ []) (failures []) ∷ answer [] (status_is Applied) ∷ [];
+  calls = Call.Queue (delivery None 7) ∷ Call.Drain ∷ Call.AbandonAttempt 18446744073709551614 ∷ [];
+  answers = answer [] no_value ∷ answer (drained 3 18446744073709551614 None Initial 7 ∷ []) (failures []) ∷ answer [] (status_is Applied) ∷ [];
   leaves = (18446744073709551615 ∷ []) ∷ (4 ∷ []) ∷ [] ∷ [] ∷ [] ∷ (3 ∷ []) ∷ [] ∷ [];
 }
 
@@ -175,8 +172,8 @@ tightened = record {
 abbrev pub expiries : Specimen
 expiries = record {
   start = opened 5 1;
-  calls = Call.Queue (delivery NoId 7) ∷ Call.Queue (delivery NoId 8) ∷ Call.Drain ∷ [];
-  answers = answer [] no_value ∷ answer [] no_value ∷ answer (drained 1 5 none Initial 7 ∷ drained 2 6 none Initial 8 ∷ []) (failures []) ∷ [];
+  calls = Call.Queue (delivery None 7) ∷ Call.Queue (delivery None 8) ∷ Call.Drain ∷ [];
+  answers = answer [] no_value ∷ answer [] no_value ∷ answer (drained 1 5 None Initial 7 ∷ drained 2 6 None Initial 8 ∷ []) (failures []) ∷ [];
   leaves = (7 ∷ []) ∷ (3 ∷ []) ∷ (1 ∷ 2 ∷ []) ∷ (7 ∷ 8 ∷ []) ∷ [] ∷ [] ∷ [] ∷ [];
 }
 
@@ -184,8 +181,8 @@ expiries = record {
 abbrev pub sixteen : Specimen
 sixteen = record {
   start = fifteen;
-  calls = Call.Queue (delivery NoId 7) ∷ Call.Drain ∷ queueing 17;
-  answers = answer [] no_value ∷ answer (drained 16 5 none Initial 7 ∷ []) (failures []) ∷ accepted 16 (refused 10 ∷ []);
+  calls = Call.Queue (delivery None 7) ∷ Call.Drain ∷ queueing 17;
+  answers = answer [] no_value ∷ answer (drained 16 5 None Initial 7 ∷ []) (failures []) ∷ accepted 16 (refused 10 ∷ []);
   leaves = (6 ∷ []) ∷ (17 ∷ []) ∷ (1 ∷ 2 ∷ 3 ∷ 4 ∷ 5 ∷ 6 ∷ 7 ∷ 8 ∷ 9 ∷ 10 ∷ 11 ∷ 12 ∷ 13 ∷ 14 ∷ 15 ∷ 16 ∷ [])
       ∷ (0 ∷ 0 ∷ 0 ∷ 0 ∷ 0 ∷ 0 ∷ 0 ∷ 0 ∷ 0 ∷ 0 ∷ 0 ∷ 0 ∷ 0 ∷ 0 ∷ 0 ∷ 7 ∷ [])
       ∷ (0 ∷ 0 ∷ 0 ∷ 0 ∷ 0 ∷ 0 ∷ 0 ∷ 0 ∷ 0 ∷ 0 ∷ 0 ∷ 0 ∷ 0 ∷ 0 ∷ 0 ∷ 0 ∷ []) ∷ [] ∷ [] ∷ [];
@@ -195,6 +192,6 @@ abbrev pub examples : List Specimen
 examples = indices ∷ retirements ∷ offered_again ∷ stopped ∷ last_token ∷ doors ∷ tightened ∷ expiries ∷ sixteen ∷ []
 
 -- every one of them starts from a sound book
-pub examples_sound : allb (λ s. sound_lists s.start) examples ≡ true
+pub examples_sound : list_all (λ s. sound_lists s.start) examples ≡ true
 unfolding sound_lists opened holding seventh zero_bundle spending entry_of live_slot no_fee fifteen zero_fee_intent
 examples_sound = refl

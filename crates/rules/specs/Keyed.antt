@@ -8,7 +8,7 @@ use Rattle.std.proofs.Math.Path.{refl, ap}
 use Rattle.std.proofs.Common.{sym, ◌∙◌}
 use Rattle.std.proofs.Math.Dec.{eqb}
 use borrow.Author.Tests.{eqb-true, eqb-false, eq-eqb, ne_eqb}
-use Rattle.base_lists.specs.Lists.{filterb}
+use Rattle.std.specs.List.{filter}
 
 -- a number is i, or it is not
 pub same_or_other {ℓ} : {P : Type ℓ} (i j : ℕ) → (i ≡ j → P) → ((i ≡ j → ⊥) → P) → P
@@ -21,7 +21,7 @@ same_or_other {P = P} i j same other = go (eqb i j) refl
 module _ {A : Type 0} (key : A → ℕ) where
   -- the elements of xs whose key is i
   unfoldable pub pick : ℕ → List A → List A
-  pick i xs = filterb (λ x. eqb (key x) i) xs
+  pick i xs = filter (λ x. eqb (key x) i) xs
 
   -- xs with f x for each element x whose key is i
   unfoldable pub change : ℕ → (A → A) → List A → List A
@@ -29,7 +29,7 @@ module _ {A : Type 0} (key : A → ℕ) where
 
   -- xs without the elements whose key is i
   unfoldable pub without : ℕ → List A → List A
-  without i xs = filterb (λ x. not (eqb (key x) i)) xs
+  without i xs = filter (λ x. not (eqb (key x) i)) xs
 
   pub pick_append : (i : ℕ) (xs ys : List A) → pick i (xs ++ ys) ≡ pick i xs ++ pick i ys
   unfolding pick

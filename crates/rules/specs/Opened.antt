@@ -1,6 +1,6 @@
 -- "Opening takes any next token and any next submission id, is never refused, and gives the book with these two and everything else empty."
 use Rattle.std.specs.Prelude.{ℕ, []}
-use Rattle.book.specs.declared.OptionalHeight.TheVariants.{NoHeight}
+use Rattle.std.specs.Prelude.{None}
 use Rattle.book.specs.Model.{Book}
 
 unfoldable pub opened : ℕ → ℕ → Book
@@ -10,6 +10,6 @@ opened token id = record {
   submitted = [];
   pending = [];
   retired = [];
-  rollback = NoHeight;
+  rollback = None;
   replayed = [];
 }

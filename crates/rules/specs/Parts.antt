@@ -4,8 +4,9 @@ use Rattle.base_lists.specs.Bytes.{eqs}
 use Rattle.archive_bundle_form.specs.Forms.{variant_fingerprint, intent_fingerprint, kind_number}
 use Rattle.book.specs.Zero.{zero_fee_intent, is_unresolved, is_active}
 use Rattle.book.specs.Sound.{readable_bundle, is_attach}
-use Rattle.book.specs.declared.OptionalHeight.{OptionalHeight}
-use Rattle.book.specs.declared.OptionalHeight.TheVariants.{NoHeight, At}
+use Rattle.std.specs.Prelude.{Option}
+use Rattle.book.specs.declared.Height.{Height}
+use Rattle.std.specs.Prelude.{None, Some}
 use Rattle.book.specs.declared.SpendBundle.{SpendBundle}
 use Rattle.book.specs.declared.SubmissionFeeIntent.{SubmissionFeeIntent}
 use Rattle.book.specs.declared.SubmissionChainTerminality.{SubmissionChainTerminality}
@@ -91,8 +92,8 @@ validate e =
     && known_acknowledged e
 
 -- `min_expiry`: the smaller one present
-unfoldable pub min_expiry : OptionalHeight → OptionalHeight → OptionalHeight
-min_expiry NoHeight NoHeight = NoHeight
-min_expiry NoHeight (At h) = At h
-min_expiry (At h) NoHeight = At h
-min_expiry (At g) (At h) = cond (ltb h.0 g.0) (At h) (At g)
+unfoldable pub min_expiry : Option Height → Option Height → Option Height
+min_expiry None None = None
+min_expiry None (Some h) = Some h
+min_expiry (Some h) None = Some h
+min_expiry (Some g) (Some h) = cond (ltb h.0 g.0) (Some h) (Some g)

@@ -6,7 +6,7 @@ use Rattle.std.proofs.Math.Path.{refl}
 use Rattle.std.proofs.Common.{◌∙◌}
 use Rattle.book.specs.Model.{Book}
 use Rattle.book.specs.declared.Height.{Height}
-use Rattle.book.specs.declared.OptionalHeight.{OptionalHeight}
+use Rattle.std.specs.Prelude.{Option}
 use Rattle.book.specs.declared.SpendBundle.{SpendBundle}
 use Rattle.book.specs.declared.SubmissionDeliveryGoal.{SubmissionDeliveryGoal}
 use Rattle.book.specs.declared.SubmissionChainTerminality.{SubmissionChainTerminality}
@@ -18,7 +18,7 @@ use Rattle.book.specs.Refusals as refusals
 -- a change of the other facts of one submission
 pub data Revision : Type 0 where
   -- the expiry becomes the smaller one present
-  tighten : OptionalHeight → Revision
+  tighten : Option Height → Revision
   -- the variant with this fingerprint is acknowledged
   acknowledge : List ℕ → Revision
   -- the joined bundle is the variant from here on, and the fee is resolved

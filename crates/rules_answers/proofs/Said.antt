@@ -1,16 +1,16 @@
 -- Theorems on specs/Said.antt.
 use Rattle.std.specs.Prelude.{ℕ, suc, ◌+◌, ◌≤◌, Bool, true, false, not, ◌&&◌, ◌≡◌, length}
 use mathlib.Core.List.{List, [], ◌∷◌, map}
-use Rattle.std.proofs.Math.Option.{Option, none, some}
+use Rattle.std.specs.Prelude.{Option, None, Some}
 use native.Mathlib.Omega.{arith}
 use Rattle.std.proofs.Math.Dec.{eqb}
 use Rattle.std.proofs.Common.{length-append}
 use Rattle.base_lists.specs.Bytes.{eqs}
-use Rattle.base_lists.specs.Lists.{filterb, elemb}
+use Rattle.base_lists.specs.Lists.{elemb}
+use Rattle.std.specs.List.{filter}
 use Rattle.book.specs.declared.SubmittedTx.{SubmittedTx}
 use Rattle.book.specs.declared.PendingDelivery.{PendingDelivery}
-use Rattle.book.specs.declared.OptionalId.{OptionalId}
-use Rattle.book.specs.declared.OptionalId.TheVariants.{NoId, Of}
+use Rattle.book.specs.declared.SubmissionId.{SubmissionId}
 use Rattle.book.specs.declared.SubmissionDeliveryGoal.{SubmissionDeliveryGoal}
 use Rattle.book.specs.Model.{Book}
 use Rattle.book.specs.Sound.{readable_bundle, id_of}
@@ -110,8 +110,8 @@ module _ (n : ℕ) where
   module _ (c : PendingDelivery) (f : List ℕ) (e : length f ≡ 32) (k : ℕ) (a : Memory) (h : Few n k a) where
     few_known : (t : SubmittedTx) (m : Option DrainFailureCause) (b : Book) → Says (Few (suc n)) k b (known_by n c f t a m)
     unfolding met withdraw
-    few_known t none b = λ d. says_cond (Few (suc n)) k d (wanted c.goal t.entry) _ _ (few_deliver (id_of t) c.goal k a d h) (few_more h)
-    few_known t (some m) b = λ d d'. few_failed n m (id_of t) f e (few_removed (id_of t) h)
+    few_known t None b = λ d. says_cond (Few (suc n)) k d (wanted c.goal t.entry) _ _ (few_deliver (id_of t) c.goal k a d h) (few_more h)
+    few_known t (Some m) b = λ d d'. few_failed n m (id_of t) f e (few_removed (id_of t) h)
 
     few_unknown : (b : Book) → Says (Few (suc n)) k b (unknown n c f b a)
     unfolding unknown
@@ -121,14 +121,14 @@ module _ (n : ℕ) where
         (says_cond (Few (suc n)) k b (eqb b.next_id.0 last64) _ _ (few_failed n IdsExhausted b.next_id.0 f e h)
         (λ d. few_deliver b.next_id.0 c.goal k a d h)))
 
-    few_planned : (b : Book) (i : OptionalId) → Says (Few (suc n)) k b (planned_by n c f b a i)
+    few_planned : (b : Book) (i : Option SubmissionId) → Says (Few (suc n)) k b (planned_by n c f b a i)
     unfolding known
-    few_planned b NoId = go (filterb (λ t. eqs t.entry.intent.intent_fingerprint f) b.submitted)
+    few_planned b None = go (filter (λ t. eqs t.entry.intent.intent_fingerprint f) b.submitted)
       where
         go : (ts : List SubmittedTx) → Says (Few (suc n)) k b (unnamed n c f b a ts)
         go [] = few_unknown b
         go (t ∷ ts) = few_known t (miss_of c.intent f t.entry) b
-    few_planned b (Of i) = go (pick id_of i.0 b.submitted)
+    few_planned b (Some i) = go (pick id_of i.0 b.submitted)
       where
         go : (ts : List SubmittedTx) → Says (Few (suc n)) k b (named n c f i.0 a ts)
         go [] = few_failed n NoRetainedState i.0 f e h

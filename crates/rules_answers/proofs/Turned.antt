@@ -1,7 +1,8 @@
 -- Theorems on specs/Turned.antt.
 use Rattle.std.specs.Prelude.{ℕ, Bool, true, false, cond, not, ◌&&◌, List, [], ◌∷◌, map, ◌≡◌, refl, leb, length}
 use Rattle.base_lists.specs.Bytes.{eqs}
-use Rattle.base_lists.specs.Lists.{filterb, flat_map, elemb, rising}
+use Rattle.base_lists.specs.Lists.{elemb, rising}
+use Rattle.std.specs.List.{filter, flat_map}
 use Rattle.base_coin_string.specs.CoinIds.{id_listb, ids_in}
 use Rattle.base_coin_string.specs.CoinList.{coins_in, coin_listb}
 use Rattle.book.specs.declared.SpendBundle.{SpendBundle}
@@ -174,7 +175,7 @@ turns_collect : (d : Bool) (is : List ℕ) → Turns d (collect_rollback_replay_
 unfolding collect_rollback_replay_ids
 turns_collect d is =
     turns_cond d (ids_ok is) _ _
-    (λ b. turns_bind d (mark_each b (filterb (λ i. elemb i is) (map id_of b.submitted))) _ (turns_marks d b (filterb (λ i. elemb i is) (map id_of b.submitted))) (λ u. turns_offer_again d (filterb (λ i. elemb i is) (map id_of b.submitted))))
+    (λ b. turns_bind d (mark_each b (filter (λ i. elemb i is) (map id_of b.submitted))) _ (turns_marks d b (filter (λ i. elemb i is) (map id_of b.submitted))) (λ u. turns_offer_again d (filter (λ i. elemb i is) (map id_of b.submitted))))
     refl
 
 -- ---- into a buffer
@@ -204,7 +205,7 @@ turns : (encode : Book → List ℕ) (c : Call) → TurnsBy (is_drain (kind_of c
 unfolding rules
 turns encode (Call.Queue x) = turns_map false false nothing (queue x) (turns_cond false (sound_delivery x) _ _ tt refl)
 turns encode (Call.QueueRebroadcastEpoch is w) = turns_map false false nothing (queue_rebroadcast_epoch is w) (turns_cond false (ids_ok is) _ _ (turns_rebroadcast false w is) refl)
-turns encode Call.QueueFeeReadiness = turns_map false false nothing queue_fee_readiness (λ b. turns_offers false ProviderReadiness (filterb (λ t. active_entry t.entry && fee_unresolved t.entry) b.submitted))
+turns encode Call.QueueFeeReadiness = turns_map false false nothing queue_fee_readiness (λ b. turns_offers false ProviderReadiness (filter (λ t. active_entry t.entry && fee_unresolved t.entry) b.submitted))
 turns encode (Call.QueueRetainedDelivery i w g) = turns_map false false nothing (queue_retained_delivery i w g) (turns_offered false i w g _ tt)
 turns encode Call.Drain = turns_map true false failures drain turns_drain
 turns encode (Call.FinalizeAttempt t source j) = turns_map false false finalized (finalize_attempt t source j) (turns_finalize false t source j)
@@ -225,7 +226,7 @@ turns encode (Call.ReconcileChainTerminality observed spent reorg ids) = turns_m
     turns_cond false (coin_listb observed && id_listb spent && ids_ok ids) _ _ (λ b. turns_judges false (coins_in observed) (ids_in spent) reorg ids b.submitted) refl)
 turns encode (Call.CausallyRolledBackIds absent inputs) = turns_map false false ids_are (causally_rolled_back_ids absent inputs) (turns_cond false (coin_listb absent && id_listb inputs) _ _ (λ b. tt) refl)
 turns encode (Call.AbsentOutputsForIds is absent room) = turns_map false true written (absent_outputs_for_ids is absent room) (
-    turns_asked (ids_ok is && coin_listb absent) _ (λ b. turns_writing room (encode_coins (flat_map (λ t. absentOutputsOf (coins_in absent) t.entry.intent) (filterb (λ t. elemb (id_of t) is) b.submitted)))))
+    turns_asked (ids_ok is && coin_listb absent) _ (λ b. turns_writing room (encode_coins (flat_map (λ t. absentOutputsOf (coins_in absent) t.entry.intent) (filter (λ t. elemb (id_of t) is) b.submitted)))))
 turns encode (Call.CollectRollbackReplayIds is) = turns_map false false nothing (collect_rollback_replay_ids is) (turns_collect false is)
 turns encode Call.ClearLocalArtifacts = turns_map false false nothing clear_local_artifacts (λ b. turns_withdraws false _ tt (rising (map id_of b.submitted)))
 turns encode Call.RestoreRuntime = turns_map false false nothing restore_runtime (λ b. turns_set_asides false (map id_of b.submitted))

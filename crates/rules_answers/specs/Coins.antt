@@ -3,15 +3,16 @@ use Rattle.std.specs.Prelude.{ℕ, zero, suc, ◌+◌, ◌*◌, ◌≤◌, Bool,
 use Rattle.std.proofs.Common.{suc-mul, arith, length-take}
 use Rattle.std.proofs.Math.ListN.{length-append}
 use Rattle.std.proofs.lemmas.List.{length-map}
-use Rattle.base_lists.specs.Lists.{filterb, flat_map, foldl, elemb}
+use Rattle.base_lists.specs.Lists.{elemb}
+use Rattle.std.specs.List.{filter, flat_map, fold}
 use Rattle.base_lists.specs.Laws.{filter_length}
 use Rattle.codec_forms.specs.Wire.{be, enc_many}
 use Rattle.codec_forms.specs.Number.{be_length}
 use Rattle.base_sha256.specs.Laws.{digest_length}
 use Rattle.base_coin_string.specs.Coin.{coin_id_of, parts_most}
 use Rattle.base_coin_string.specs.Order.{order_of}
-use Rattle.base_coin_string.specs.declared.Ordering.{Ordering}
-use Rattle.base_coin_string.specs.declared.Ordering.TheVariants.{Less, Equal, Greater}
+use Rattle.std.specs.declared.cmp.Ordering.{Ordering}
+use Rattle.std.specs.declared.cmp.Ordering.TheVariants.{Less, Equal, Greater}
 use Rattle.book_coins.specs.Coins.{coin_of, input_coins, output_coin, expected_output_coins}
 use Rattle.book.specs.declared.CoinSpend.{CoinSpend}
 use Rattle.book.specs.declared.SpendBundle.{SpendBundle}
@@ -58,7 +59,7 @@ flat_coins k f (suc n) (x ∷ xs) h e =
       short = every_append (λ (c : List ℕ). length c ≤ 73) (f x) (flat_map f xs) e.0.short r.short;
     }
 
-filter_coins : (n : ℕ) (p : List ℕ → Bool) (cs : List (List ℕ)) → Coins n cs → Coins n (filterb p cs)
+filter_coins : (n : ℕ) (p : List ℕ → Bool) (cs : List (List ℕ)) → Coins n cs → Coins n (filter p cs)
 filter_coins n p cs h = record { few = omega (arith, filter_length p cs, h.few); short = every_filter (λ (c : List ℕ). length c ≤ 73) p cs h.short }
 
 every_of : {A : Type 0} {P Q : A → Type 0} → ((x : A) → P x → Q x) → (xs : List A) → Every P xs → Every Q xs
@@ -86,7 +87,7 @@ insert_coins (suc n) c (d ∷ ds) h k = go (order_of c d) (insert_coins n c ds h
     go Equal r = record { few = omega (arith, k.few); short = k.short }
     go Greater r = record { few = omega (arith, r.few); short = (k.short.0, r.short) }
 
-inserts_coins : (n m : ℕ) (cs acc : List (List ℕ)) → Coins n cs → Coins m acc → Coins (n + m) (foldl (λ acc c. insert_coin c acc) acc cs)
+inserts_coins : (n m : ℕ) (cs acc : List (List ℕ)) → Coins n cs → Coins m acc → Coins (n + m) (fold (λ acc c. insert_coin c acc) acc cs)
 inserts_coins n m [] acc h k = record { few = omega (arith, k.few); short = k.short }
 inserts_coins zero m (c ∷ cs) acc h k = absurd (omega (arith, h.few))
 inserts_coins (suc n) m (c ∷ cs) acc h k =
@@ -118,22 +119,22 @@ output_coins b t =
 
 -- ---- of a sound book within the types
 module _ (m : Book) (s : SoundBook m) (w : Within m) where
-  few_of : (p : SubmittedTx → Bool) → length (filterb p m.submitted) ≤ 16
+  few_of : (p : SubmittedTx → Bool) → length (filter p m.submitted) ≤ 16
   few_of p = omega (arith, filter_length p m.submitted, s.fits.submitted)
 
   pub inputs_size : (outputs : List (List ℕ)) → length (encode_coins (input_coins_to_reconcile outputs m)) ≤ 4738
   unfolding input_coins_to_reconcile
   inputs_size outputs =
-      let ts = filterb (λ t. is_reconciled outputs t.entry) m.submitted in
+      let ts = filter (λ t. is_reconciled outputs t.entry) m.submitted in
       list_size 64 (rising_coins (flat_map (λ t. input_coins t.entry.intent.base_bundle) ts))
       (rising_coins_lem 64 (flat_map (λ t. input_coins t.entry.intent.base_bundle) ts)
       (flat_coins 4 (λ t. input_coins t.entry.intent.base_bundle) 16 ts (few_of (λ t. is_reconciled outputs t.entry))
       (every_of (λ (t : SubmittedTx) x. input_coins_lem t.entry.intent.base_bundle x.entry.intent.base) ts (every_filter TypedSubmitted (λ t. is_reconciled outputs t.entry) m.submitted w.submitted))))
 
-  pub outputs_size : (is : List ℕ) (absent : List (List ℕ)) → length (encode_coins (flat_map (λ t. absent_outputs absent t.entry.intent) (filterb (λ t. elemb (id_of t) is) m.submitted))) ≤ 18946
+  pub outputs_size : (is : List ℕ) (absent : List (List ℕ)) → length (encode_coins (flat_map (λ t. absent_outputs absent t.entry.intent) (filter (λ t. elemb (id_of t) is) m.submitted))) ≤ 18946
   unfolding absent_outputs
   outputs_size is absent =
-      let ts = filterb (λ t. elemb (id_of t) is) m.submitted in
+      let ts = filter (λ t. elemb (id_of t) is) m.submitted in
       list_size 256 (flat_map (λ t. absent_outputs absent t.entry.intent) ts)
       (flat_coins 16 (λ t. absent_outputs absent t.entry.intent) 16 ts (few_of (λ t. elemb (id_of t) is))
       (every_of (λ (t : SubmittedTx) x. filter_coins 16 (among absent) (expected_output_coins t.entry.intent.base_bundle) (output_coins t.entry.intent.base_bundle x.entry.intent.base)) ts

@@ -1,13 +1,14 @@
 -- What the rules of a call say where they end, and how many submissions they have handed out by then.
 use Rattle.std.specs.Prelude.{ℕ, suc, ◌+◌, ◌≤◌, Bool, true, false, cond, not, ◌&&◌, ◌≡◌, refl, ltb, length}
 use mathlib.Core.List.{List, [], ◌∷◌, map}
-use Rattle.std.proofs.Math.Option.{Option, none, some}
+use Rattle.std.specs.Prelude.{Option, None, Some}
 use native.Mathlib.Omega.{arith}
 use Rattle.std.proofs.Math.Dec.{eqb}
 use Rattle.std.proofs.Math.ListN.{length-map}
 use Rattle.base_lists.specs.Bytes.{eqs}
 use Rattle.base_lists.specs.Laws.{filter_length, rising_length}
-use Rattle.base_lists.specs.Lists.{filterb, elemb, rising}
+use Rattle.base_lists.specs.Lists.{elemb, rising}
+use Rattle.std.specs.List.{filter}
 use Rattle.base_coin_string.specs.CoinIds.{id_listb, ids_in}
 use Rattle.base_coin_string.specs.CoinList.{coins_in, coin_listb}
 use Rattle.book.specs.declared.SpendBundle.{SpendBundle}
@@ -140,16 +141,16 @@ pub record TypedFinal (f : FinalizedSubmission) : Type 0 where
   pub fingerprint : length f.variant_fingerprint ≡ 32
 
 pub data FinalSays (k : ℕ) : Option FinalizedSubmission → Type 0 where
-  no_final : FinalSays k none
-  one_final : (f : FinalizedSubmission) → TypedFinal f → FinalSays k (some f)
+  no_final : FinalSays k None
+  one_final : (f : FinalizedSubmission) → TypedFinal f → FinalSays k (Some f)
 
 pub data FeeIntentSays (k : ℕ) : Option SubmissionFeeIntent → Type 0 where
-  no_intent : FeeIntentSays k none
-  one_intent : (f : SubmissionFeeIntent) → TypedFeeIntent f → FeeIntentSays k (some f)
+  no_intent : FeeIntentSays k None
+  one_intent : (f : SubmissionFeeIntent) → TypedFeeIntent f → FeeIntentSays k (Some f)
 
 pub data AttemptSays (k : ℕ) : Option DeliveryAttempt → Type 0 where
-  no_attempt : AttemptSays k none
-  one_attempt : (a : DeliveryAttempt) → TypedAttempt a → AttemptSays k (some a)
+  no_attempt : AttemptSays k None
+  one_attempt : (a : DeliveryAttempt) → TypedAttempt a → AttemptSays k (Some a)
 
 pub data IdsSay (k : ℕ) : List ℕ → Type 0 where
   ids_say : (is : List ℕ) → length is ≤ 64 → IdsSay k is
@@ -208,11 +209,11 @@ module _ (b : Book) (w : Within b) where
   pub final_says : (t : ℕ) (source : SubmissionFeeSource) (j : SpendBundle) → TypedBundle j → Says FinalSays 0 b (finalize_attempt t source j)
   unfolding finalize_attempt
   final_says t source j h =
-      says_cond FinalSays 0 b (sound_source source j) _ _ (says_live FinalSays t none (finalize_live source j) b w no_final (final_live_says source j h)) tt
+      says_cond FinalSays 0 b (sound_source source j) _ _ (says_live FinalSays t None (finalize_live source j) b w no_final (final_live_says source j h)) tt
 
   pub fee_intent_says : (t : ℕ) → Says FeeIntentSays 0 b (fee_intent_for_attempt t)
   unfolding fee_intent_for_attempt
-  fee_intent_says t = says_live FeeIntentSays t none _ b w no_intent (λ s x. one_intent (open_fee_intent s.entry) (open_fee_typed s.entry x.entry))
+  fee_intent_says t = says_live FeeIntentSays t None _ b w no_intent (λ s x. one_intent (open_fee_intent s.entry) (open_fee_typed s.entry x.entry))
 
   pub attempt_says : (t : ℕ) → Says AttemptSays 0 b (attempt t)
   unfolding attempt LiveIn
@@ -232,7 +233,7 @@ module _ (b : Book) (s : SoundBook b) where
       (says_withdraws IdsSay (to_remove is b) (ids_say (to_remove is b)
       (unfold to_remove in omega (
         arith,
-        rising_length (filterb (λ i. elemb i is) (map id_of b.submitted)),
+        rising_length (filter (λ i. elemb i is) (map id_of b.submitted)),
         filter_length (λ i. elemb i is) (map id_of b.submitted),
         length-map b.submitted id_of,
         s.fits.submitted,
@@ -246,13 +247,13 @@ module _ (b : Book) (s : SoundBook b) where
   pub active_say : Says IdsSay 0 b active_ids
   unfolding active_ids
   active_say =
-      let ts = filterb (λ t. active_entry t.entry) b.submitted in
+      let ts = filter (λ t. active_entry t.entry) b.submitted in
       ids_say (map id_of ts) (omega (arith, length-map ts id_of, filter_length (λ t. active_entry t.entry) b.submitted, s.fits.submitted))
 
   pub rolled_back_say : (absent inputs : List ℕ) → Says IdsSay 0 b (causally_rolled_back_ids absent inputs)
   unfolding causally_rolled_back_ids
   rolled_back_say absent inputs =
-      let ts = filterb (λ t. rolled_back (coins_in absent) (ids_in inputs) t.entry) b.submitted in
+      let ts = filter (λ t. rolled_back (coins_in absent) (ids_in inputs) t.entry) b.submitted in
       says_cond IdsSay 0 b (coin_listb absent && id_listb inputs) _ _
       (ids_say (rising (map id_of ts)) (omega (arith, rising_length (map id_of ts), length-map ts id_of, filter_length (λ t. rolled_back (coins_in absent) (ids_in inputs) t.entry) b.submitted, s.fits.submitted)))
       tt

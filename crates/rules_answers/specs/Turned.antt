@@ -1,13 +1,13 @@
 -- Where the rules of a call turn it away: with a number that is not 0, and not 12, save for the three calls that write into a buffer by themselves;
 -- and a drain alone ends with its steps kept, by 11.
 use Rattle.std.specs.Prelude.{ℕ, suc, Bool, true, false, cond, not, ◌&&◌, ◌||◌, List, [], ◌∷◌, map, ◌≡◌, refl, eqb}
-use Rattle.std.proofs.Math.Option.{Option, none, some}
+use Rattle.std.specs.Prelude.{Option, None, Some}
 use Rattle.base_lists.specs.Bytes.{eqs}
-use Rattle.base_lists.specs.Lists.{filterb, elemb}
+use Rattle.base_lists.specs.Lists.{elemb}
+use Rattle.std.specs.List.{filter}
 use Rattle.book.specs.declared.SubmittedTx.{SubmittedTx}
 use Rattle.book.specs.declared.PendingDelivery.{PendingDelivery}
-use Rattle.book.specs.declared.OptionalId.{OptionalId}
-use Rattle.book.specs.declared.OptionalId.TheVariants.{NoId, Of}
+use Rattle.book.specs.declared.SubmissionId.{SubmissionId}
 use Rattle.book.specs.declared.SubmissionDeliveryGoal.{SubmissionDeliveryGoal}
 use Rattle.book.specs.Model.{Book}
 use Rattle.book.specs.Sound.{readable_bundle, id_of}
@@ -64,8 +64,8 @@ turns_deliver i g a = turns_cond true (elemb i a.emitted) _ _ tt (λ b. turns_co
 
 turns_known : (n : ℕ) (c : PendingDelivery) (f : List ℕ) (t : SubmittedTx) (a : Memory) (m : Option DrainFailureCause) → Turns true (known_by n c f t a m)
 unfolding met withdraw
-turns_known n c f t a none = turns_cond true (wanted c.goal t.entry) _ _ (turns_deliver (id_of t) c.goal a) tt
-turns_known n c f t a (some m) = tt
+turns_known n c f t a None = turns_cond true (wanted c.goal t.entry) _ _ (turns_deliver (id_of t) c.goal a) tt
+turns_known n c f t a (Some m) = tt
 
 turns_unknown : (n : ℕ) (c : PendingDelivery) (f : List ℕ) (b : Book) (a : Memory) → Turns true (unknown n c f b a)
 unfolding unknown
@@ -74,14 +74,14 @@ turns_unknown n c f b a =
     (turns_cond true (not (readable_bundle c.intent.bundle)) _ _ tt
     (turns_cond true (eqb b.next_id.0 last64) _ _ tt (turns_deliver b.next_id.0 c.goal a)))
 
-turns_planned : (n : ℕ) (c : PendingDelivery) (f : List ℕ) (b : Book) (a : Memory) (i : OptionalId) → Turns true (planned_by n c f b a i)
+turns_planned : (n : ℕ) (c : PendingDelivery) (f : List ℕ) (b : Book) (a : Memory) (i : Option SubmissionId) → Turns true (planned_by n c f b a i)
 unfolding known
-turns_planned n c f b a NoId = go (filterb (λ t. eqs t.entry.intent.intent_fingerprint f) b.submitted)
+turns_planned n c f b a None = go (filter (λ t. eqs t.entry.intent.intent_fingerprint f) b.submitted)
   where
     go : (ts : List SubmittedTx) → Turns true (unnamed n c f b a ts)
     go [] = turns_unknown n c f b a
     go (t ∷ ts) = turns_known n c f t a (miss_of c.intent f t.entry)
-turns_planned n c f b a (Of i) = go (pick id_of i.0 b.submitted)
+turns_planned n c f b a (Some i) = go (pick id_of i.0 b.submitted)
   where
     go : (ts : List SubmittedTx) → Turns true (named n c f i.0 a ts)
     go [] = tt

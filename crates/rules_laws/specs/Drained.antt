@@ -4,15 +4,15 @@ use Rattle.std.specs.Prelude.{ℕ, suc, Bool, true, false, cond, not, ◌&&◌, 
 use Rattle.std.proofs.lemmas.Bool.{false≢true, eqb-false}
 use mathlib.Core.List.Memᴰ
 use mathlib.Core.List.{List, [], ◌∷◌, ◌++◌, map, Memᴰ}
-use Rattle.std.proofs.Math.Option.{Option, none, some}
+use Rattle.std.specs.Prelude.{Option, None, Some}
 use Rattle.std.proofs.Common.{sym, ap, ◌∙◌, subst, eqb-true, eq-eqb, ne_eqb}
 use Rattle.base_lists.specs.Bytes.{eqs}
-use Rattle.base_lists.specs.Lists.{filterb, elemb}
+use Rattle.base_lists.specs.Lists.{elemb}
+use Rattle.std.specs.List.{filter}
 use Rattle.book.specs.declared.SubmittedTx.{SubmittedTx}
 use Rattle.book.specs.declared.PendingSubmissionIntent.{PendingSubmissionIntent}
 use Rattle.book.specs.declared.PendingDelivery.{PendingDelivery}
-use Rattle.book.specs.declared.OptionalId.{OptionalId}
-use Rattle.book.specs.declared.OptionalId.TheVariants.{NoId, Of}
+use Rattle.book.specs.declared.SubmissionId.{SubmissionId}
 use Rattle.book.specs.declared.SubmissionDeliveryGoal.{SubmissionDeliveryGoal}
 use Rattle.book.specs.Model.{Book}
 use Rattle.book.specs.Sound.{readable_bundle, id_of}
@@ -39,20 +39,20 @@ pub record HoldsLive (b : Book) (i t : ℕ) : Type 0 where
   pub token : held.slots.active_attempt.attempt.token.0 ≡ t
 
 abbrev pub Holds : Book → ℕ → Option ℕ → Type 0
-Holds b i none = Unit {0}
-Holds b i (some t) = HoldsLive b i t
+Holds b i None = Unit {0}
+Holds b i (Some t) = HoldsLive b i t
 
 -- the token last issued to i and not followed by a removal of i: by what a step hands out, and by all steps of a run
 abbrev pub issued_to : ℕ → List DrainedSubmission → Option ℕ → Option ℕ
 issued_to i [] o = o
-issued_to i (x ∷ xs) o = issued_to i xs (cond (eqb x.id.0 i) (some x.attempt_token.0) o)
+issued_to i (x ∷ xs) o = issued_to i xs (cond (eqb x.id.0 i) (Some x.attempt_token.0) o)
 
 abbrev pub after_step : ℕ → Step → List DrainedSubmission → Option ℕ → Option ℕ
 after_step i (note n) xs o = o
 after_step i (revise j r) xs o = o
 after_step i (retain p) xs o = o
 after_step i (emit j g) xs o = issued_to i xs o
-after_step i (remove j) xs o = cond (eqb j i) none o
+after_step i (remove j) xs o = cond (eqb j i) None o
 after_step i (set_aside j) xs o = o
 after_step i (finalise j v) xs o = o
 after_step i (replay j) xs o = o
@@ -103,11 +103,11 @@ mem_left : {A : Type 0} {x : A} {xs : List A} (ys : List A) → Memᴰ x xs → 
 mem_left ys (Memᴰ.head e) = Memᴰ.head e
 mem_left ys (Memᴰ.tail m) = Memᴰ.tail (mem_left ys m)
 
-mem_keep : {A : Type 0} (q : A → Bool) {x : A} {xs : List A} → q x ≡ true → Memᴰ x xs → Memᴰ x (filterb q xs)
+mem_keep : {A : Type 0} (q : A → Bool) {x : A} {xs : List A} → q x ≡ true → Memᴰ x xs → Memᴰ x (filter q xs)
 mem_keep q {x} k (Memᴰ.head {x = y} {xs = xs} e) = rw (ap q (sym e) ∙ k) (Memᴰ.head e)
 mem_keep {A} q {x} k (Memᴰ.tail {x = y} {xs = xs} m) = go (q y) (mem_keep q k m)
   where
-    go : (t : Bool) → Memᴰ x (filterb q xs) → Memᴰ x (cond t (y ∷ filterb q xs) (filterb q xs))
+    go : (t : Bool) → Memᴰ x (filter q xs) → Memᴰ x (cond t (y ∷ filter q xs) (filter q xs))
     go true h = Memᴰ.tail h
     go false h = h
 
@@ -181,10 +181,10 @@ unfolding emit_book handed
 emit_holds j g b i o h = go (pick id_of j b.submitted) refl
   where
     by : (s : SubmittedTx) → Memᴰ s b.submitted → id_of s ≡ j → (x : Bool) → eqb (id_of s) i ≡ x → (o : Option ℕ) → Holds b i o
-        → Holds (issue_book j g (current_fingerprint s.entry) b) i (cond x (some b.next_token.0) o)
+        → Holds (issue_book j g (current_fingerprint s.entry) b) i (cond x (Some b.next_token.0) o)
     by s m e true q o k = subst (λ (n : ℕ). HoldsLive (issue_book j g (current_fingerprint s.entry) b) n b.next_token.0) (sym e ∙ eqb-true (id_of s) i q) (issue_own j g (current_fingerprint s.entry) b s m e)
-    by s m e false q none k = tt
-    by s m e false q (some t) k = issue_others j g (current_fingerprint s.entry) b i t (ne_eqb j i (λ r. eqb-false (id_of s) i q (e ∙ r))) k
+    by s m e false q None k = tt
+    by s m e false q (Some t) k = issue_others j g (current_fingerprint s.entry) b i t (ne_eqb j i (λ r. eqb-false (id_of s) i q (e ∙ r))) k
 
     go : (ts : List SubmittedTx) → pick id_of j b.submitted ≡ ts → Holds (emit_to j g b ts).after i (issued_to i (emit_to j g b ts).out o)
     go [] q = h
@@ -192,19 +192,19 @@ emit_holds j g b i o h = go (pick id_of j b.submitted) refl
 
 step_holds : (p : Step) (b : Book) (i : ℕ) (o : Option ℕ) → drains p ≡ true → Holds b i o → Holds (on_book p b).after i (after_step i p (on_book p b).out o)
 unfolding on_book
-step_holds (note n) b i none d h = tt
-step_holds (note n) b i (some t) d h = note_holds n b i t h
-step_holds (revise j r) b i none d h = tt
-step_holds (revise j r) b i (some t) d h = revise_holds j r b i t h
-step_holds (retain p) b i none d h = tt
-step_holds (retain p) b i (some t) d h = retain_holds p b i t h
+step_holds (note n) b i None d h = tt
+step_holds (note n) b i (Some t) d h = note_holds n b i t h
+step_holds (revise j r) b i None d h = tt
+step_holds (revise j r) b i (Some t) d h = revise_holds j r b i t h
+step_holds (retain p) b i None d h = tt
+step_holds (retain p) b i (Some t) d h = retain_holds p b i t h
 step_holds (emit j g) b i o d h = emit_holds j g b i o h
 step_holds (remove j) b i o d h = go (eqb j i) refl o h
   where
-    go : (x : Bool) → eqb j i ≡ x → (o : Option ℕ) → Holds b i o → Holds (remove_book j b) i (cond x none o)
+    go : (x : Bool) → eqb j i ≡ x → (o : Option ℕ) → Holds b i o → Holds (remove_book j b) i (cond x None o)
     go true e o k = tt
-    go false e none k = tt
-    go false e (some t) k = remove_holds j b i t e k
+    go false e None k = tt
+    go false e (Some t) k = remove_holds j b i t e k
 step_holds (set_aside j) b i o d h = absurd (false≢true d)
 step_holds (finalise j v) b i o d h = absurd (false≢true d)
 step_holds (replay j) b i o d h = absurd (false≢true d)
@@ -239,8 +239,8 @@ all_deliver i g a = all_cond drains (elemb i a.emitted) _ _ tt (λ b. all_cond d
 
 all_known : (n : ℕ) (c : PendingDelivery) (f : List ℕ) (t : SubmittedTx) (a : Memory) (m : Option DrainFailureCause) → AllSteps drains (known_by n c f t a m)
 unfolding met withdraw
-all_known n c f t a none = (refl, all_cond drains (wanted c.goal t.entry) _ _ (all_deliver (id_of t) c.goal a) tt)
-all_known n c f t a (some m) = (refl, (refl, tt))
+all_known n c f t a None = (refl, all_cond drains (wanted c.goal t.entry) _ _ (all_deliver (id_of t) c.goal a) tt)
+all_known n c f t a (Some m) = (refl, (refl, tt))
 
 all_unknown : (n : ℕ) (c : PendingDelivery) (f : List ℕ) (b : Book) (a : Memory) → AllSteps drains (unknown n c f b a)
 unfolding unknown
@@ -259,9 +259,9 @@ unfolding known
 all_unnamed n c f b a [] = all_unknown n c f b a
 all_unnamed n c f b a (t ∷ ts) = all_known n c f t a (miss_of c.intent f t.entry)
 
-all_planned : (n : ℕ) (c : PendingDelivery) (f : List ℕ) (b : Book) (a : Memory) (i : OptionalId) → AllSteps drains (planned_by n c f b a i)
-all_planned n c f b a NoId = all_unnamed n c f b a (filterb (λ t. eqs t.entry.intent.intent_fingerprint f) b.submitted)
-all_planned n c f b a (Of i) = all_named n c f i.0 a (pick id_of i.0 b.submitted)
+all_planned : (n : ℕ) (c : PendingDelivery) (f : List ℕ) (b : Book) (a : Memory) (i : Option SubmissionId) → AllSteps drains (planned_by n c f b a i)
+all_planned n c f b a None = all_unnamed n c f b a (filter (λ t. eqs t.entry.intent.intent_fingerprint f) b.submitted)
+all_planned n c f b a (Some i) = all_named n c f i.0 a (pick id_of i.0 b.submitted)
 
 all_candidates : (n : ℕ) (cs : List PendingDelivery) (a : Memory) → AllSteps drains (candidates n cs a)
 unfolding candidates one_candidate candidate
@@ -276,5 +276,5 @@ unfolding drain
 all_drain = λ b. (refl, all_candidates 0 b.pending blank)
 
 -- whatever a drain last issued to i, and did not remove after that, i holds as live when the drain is accepted, or ended with 11
-pub drain_holds : (b : Book) (i t : ℕ) → token_after i drain b none ≡ some t → HoldsIn i (some t) (run_book drain b)
-drain_holds b i t e = subst (λ (o : Option ℕ). HoldsIn i o (run_book drain b)) e (holds_run drain b i none all_drain tt)
+pub drain_holds : (b : Book) (i t : ℕ) → token_after i drain b None ≡ Some t → HoldsIn i (Some t) (run_book drain b)
+drain_holds b i t e = subst (λ (o : Option ℕ). HoldsIn i o (run_book drain b)) e (holds_run drain b i None all_drain tt)

@@ -6,7 +6,8 @@ use mathlib.Core.List.{List, [], ◌∷◌, ◌++◌, map}
 use Rattle.std.proofs.Math.Path.{refl}
 use Rattle.std.proofs.Common.{sym, ap, ◌∙◌, arith, eqb-true, ne_eqb, ltb-false, lt-ltb, ltb-true}
 use Rattle.base_lists.specs.Laws.{and_split, and_both, or-false, rising_rest}
-use Rattle.base_lists.specs.Lists.{allb, flat_map, elemb, distinctb, insert_up, risingb}
+use Rattle.base_lists.specs.Lists.{elemb, distinctb, insert_up, risingb}
+use Rattle.std.specs.List.{list_all, flat_map}
 use Rattle.base_lists.specs.Sub.{Sub, sub_all, sub_append, filter_sub, all_sub, elem_sub, distinct_sub, eqb_sym}
 use Rattle.rules.specs.Keyed.{change, without}
 use Rattle.rules.specs.Steps.Notes.{unreplayed}
@@ -17,18 +18,18 @@ or_right false b h = h
 
 -- ---- all
 module _ {A : Type 0} (p : A → Bool) where
-  pub all_change : (key : A → ℕ) (i : ℕ) (f : A → A) → ((x : A) → p x ≡ true → p (f x) ≡ true) → (xs : List A) → allb p xs ≡ true → allb p (change key i f xs) ≡ true
+  pub all_change : (key : A → ℕ) (i : ℕ) (f : A → A) → ((x : A) → p x ≡ true → p (f x) ≡ true) → (xs : List A) → list_all p xs ≡ true → list_all p (change key i f xs) ≡ true
   unfolding change
   all_change key i f keeps [] h = refl
-  all_change key i f keeps (x ∷ xs) h = let t = and_split (p x) (allb p xs) h in and_both (go (eqb (key x) i) t.0) (all_change key i f keeps xs t.1)
+  all_change key i f keeps (x ∷ xs) h = let t = and_split (p x) (list_all p xs) h in and_both (go (eqb (key x) i) t.0) (all_change key i f keeps xs t.1)
     where
       go : (b : Bool) → p x ≡ true → p (cond b (f x) x) ≡ true
       go true k = keeps x k
       go false k = k
 
-  pub all_weaken : (q : A → Bool) → ((x : A) → p x ≡ true → q x ≡ true) → (xs : List A) → allb p xs ≡ true → allb q xs ≡ true
+  pub all_weaken : (q : A → Bool) → ((x : A) → p x ≡ true → q x ≡ true) → (xs : List A) → list_all p xs ≡ true → list_all q xs ≡ true
   all_weaken q w [] h = refl
-  all_weaken q w (x ∷ xs) h = let t = and_split (p x) (allb p xs) h in and_both (w x t.0) (all_weaken q w xs t.1)
+  all_weaken q w (x ∷ xs) h = let t = and_split (p x) (list_all p xs) h in and_both (w x t.0) (all_weaken q w xs t.1)
 
 -- ---- elements
 -- an element that differs from what a filter drops is kept
@@ -46,15 +47,15 @@ elem_without {A} key i j (x ∷ xs) n h = go (eqb (key x) i) refl (eqb (key x) j
     go false q false r h ih = or_right (eqb (key x) j) (elemb j (map key (without key i xs))) (ih h)
 
 -- all that are not i, where all were elements, are elements still
-pub all_elem_without : {A : Type 0} (key : A → ℕ) (i : ℕ) (xs : List A) (js : List ℕ) → allb (λ j. elemb j (map key xs)) js ≡ true
-    → allb (λ j. elemb j (map key (without key i xs))) (unreplayed i js) ≡ true
+pub all_elem_without : {A : Type 0} (key : A → ℕ) (i : ℕ) (xs : List A) (js : List ℕ) → list_all (λ j. elemb j (map key xs)) js ≡ true
+    → list_all (λ j. elemb j (map key (without key i xs))) (unreplayed i js) ≡ true
 unfolding unreplayed
 all_elem_without key i xs [] h = refl
-all_elem_without key i xs (j ∷ js) h = let t = and_split (elemb j (map key xs)) (allb (λ k. elemb k (map key xs)) js) h in
+all_elem_without key i xs (j ∷ js) h = let t = and_split (elemb j (map key xs)) (list_all (λ k. elemb k (map key xs)) js) h in
     go (eqb j i) refl t.0 (all_elem_without key i xs js t.1)
   where
-    go : (b : Bool) → eqb j i ≡ b → elemb j (map key xs) ≡ true → allb (λ k. elemb k (map key (without key i xs))) (unreplayed i js) ≡ true
-        → allb (λ k. elemb k (map key (without key i xs))) (cond (not b) (j ∷ unreplayed i js) (unreplayed i js)) ≡ true
+    go : (b : Bool) → eqb j i ≡ b → elemb j (map key xs) ≡ true → list_all (λ k. elemb k (map key (without key i xs))) (unreplayed i js) ≡ true
+        → list_all (λ k. elemb k (map key (without key i xs))) (cond (not b) (j ∷ unreplayed i js) (unreplayed i js)) ≡ true
     go true q k ih = ih
     go false q k ih = and_both (elem_without key i j xs q k) ih
 
@@ -90,15 +91,15 @@ distinct_adds {n} (same {x} {xs} {ys} a) h k =
     let u = or-false (eqb x n) (elemb n ys) k in
     and_both (ap not (elem_adds x a (eqb_sym n x u.0) (not-true (elemb x ys) t.0))) (distinct_adds a t.1 u.1)
 
-pub all_adds : {n : ℕ} (p : ℕ → Bool) {xs ys : List ℕ} → Adds n xs ys → p n ≡ true → allb p ys ≡ true → allb p xs ≡ true
+pub all_adds : {n : ℕ} (p : ℕ → Bool) {xs ys : List ℕ} → Adds n xs ys → p n ≡ true → list_all p ys ≡ true → list_all p xs ≡ true
 all_adds p (put s) k h = and_both k (all_sub p s h)
-all_adds p (same {x} {xs} {ys} a) k h = let t = and_split (p x) (allb p ys) h in and_both t.0 (all_adds p a k t.1)
+all_adds p (same {x} {xs} {ys} a) k h = let t = and_split (p x) (list_all p ys) h in and_both t.0 (all_adds p a k t.1)
 
 -- what is below n has no n in it
-pub below_elem : (n : ℕ) (xs : List ℕ) → allb (λ t. ltb t n) xs ≡ true → elemb n xs ≡ false
+pub below_elem : (n : ℕ) (xs : List ℕ) → list_all (λ t. ltb t n) xs ≡ true → elemb n xs ≡ false
 below_elem n [] h = refl
 below_elem n (x ∷ xs) h =
-    let t = and_split (ltb x n) (allb (λ t. ltb t n) xs) h in
+    let t = and_split (ltb x n) (list_all (λ t. ltb t n) xs) h in
     ap (λ (b : Bool). b || elemb n xs) (ne_eqb x n (λ e. let l = ltb-true x n t.0 in omega arith)) ∙ below_elem n xs t.1
 
 -- ---- rising lists
@@ -141,14 +142,14 @@ rising_insert x (z ∷ xs) h n = go (ltb x z) refl
     go true q = and_both q h
     go false q = let u = or-false (eqb z x) (elemb x xs) n in rising_insert_from z x xs (above x z q u.0) h u.1
 
-pub all_insert : (p : ℕ → Bool) (x : ℕ) (xs : List ℕ) → p x ≡ true → allb p xs ≡ true → allb p (insert_up x xs) ≡ true
+pub all_insert : (p : ℕ → Bool) (x : ℕ) (xs : List ℕ) → p x ≡ true → list_all p xs ≡ true → list_all p (insert_up x xs) ≡ true
 all_insert p x [] k h = and_both k refl
 all_insert p x (y ∷ xs) k h = go (ltb x y) (all_insert p x xs k t.1)
   where
-    t : (p y ≡ true) × (allb p xs ≡ true)
-    t = and_split (p y) (allb p xs) h
+    t : (p y ≡ true) × (list_all p xs ≡ true)
+    t = and_split (p y) (list_all p xs) h
 
-    go : (b : Bool) → allb p (insert_up x xs) ≡ true → allb p (cond b (x ∷ y ∷ xs) (y ∷ insert_up x xs)) ≡ true
+    go : (b : Bool) → list_all p (insert_up x xs) ≡ true → list_all p (cond b (x ∷ y ∷ xs) (y ∷ insert_up x xs)) ≡ true
     go true ih = and_both k h
     go false ih = and_both t.0 ih
 
@@ -181,18 +182,18 @@ elem_unreplayed x y (z ∷ ys) n h = go (eqb z x) refl (eqb z y) refl h (λ k. e
     go false q true r h ih = ap (λ (t : Bool). t || elemb y (unreplayed x ys)) r
     go false q false r h ih = or_right (eqb z y) (elemb y (unreplayed x ys)) (ih h)
 
-all_unreplayed : (x : ℕ) (xs ys : List ℕ) → elemb x xs ≡ false → allb (λ y. elemb y ys) xs ≡ true → allb (λ y. elemb y (unreplayed x ys)) xs ≡ true
+all_unreplayed : (x : ℕ) (xs ys : List ℕ) → elemb x xs ≡ false → list_all (λ y. elemb y ys) xs ≡ true → list_all (λ y. elemb y (unreplayed x ys)) xs ≡ true
 all_unreplayed x [] ys n h = refl
 all_unreplayed x (y ∷ xs) ys n h =
-    let t = and_split (elemb y ys) (allb (λ z. elemb z ys) xs) h in
+    let t = and_split (elemb y ys) (list_all (λ z. elemb z ys) xs) h in
     let u = or-false (eqb y x) (elemb x xs) n in
     and_both (elem_unreplayed x y ys u.0 t.0) (all_unreplayed x xs ys u.1 t.1)
 
 -- a list without repeats is at most as long as one that has all its elements
-pub pigeons : (xs ys : List ℕ) → distinctb xs ≡ true → allb (λ y. elemb y ys) xs ≡ true → length xs ≤ length ys
+pub pigeons : (xs ys : List ℕ) → distinctb xs ≡ true → list_all (λ y. elemb y ys) xs ≡ true → length xs ≤ length ys
 pigeons [] ys d h = omega arith
 pigeons (x ∷ xs) ys d h =
-    let t = and_split (elemb x ys) (allb (λ y. elemb y ys) xs) h in
+    let t = and_split (elemb x ys) (list_all (λ y. elemb y ys) xs) h in
     let u = and_split (not (elemb x xs)) (distinctb xs) d in
     let k = pigeons xs (unreplayed x ys) u.1 (all_unreplayed x xs ys (not-true (elemb x xs) u.0) t.1) in
     let l = dropped x ys t.0 in

@@ -1,14 +1,14 @@
 -- Paper 01, "Drain and its plan": "An id is emitted once a drain."
 use Rattle.std.specs.Prelude.{ℕ, suc, Bool, true, false, cond, not, ◌&&◌, ◌||◌, List, [], ◌∷◌, ◌++◌, map, ◌≡◌, refl, eqb}
 use Rattle.std.proofs.Common.{append-nil, sym, ap, ◌∙◌, subst}
-use Rattle.std.proofs.Math.Option.{Option, none, some}
+use Rattle.std.specs.Prelude.{Option, None, Some}
 use Rattle.base_lists.specs.Laws.{or-false, elem_append}
 use Rattle.base_lists.specs.Bytes.{eqs}
-use Rattle.base_lists.specs.Lists.{filterb, elemb}
+use Rattle.base_lists.specs.Lists.{elemb}
+use Rattle.std.specs.List.{filter}
 use Rattle.book.specs.declared.SubmittedTx.{SubmittedTx}
 use Rattle.book.specs.declared.PendingDelivery.{PendingDelivery}
-use Rattle.book.specs.declared.OptionalId.{OptionalId}
-use Rattle.book.specs.declared.OptionalId.TheVariants.{NoId, Of}
+use Rattle.book.specs.declared.SubmissionId.{SubmissionId}
 use Rattle.book.specs.declared.SubmissionDeliveryGoal.{SubmissionDeliveryGoal}
 use Rattle.book.specs.Model.{Book}
 use Rattle.book.specs.Sound.{readable_bundle, id_of}
@@ -144,8 +144,8 @@ nil E a e = append-nil E ∙ e
 
 once_known : (E : List ℕ) (n : ℕ) (c : PendingDelivery) (f : List ℕ) (t : SubmittedTx) (a : Memory) (m : Option DrainFailureCause) → E ≡ a.emitted → OnceTo Remembered E (known_by n c f t a m)
 unfolding met withdraw
-once_known E n c f t a none e = (tt, once_cond Remembered (E ++ []) (wanted c.goal t.entry) _ _ (λ q. once_deliver (E ++ []) (id_of t) c.goal a (nil E a e)) (λ q. nil E a e))
-once_known E n c f t a (some m) e = (tt, (tt, nil (E ++ []) a (nil E a e)))
+once_known E n c f t a None e = (tt, once_cond Remembered (E ++ []) (wanted c.goal t.entry) _ _ (λ q. once_deliver (E ++ []) (id_of t) c.goal a (nil E a e)) (λ q. nil E a e))
+once_known E n c f t a (Some m) e = (tt, (tt, nil (E ++ []) a (nil E a e)))
 
 once_unknown : (E : List ℕ) (n : ℕ) (c : PendingDelivery) (f : List ℕ) (b : Book) (a : Memory) → E ≡ a.emitted → OnceTo Remembered E (unknown n c f b a)
 unfolding unknown
@@ -164,9 +164,9 @@ unfolding known
 once_unnamed E n c f b a [] e = once_unknown E n c f b a e
 once_unnamed E n c f b a (t ∷ ts) e = once_known E n c f t a (miss_of c.intent f t.entry) e
 
-once_planned : (E : List ℕ) (n : ℕ) (c : PendingDelivery) (f : List ℕ) (b : Book) (a : Memory) (i : OptionalId) → E ≡ a.emitted → OnceTo Remembered E (planned_by n c f b a i)
-once_planned E n c f b a NoId e = once_unnamed E n c f b a (filterb (λ t. eqs t.entry.intent.intent_fingerprint f) b.submitted) e
-once_planned E n c f b a (Of i) e = once_named E n c f i.0 a (pick id_of i.0 b.submitted) e
+once_planned : (E : List ℕ) (n : ℕ) (c : PendingDelivery) (f : List ℕ) (b : Book) (a : Memory) (i : Option SubmissionId) → E ≡ a.emitted → OnceTo Remembered E (planned_by n c f b a i)
+once_planned E n c f b a None e = once_unnamed E n c f b a (filter (λ t. eqs t.entry.intent.intent_fingerprint f) b.submitted) e
+once_planned E n c f b a (Some i) e = once_named E n c f i.0 a (pick id_of i.0 b.submitted) e
 
 Ended : List ℕ → List SubmissionDrainFailure → Type 0
 Ended E v = Unit {0}

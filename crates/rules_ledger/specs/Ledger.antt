@@ -3,7 +3,7 @@
 use Rattle.std.specs.Prelude.{ℕ, List, []}
 use Rattle.book.specs.declared.DeliveryAttempt.{DeliveryAttempt}
 use Rattle.book.specs.declared.SubmittedEntry.{SubmittedEntry}
-use Rattle.book.specs.declared.OptionalHeight.TheVariants.{NoHeight}
+use Rattle.std.specs.Prelude.{None}
 use Rattle.rules.specs.Steps.Notes.{Rest}
 
 pub data Fate : Type 0 where
@@ -37,7 +37,7 @@ begun token id = record {
   next_token = token;
   next_id = id;
   entries = [];
-  rest = record { pending = []; retired = []; rollback = NoHeight; replayed = [] };
+  rest = record { pending = []; retired = []; rollback = None; replayed = [] };
   rows = [];
 }
 

@@ -1,13 +1,12 @@
 -- What every ledger that grew from an opened one keeps: its tokens run down to the opening one; of each submission all rows but the last are
 -- displaced, and the last is struck out where the submission is not retained any more, else live or set aside.
 use Rattle.std.specs.Prelude.{ℕ, suc, ◌≤◌, Bool, true, false, cond, List, [], ◌∷◌, map, ◌≡◌, eqb}
-use Rattle.std.proofs.Math.Option.{Option, none, some}
+use Rattle.std.specs.Prelude.{Option, None, Some}
 use Rattle.std.proofs.Common.{subst, ap}
 use Rattle.book.specs.declared.SubmittedEntry.{SubmittedEntry}
 use Rattle.rules.specs.Keyed.{same_or_other, pick}
 use Rattle.book_answers.specs.declared.DrainedSubmission.{DrainedSubmission}
-use Rattle.book_answers.specs.declared.OptionalToken.{OptionalToken}
-use Rattle.book_answers.specs.declared.OptionalToken.TheVariants.{NoToken, Of}
+use Rattle.book.specs.declared.Token.{Token}
 use Rattle.rules_ledger.specs.Ledger.{live, aside, Fate, displaced, struck, Row, Ledger, entry_id, row_id, row_token}
 
 abbrev pub is_open : Fate → Bool
@@ -79,12 +78,12 @@ pub record Tidy (o : ℕ) (l : Ledger) : Type 0 where
 
 -- the last token issued to i
 unfoldable pub last_to : ℕ → List Issue → Option ℕ
-last_to i [] = none
-last_to i (x ∷ h) = cond (eqb x.id i) (some x.token) (last_to i h)
+last_to i [] = None
+last_to i (x ∷ h) = cond (eqb x.id i) (Some x.token) (last_to i h)
 
-abbrev pub token_of : OptionalToken → Option ℕ
-token_of NoToken = none
-token_of (Of t) = some t.0
+abbrev pub token_of : Option Token → Option ℕ
+token_of None = None
+token_of (Some t) = Some t.0
 
 abbrev pub issued : DrainedSubmission → Issue
 issued x = record { token = x.attempt_token.0; id = x.id.0 }

@@ -2,11 +2,9 @@
 -- List 1302 of the seed, with what the Rust answered.
 use Rattle.base_sha256.specs.Fips
 use Rattle.std.specs.Prelude.{false, List, [], ◌∷◌, ◌++◌, ◌≡◌, refl, ℕ, replicate}
-use Rattle.std.proofs.Math.Option.{none, some}
+use Rattle.std.specs.Prelude.{None, Some}
 use Rattle.book.specs.Model.{Book}
 use Rattle.book.specs.Zero.{zeros, zero_output, zero_spend, zero_bundle, zero_hash, zero_attempt, no_attempt, base_variant}
-use Rattle.book.specs.declared.OptionalHeight.TheVariants.{NoHeight}
-use Rattle.book.specs.declared.OptionalId.TheVariants.{NoId}
 use Rattle.book.specs.declared.FeeResolution.TheVariants.{Unresolved, NotRequested}
 use Rattle.book.specs.declared.SubmissionChainTerminality.TheVariants.{Active, InputSpent}
 use Rattle.book.specs.declared.SubmissionDeliveryGoal.TheVariants.{EnsureBroadcast, FeeUpgrade}
@@ -25,7 +23,7 @@ start = book_of 41 4 (
     submission 2 no_attempt (held (attempt 40 FeeUpgrade (replicate 32 5) (hash (replicate 32 5)))) digest5 zero_bundle base_variant Unresolved (attach (replicate 32 255) 18446744073709551615) zero_hash Active (at 0)
     ∷ submission 3 (held (attempt 39 EnsureBroadcast digest6 (hash digest6))) no_attempt digest5 zero_bundle base_variant NotRequested (attach (replicate 32 255) 18446744073709551615) zero_hash InputSpent (at 0)
     ∷ [])
-    ((delivery (by_id 2) zero_bundle (at 50) (attach (replicate 32 255) 18446744073709551615) FreshChain FeeUpgrade) ∷ []) (2 ∷ 3 ∷ []) NoHeight []
+    ((delivery (by_id 2) zero_bundle (at 50) (attach (replicate 32 255) 18446744073709551615) FreshChain FeeUpgrade) ∷ []) (2 ∷ 3 ∷ []) None []
 
 abbrev pub calls : List Call
 calls =
@@ -34,7 +32,7 @@ calls =
     ∷ Call.FinishReplayIfAdvanced (height 0)
     ∷ Call.QueueRebroadcastEpoch [] FreshChain
     ∷ Call.AcknowledgeAttempt 39
-    ∷ Call.Queue (delivery NoId zero_bundle (at 100) (attach (replicate 32 4) 0) Protocol EnsureBroadcast)
+    ∷ Call.Queue (delivery None zero_bundle (at 100) (attach (replicate 32 4) 0) Protocol EnsureBroadcast)
     ∷ Call.AbsentOutputsForIds (3 ∷ 2 ∷ 2 ∷ 18446744073709551615 ∷ []) (0 ∷ 2 ∷ 1 ∷ 9 ∷ 0 ∷ []) 2
     ∷ Call.FeeIntentForAttempt 39
     ∷ Call.AbsentOutputsForIds (2 ∷ 2 ∷ []) (0 ∷ 0 ∷ []) 8
@@ -55,18 +53,18 @@ calls =
 abbrev pub answers : List (Answer Value)
 answers =
     answer [] no_value
-    ∷ answer [] (height_is NoHeight)
+    ∷ answer [] (height_is None)
     ∷ answer [] no_value
     ∷ answer [] no_value
     ∷ refused 8
     ∷ answer [] no_value
     ∷ answer [] (written (0 ∷ 0 ∷ []))
-    ∷ answer [] (fee_intent_is (some already_paid))
+    ∷ answer [] (fee_intent_is (Some already_paid))
     ∷ answer [] (written (0 ∷ 0 ∷ []))
     ∷ answer [] no_value
     ∷ answer [] (ids_are (2 ∷ 3 ∷ []))
     ∷ answer [] (ids_are (2 ∷ 3 ∷ []))
-    ∷ answer (drained 4 41 none Initial zero_bundle (at 100) (attach (replicate 32 4) 0) ∷ []) (failures [])
+    ∷ answer (drained 4 41 None Initial zero_bundle (at 100) (attach (replicate 32 4) 0) ∷ []) (failures [])
     ∷ answer [] (status_is Stale)
     ∷ answer [] (ids_are [])
     ∷ answer [] (status_is Applied)

@@ -2,11 +2,9 @@
 -- List 4000 of the seed, with what the Rust answered.
 use Rattle.base_sha256.specs.Fips
 use Rattle.std.specs.Prelude.{true, false, List, [], ◌∷◌, ◌++◌, ◌≡◌, refl, ℕ, replicate}
-use Rattle.std.proofs.Math.Option.{none, some}
+use Rattle.std.specs.Prelude.{None, Some}
 use Rattle.book.specs.Model.{Book}
 use Rattle.book.specs.Zero.{zeros, zero_output, zero_spend, zero_bundle, zero_hash, zero_attempt, no_attempt, base_variant}
-use Rattle.book.specs.declared.OptionalHeight.TheVariants.{NoHeight}
-use Rattle.book.specs.declared.OptionalId.TheVariants.{NoId}
 use Rattle.book.specs.declared.SubmissionDeliveryGoal.TheVariants.{EnsureBroadcast, FeeUpgrade}
 use Rattle.book.specs.declared.DeliveryTrigger.TheVariants.{Protocol, FreshChain, ProviderReadiness}
 use Rattle.book_answers.specs.declared.DrainFailureCause.TheVariants.{NoRetainedState}
@@ -29,14 +27,14 @@ calls =
     Call.ReplayRollbackHeight
     ∷ Call.Drain
     ∷ Call.AcknowledgeAttempt 18446744073709551610
-    ∷ Call.Queue (delivery NoId zero_bundle NoHeight (attach (replicate 32 255) 18446744073709551615) FreshChain FeeUpgrade)
-    ∷ Call.Queue (delivery (by_id 9) bundle1 NoHeight (attach (replicate 32 3) 8) ProviderReadiness FeeUpgrade)
+    ∷ Call.Queue (delivery None zero_bundle None (attach (replicate 32 255) 18446744073709551615) FreshChain FeeUpgrade)
+    ∷ Call.Queue (delivery (by_id 9) bundle1 None (attach (replicate 32 3) 8) ProviderReadiness FeeUpgrade)
     ∷ Call.BeginReplay (height 18446744073709551615)
     ∷ Call.RelinquishCompletedAttempt 18446744073709551611
     ∷ Call.ReconciliationInputCoins (0 ∷ 0 ∷ []) 5
     ∷ Call.WriteArchive 167
     ∷ Call.Drain
-    ∷ Call.Queue (delivery NoId bundle2 (at 50) (attach (replicate 32 255) 18446744073709551615) Protocol EnsureBroadcast)
+    ∷ Call.Queue (delivery None bundle2 (at 50) (attach (replicate 32 255) 18446744073709551615) Protocol EnsureBroadcast)
     ∷ Call.QueueRetainedDelivery 1 FreshChain EnsureBroadcast
     ∷ Call.Drain
     ∷ Call.FinalizeAttempt 18446744073709551614 source.JoinFailed zero_bundle
@@ -44,7 +42,7 @@ calls =
 
 abbrev pub answers : List (Answer Value)
 answers =
-    answer [] (height_is NoHeight)
+    answer [] (height_is None)
     ∷ answer [] (failures [])
     ∷ answer [] (status_is Stale)
     ∷ answer [] no_value
@@ -53,11 +51,11 @@ answers =
     ∷ answer [] (status_is Stale)
     ∷ answer [] (written (0 ∷ 0 ∷ []))
     ∷ answer [] (written ((2 ∷ []) ++ replicate 7 255 ++ (254 ∷ []) ++ num 1 ++ (0 ∷ 2 ∷ 0 ∷ 0 ∷ 0 ∷ 2 ∷ []) ++ replicate 40 255 ++ (1 ∷ 1 ∷ 1 ∷ []) ++ num 9 ++ (1 ∷ 1 ∷ 7 ∷ []) ++ replicate 32 1 ++ (0 ∷ 0 ∷ 2 ∷ []) ++ replicate 32 3 ++ num 8 ++ (3 ∷ 1 ∷ 0 ∷ 1 ∷ []) ++ replicate 8 255 ++ (0 ∷ [])))
-    ∷ answer (drained 1 18446744073709551614 none Initial zero_bundle NoHeight (attach (replicate 32 255) 18446744073709551615) ∷ []) (failures (failed 1 NoRetainedState 9 digest10 ∷ []))
+    ∷ answer (drained 1 18446744073709551614 None Initial zero_bundle None (attach (replicate 32 255) 18446744073709551615) ∷ []) (failures (failed 1 NoRetainedState 9 digest10 ∷ []))
     ∷ answer [] no_value
     ∷ answer [] no_value
     ∷ refused 11
-    ∷ answer [] (finalized (some (finalized_as zero_bundle 0 true disposition.Unused digest8 false)))
+    ∷ answer [] (finalized (Some (finalized_as zero_bundle 0 true disposition.Unused digest8 false)))
     ∷ []
 
 abbrev pub archive : List ℕ

@@ -4,8 +4,7 @@ use Rattle.base_sha256.specs.Fips
 use Rattle.std.specs.Prelude.{true, false, List, [], ◌∷◌, ◌++◌, ◌≡◌, refl, ℕ, replicate}
 use Rattle.book.specs.Model.{Book}
 use Rattle.book.specs.Zero.{zeros, zero_output, zero_spend, zero_bundle, zero_hash, zero_attempt, no_attempt, base_variant}
-use Rattle.book.specs.declared.OptionalHeight.TheVariants.{NoHeight}
-use Rattle.book.specs.declared.OptionalId.TheVariants.{NoId}
+use Rattle.std.specs.Prelude.{None}
 use Rattle.book.specs.declared.FeeResolution.TheVariants.{Unresolved, NotRequested}
 use Rattle.book.specs.declared.SubmissionChainTerminality.TheVariants.{Active, Landed}
 use Rattle.book.specs.declared.SubmissionDeliveryGoal.TheVariants.{EnsureBroadcast, FeeUpgrade}
@@ -23,7 +22,7 @@ start = book_of 43 4 (
     submission 4 (held (attempt 42 EnsureBroadcast (replicate 32 5) zero_hash)) no_attempt digest12 bundle3 base_variant NotRequested already_paid zero_hash Landed (at 100)
     ∷ submission 3 no_attempt no_attempt digest12 bundle3 base_variant Unresolved already_paid zero_hash Active (at 100)
     ∷ [])
-    ((delivery NoId zero_bundle (at 50) (attach (replicate 32 3) 8) Protocol FeeUpgrade) ∷ (delivery NoId bundle3 (at 0) already_paid Rollback EnsureBroadcast) ∷ (delivery NoId bundle3 (at 0) (attach (replicate 32 3) 8) FreshChain EnsureBroadcast) ∷ (delivery NoId bundle3 NoHeight (attach (replicate 32 3) 7) FreshChain EnsureBroadcast) ∷ (delivery NoId bundle3 (at 0) already_paid ProviderReadiness FeeUpgrade) ∷ (delivery NoId bundle3 (at 0) (attach (replicate 32 3) 8) ProviderReadiness EnsureBroadcast) ∷ (delivery NoId bundle3 (at 0) (attach (replicate 32 3) 7) ProviderReadiness EnsureBroadcast) ∷ (delivery NoId zero_bundle (at 18446744073709551615) already_paid Protocol EnsureBroadcast) ∷ (delivery NoId bundle3 (at 0) already_paid Protocol EnsureBroadcast) ∷ (delivery NoId bundle1 (at 2009) (attach (replicate 32 255) 18446744073709551615) FreshChain FeeUpgrade) ∷ (delivery NoId bundle3 (at 0) already_paid ProviderReadiness EnsureBroadcast) ∷ (delivery NoId zero_bundle (at 100) (attach (replicate 32 4) 0) Rollback EnsureBroadcast) ∷ (delivery NoId bundle3 (at 0) (attach (replicate 32 3) 8) ProviderReadiness EnsureBroadcast) ∷ (delivery NoId bundle4 (at 50) already_paid FreshChain EnsureBroadcast) ∷ (delivery NoId zero_bundle NoHeight (attach (replicate 32 3) 8) ProviderReadiness FeeUpgrade) ∷ (delivery NoId bundle3 (at 0) already_paid Protocol EnsureBroadcast) ∷ []) (count_from 1000 64) (at 99) []
+    ((delivery None zero_bundle (at 50) (attach (replicate 32 3) 8) Protocol FeeUpgrade) ∷ (delivery None bundle3 (at 0) already_paid Rollback EnsureBroadcast) ∷ (delivery None bundle3 (at 0) (attach (replicate 32 3) 8) FreshChain EnsureBroadcast) ∷ (delivery None bundle3 None (attach (replicate 32 3) 7) FreshChain EnsureBroadcast) ∷ (delivery None bundle3 (at 0) already_paid ProviderReadiness FeeUpgrade) ∷ (delivery None bundle3 (at 0) (attach (replicate 32 3) 8) ProviderReadiness EnsureBroadcast) ∷ (delivery None bundle3 (at 0) (attach (replicate 32 3) 7) ProviderReadiness EnsureBroadcast) ∷ (delivery None zero_bundle (at 18446744073709551615) already_paid Protocol EnsureBroadcast) ∷ (delivery None bundle3 (at 0) already_paid Protocol EnsureBroadcast) ∷ (delivery None bundle1 (at 2009) (attach (replicate 32 255) 18446744073709551615) FreshChain FeeUpgrade) ∷ (delivery None bundle3 (at 0) already_paid ProviderReadiness EnsureBroadcast) ∷ (delivery None zero_bundle (at 100) (attach (replicate 32 4) 0) Rollback EnsureBroadcast) ∷ (delivery None bundle3 (at 0) (attach (replicate 32 3) 8) ProviderReadiness EnsureBroadcast) ∷ (delivery None bundle4 (at 50) already_paid FreshChain EnsureBroadcast) ∷ (delivery None zero_bundle None (attach (replicate 32 3) 8) ProviderReadiness FeeUpgrade) ∷ (delivery None bundle3 (at 0) already_paid Protocol EnsureBroadcast) ∷ []) (count_from 1000 64) (at 99) []
 
 abbrev pub calls : List Call
 calls =
@@ -37,7 +36,7 @@ calls =
     ∷ Call.EmitRetirement 3
     ∷ Call.QueueFeeReadiness
     ∷ Call.ReconcileChainTerminality ((0 ∷ 1 ∷ 66 ∷ []) ++ digest1 ++ replicate 32 1 ++ (0 ∷ 128 ∷ [])) [] true (18446744073709551615 ∷ [])
-    ∷ Call.Queue (delivery NoId bundle2 NoHeight already_paid FreshChain EnsureBroadcast)
+    ∷ Call.Queue (delivery None bundle2 None already_paid FreshChain EnsureBroadcast)
     ∷ Call.RetainSubmitted (3 ∷ 4 ∷ [])
     ∷ Call.QueueFeeReadiness
     ∷ []

@@ -4,8 +4,7 @@ use Rattle.base_sha256.specs.Fips
 use Rattle.std.specs.Prelude.{true, false, List, [], ◌∷◌, ◌++◌, ◌≡◌, refl, ℕ, replicate}
 use Rattle.book.specs.Model.{Book}
 use Rattle.book.specs.Zero.{zeros, zero_output, zero_spend, zero_bundle, zero_hash, zero_attempt, no_attempt, base_variant}
-use Rattle.book.specs.declared.OptionalHeight.TheVariants.{NoHeight}
-use Rattle.book.specs.declared.OptionalId.TheVariants.{NoId}
+use Rattle.std.specs.Prelude.{None}
 use Rattle.book.specs.declared.FeeResolution.TheVariants.{Unresolved}
 use Rattle.book.specs.declared.SubmissionChainTerminality.TheVariants.{Active, InputSpent}
 use Rattle.book.specs.declared.SubmissionDeliveryGoal.TheVariants.{EnsureBroadcast, FeeUpgrade}
@@ -23,9 +22,9 @@ use Rattle.rules_recorded_lists.specs.Shared.{digest1, digest6, digest13, digest
 abbrev pub start : Book
 start = book_of 43 18446744073709551615 (
     submission 1 (held (attempt 41 FeeUpgrade digest6 (hash digest6))) no_attempt digest13 bundle3 base_variant Unresolved (attach (replicate 32 3) 8) (hash digest6) Active (at 100)
-    ∷ submission 0 (held (attempt 42 FeeUpgrade digest15 zero_hash)) no_attempt digest14 bundle2 base_variant Unresolved (attach (replicate 32 3) 8) zero_hash InputSpent NoHeight
+    ∷ submission 0 (held (attempt 42 FeeUpgrade digest15 zero_hash)) no_attempt digest14 bundle2 base_variant Unresolved (attach (replicate 32 3) 8) zero_hash InputSpent None
     ∷ [])
-    ((delivery NoId bundle1 (at 18446744073709551615) already_paid Protocol EnsureBroadcast) ∷ (delivery NoId bundle2 (at 50) (attach (replicate 32 3) 8) ProviderReadiness EnsureBroadcast) ∷ []) [] (at 101) (1 ∷ [])
+    ((delivery None bundle1 (at 18446744073709551615) already_paid Protocol EnsureBroadcast) ∷ (delivery None bundle2 (at 50) (attach (replicate 32 3) 8) ProviderReadiness EnsureBroadcast) ∷ []) [] (at 101) (1 ∷ [])
 
 abbrev pub calls : List Call
 calls =
@@ -42,9 +41,9 @@ calls =
     ∷ Call.ActiveIds
     ∷ Call.Queue (delivery (by_id 28) bundle2 (at 50) (attach (replicate 32 4) 0) Rollback FeeUpgrade)
     ∷ Call.ClearLocalArtifacts
-    ∷ Call.Queue (delivery NoId bundle3 NoHeight (attach (replicate 32 255) 18446744073709551615) Protocol EnsureBroadcast)
+    ∷ Call.Queue (delivery None bundle3 None (attach (replicate 32 255) 18446744073709551615) Protocol EnsureBroadcast)
     ∷ Call.BeginReplay (height 100)
-    ∷ Call.Queue (delivery NoId bundle3 NoHeight (attach (replicate 32 255) 18446744073709551615) Protocol EnsureBroadcast)
+    ∷ Call.Queue (delivery None bundle3 None (attach (replicate 32 255) 18446744073709551615) Protocol EnsureBroadcast)
     ∷ Call.FinishReplayIfAdvanced (height 18446744073709551615)
     ∷ []
 

@@ -2,11 +2,9 @@
 -- List 6991 of the seed, with what the Rust answered.
 use Rattle.base_sha256.specs.Fips
 use Rattle.std.specs.Prelude.{List, [], ◌∷◌, ◌++◌, ◌≡◌, refl, ℕ, replicate}
-use Rattle.std.proofs.Math.Option.{none, some}
+use Rattle.std.specs.Prelude.{None, Some}
 use Rattle.book.specs.Model.{Book}
 use Rattle.book.specs.Zero.{zeros, zero_output, zero_spend, zero_bundle, zero_hash, zero_attempt, no_attempt, base_variant}
-use Rattle.book.specs.declared.OptionalHeight.TheVariants.{NoHeight}
-use Rattle.book.specs.declared.OptionalId.TheVariants.{NoId}
 use Rattle.book.specs.declared.FeeResolution.TheVariants.{NotRequested}
 use Rattle.book.specs.declared.SubmissionChainTerminality.TheVariants.{Active}
 use Rattle.book.specs.declared.SubmissionDeliveryGoal.TheVariants.{EnsureBroadcast, FeeUpgrade}
@@ -26,7 +24,7 @@ start = book_of 44 2 (
     submission 0 no_attempt (held (attempt 43 EnsureBroadcast (replicate 32 5) (hash digest18))) digest17 bundle4 base_variant NotRequested no_fee (hash digest18) Active (at 0)
     ∷ submission 1 (held (attempt 41 EnsureBroadcast digest18 zero_hash)) (held (attempt 42 EnsureBroadcast digest18 (hash digest8))) digest19 zero_bundle (fee_bearing bundle4 18446744073709551615) NotRequested already_paid (hash digest18) Active (at 100)
     ∷ [])
-    ((delivery NoId zero_bundle NoHeight no_fee Rollback EnsureBroadcast) ∷ []) [] (at 99) []
+    ((delivery None zero_bundle None no_fee Rollback EnsureBroadcast) ∷ []) [] (at 99) []
 
 abbrev pub calls : List Call
 calls =
@@ -42,7 +40,7 @@ calls =
     ∷ Call.Attempt 43
     ∷ Call.QueueFeeReadiness
     ∷ Call.Drain
-    ∷ Call.Queue (delivery NoId bundle4 (at 18446744073709551615) (attach (replicate 32 3) 7) ProviderReadiness EnsureBroadcast)
+    ∷ Call.Queue (delivery None bundle4 (at 18446744073709551615) (attach (replicate 32 3) 7) ProviderReadiness EnsureBroadcast)
     ∷ Call.QueueFeeReadiness
     ∷ []
 
@@ -50,16 +48,16 @@ abbrev pub answers : List (Answer Value)
 answers =
     answer [] (ids_are (0 ∷ 1 ∷ []))
     ∷ refused 7
-    ∷ answer [] (fee_intent_is (some already_paid))
+    ∷ answer [] (fee_intent_is (Some already_paid))
     ∷ answer [] (ids_are (0 ∷ 1 ∷ []))
     ∷ answer [] (status_is Applied)
     ∷ answer [] no_value
     ∷ answer [] (status_is Stale)
     ∷ answer [] no_value
     ∷ answer [] no_value
-    ∷ answer [] (attempt_is none)
+    ∷ answer [] (attempt_is None)
     ∷ answer [] no_value
-    ∷ answer (drained 2 44 none Initial zero_bundle NoHeight already_paid ∷ drained 0 45 (some 43) Exact bundle4 (at 0) already_paid ∷ []) (failures [])
+    ∷ answer (drained 2 44 None Initial zero_bundle None already_paid ∷ drained 0 45 (Some 43) Exact bundle4 (at 0) already_paid ∷ []) (failures [])
     ∷ answer [] no_value
     ∷ answer [] no_value
     ∷ []

@@ -2,11 +2,10 @@
 -- List 9719 of the seed, with what the Rust answered.
 use Rattle.base_sha256.specs.Fips
 use Rattle.std.specs.Prelude.{true, false, List, [], ◌∷◌, ◌++◌, ◌≡◌, refl, ℕ, replicate}
-use Rattle.std.proofs.Math.Option.{some}
+use Rattle.std.specs.Prelude.{Some}
 use Rattle.book.specs.Model.{Book}
 use Rattle.book.specs.Zero.{zeros, zero_output, zero_spend, zero_bundle, zero_hash, zero_attempt, no_attempt, base_variant}
-use Rattle.book.specs.declared.OptionalHeight.TheVariants.{NoHeight}
-use Rattle.book.specs.declared.OptionalId.TheVariants.{NoId}
+use Rattle.std.specs.Prelude.{None}
 use Rattle.book.specs.declared.FeeResolution.TheVariants.{Unresolved, Attached}
 use Rattle.book.specs.declared.SubmissionChainTerminality.TheVariants.{Active, Landed}
 use Rattle.book.specs.declared.SubmissionDeliveryGoal.TheVariants.{EnsureBroadcast, FeeUpgrade}
@@ -24,10 +23,10 @@ use Rattle.rules_recorded_lists.specs.Shared.{digest8, digest9, digest15, bundle
 
 abbrev pub start : Book
 start = book_of 40 18446744073709551615 (
-    submission 3 (held (attempt 38 EnsureBroadcast digest8 zero_hash)) (held (attempt 39 FeeUpgrade digest8 zero_hash)) digest9 zero_bundle base_variant Unresolved (attach (replicate 32 255) 18446744073709551615) zero_hash Active NoHeight
-    ∷ submission 4 no_attempt (held (attempt 37 EnsureBroadcast digest15 (hash digest15))) (replicate 32 5) bundle2 base_variant Attached (attach (replicate 32 4) 0) zero_hash Landed NoHeight
+    submission 3 (held (attempt 38 EnsureBroadcast digest8 zero_hash)) (held (attempt 39 FeeUpgrade digest8 zero_hash)) digest9 zero_bundle base_variant Unresolved (attach (replicate 32 255) 18446744073709551615) zero_hash Active None
+    ∷ submission 4 no_attempt (held (attempt 37 EnsureBroadcast digest15 (hash digest15))) (replicate 32 5) bundle2 base_variant Attached (attach (replicate 32 4) 0) zero_hash Landed None
     ∷ [])
-    ((delivery NoId zero_bundle NoHeight (attach (replicate 32 255) 18446744073709551615) Rollback FeeUpgrade) ∷ []) [] (at 18446744073709551615) (3 ∷ [])
+    ((delivery None zero_bundle None (attach (replicate 32 255) 18446744073709551615) Rollback FeeUpgrade) ∷ []) [] (at 18446744073709551615) (3 ∷ [])
 
 abbrev pub calls : List Call
 calls =
@@ -45,14 +44,14 @@ calls =
 
 abbrev pub answers : List (Answer Value)
 answers =
-    answer (drained 3 40 (some 38) NewerFeeBearing zero_bundle NoHeight (attach (replicate 32 255) 18446744073709551615) ∷ []) (failures [])
+    answer (drained 3 40 (Some 38) NewerFeeBearing zero_bundle None (attach (replicate 32 255) 18446744073709551615) ∷ []) (failures [])
     ∷ refused 4
     ∷ refused 6
     ∷ answer [] no_value
     ∷ answer [] (status_is Applied)
     ∷ answer [] no_value
     ∷ answer [] no_value
-    ∷ answer [] (finalized (some (finalized_as zero_bundle 18446744073709551615 false disposition.Attached digest8 true)))
+    ∷ answer [] (finalized (Some (finalized_as zero_bundle 18446744073709551615 false disposition.Attached digest8 true)))
     ∷ answer [] no_value
     ∷ answer [] (status_is Applied)
     ∷ []

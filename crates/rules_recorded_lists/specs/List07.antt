@@ -4,8 +4,7 @@ use Rattle.base_sha256.specs.Fips
 use Rattle.std.specs.Prelude.{true, false, List, [], ◌∷◌, ◌++◌, ◌≡◌, refl, ℕ, replicate}
 use Rattle.book.specs.Model.{Book}
 use Rattle.book.specs.Zero.{zeros, zero_output, zero_spend, zero_bundle, zero_hash, zero_attempt, no_attempt, base_variant}
-use Rattle.book.specs.declared.OptionalHeight.TheVariants.{NoHeight}
-use Rattle.book.specs.declared.OptionalId.TheVariants.{NoId}
+use Rattle.std.specs.Prelude.{None}
 use Rattle.book.specs.declared.FeeResolution.TheVariants.{Unresolved, NotRequested}
 use Rattle.book.specs.declared.SubmissionChainTerminality.TheVariants.{Active, InputSpent}
 use Rattle.book.specs.declared.SubmissionDeliveryGoal.TheVariants.{EnsureBroadcast, FeeUpgrade}
@@ -20,17 +19,17 @@ use Rattle.rules_recorded_lists.specs.Shared.{digest8, digest21, digest22, diges
 
 abbrev pub start : Book
 start = book_of 41 5 (
-    submission 2 no_attempt (held (attempt 40 FeeUpgrade digest8 (hash digest8))) digest21 zero_bundle base_variant Unresolved (attach (replicate 32 4) 0) (hash digest8) Active NoHeight
+    submission 2 no_attempt (held (attempt 40 FeeUpgrade digest8 (hash digest8))) digest21 zero_bundle base_variant Unresolved (attach (replicate 32 4) 0) (hash digest8) Active None
     ∷ submission 3 (held (attempt 38 FeeUpgrade digest8 (hash digest8))) (held (attempt 39 EnsureBroadcast digest8 (hash digest8))) digest22 zero_bundle base_variant NotRequested no_fee (hash digest8) InputSpent (at 100)
     ∷ submission 4 (held (attempt 37 EnsureBroadcast digest8 (hash (replicate 32 5)))) no_attempt digest23 zero_bundle base_variant Unresolved (attach (replicate 32 3) 7) zero_hash InputSpent (at 50)
     ∷ [])
-    ((delivery NoId bundle5 (at 100) (attach (replicate 32 255) 18446744073709551615) Rollback FeeUpgrade) ∷ (delivery (by_id 3) zero_bundle (at 100) no_fee Protocol EnsureBroadcast) ∷ []) [] (at 101) []
+    ((delivery None bundle5 (at 100) (attach (replicate 32 255) 18446744073709551615) Rollback FeeUpgrade) ∷ (delivery (by_id 3) zero_bundle (at 100) no_fee Protocol EnsureBroadcast) ∷ []) [] (at 101) []
 
 abbrev pub calls : List Call
 calls =
     Call.ReconciliationInputCoins ((3 ∷ 33 ∷ 40 ∷ []) ++ replicate 40 1) 4
     ∷ Call.FinishReplayIfAdvanced (height 102)
-    ∷ Call.Queue (delivery NoId bundle6 (at 100) (attach (replicate 32 255) 18446744073709551615) Rollback EnsureBroadcast)
+    ∷ Call.Queue (delivery None bundle6 (at 100) (attach (replicate 32 255) 18446744073709551615) Rollback EnsureBroadcast)
     ∷ Call.CausallyRolledBackIds (0 ∷ 1 ∷ 0 ∷ []) (replicate 32 9)
     ∷ Call.ReconcileChainTerminality (0 ∷ 0 ∷ []) [] false (5 ∷ 4 ∷ 5 ∷ 5 ∷ [])
     ∷ Call.AbsentOutputsForIds (4 ∷ 7 ∷ 3 ∷ 20 ∷ []) (0 ∷ 1 ∷ 1 ∷ 9 ∷ []) 2
@@ -39,7 +38,7 @@ calls =
     ∷ Call.ActiveIds
     ∷ Call.AbsentOutputsForIds (replicate 65 0) (0 ∷ 0 ∷ []) 11
     ∷ Call.CausallyRolledBackIds (0 ∷ 0 ∷ []) []
-    ∷ Call.Queue (delivery NoId bundle7 NoHeight no_fee ProviderReadiness EnsureBroadcast)
+    ∷ Call.Queue (delivery None bundle7 None no_fee ProviderReadiness EnsureBroadcast)
     ∷ Call.AbandonAttempt 38
     ∷ Call.RestoreRuntime
     ∷ Call.FinishReplayIfAdvanced (height 18446744073709551615)
@@ -48,7 +47,7 @@ calls =
     ∷ Call.AbsentOutputsForIds [] (0 ∷ 0 ∷ []) 8
     ∷ Call.RelinquishCompletedAttempt 37
     ∷ Call.ReconcileChainTerminality (0 ∷ 0 ∷ []) [] false (replicate 65 0)
-    ∷ Call.Queue (delivery NoId zero_bundle (at 18446744073709551615) (attach (replicate 32 3) 7) Protocol EnsureBroadcast)
+    ∷ Call.Queue (delivery None zero_bundle (at 18446744073709551615) (attach (replicate 32 3) 7) Protocol EnsureBroadcast)
     ∷ []
 
 abbrev pub answers : List (Answer Value)

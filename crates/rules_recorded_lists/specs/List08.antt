@@ -4,8 +4,7 @@ use Rattle.base_sha256.specs.Fips
 use Rattle.std.specs.Prelude.{true, false, List, [], ◌∷◌, ◌++◌, ◌≡◌, refl, ℕ, replicate}
 use Rattle.book.specs.Model.{Book}
 use Rattle.book.specs.Zero.{zeros, zero_output, zero_spend, zero_bundle, zero_hash, zero_attempt, no_attempt, base_variant}
-use Rattle.book.specs.declared.OptionalHeight.TheVariants.{NoHeight}
-use Rattle.book.specs.declared.OptionalId.TheVariants.{NoId}
+use Rattle.std.specs.Prelude.{None}
 use Rattle.book.specs.declared.FeeResolution.TheVariants.{Unresolved}
 use Rattle.book.specs.declared.SubmissionChainTerminality.TheVariants.{InputSpent}
 use Rattle.book.specs.declared.SubmissionDeliveryGoal.TheVariants.{EnsureBroadcast}
@@ -21,14 +20,14 @@ use Rattle.rules_recorded_lists.specs.Shared.{digest8, bundle2, bundle8, bundle9
 
 abbrev pub start : Book
 start = book_of 44 1 (
-    submission 0 no_attempt (held (attempt 42 EnsureBroadcast digest8 zero_hash)) (replicate 32 5) zero_bundle base_variant Unresolved (attach (replicate 32 4) 0) zero_hash InputSpent NoHeight
+    submission 0 no_attempt (held (attempt 42 EnsureBroadcast digest8 zero_hash)) (replicate 32 5) zero_bundle base_variant Unresolved (attach (replicate 32 4) 0) zero_hash InputSpent None
     ∷ [])
-    ((delivery NoId zero_bundle NoHeight (attach (replicate 32 4) 0) Protocol EnsureBroadcast) ∷ (delivery NoId bundle2 (at 18446744073709551615) no_fee FreshChain EnsureBroadcast) ∷ []) (1000 ∷ []) NoHeight []
+    ((delivery None zero_bundle None (attach (replicate 32 4) 0) Protocol EnsureBroadcast) ∷ (delivery None bundle2 (at 18446744073709551615) no_fee FreshChain EnsureBroadcast) ∷ []) (1000 ∷ []) None []
 
 abbrev pub calls : List Call
 calls =
     Call.ReconcileChainTerminality (0 ∷ 1 ∷ 0 ∷ []) [] false (replicate 102 0)
-    ∷ Call.Queue (delivery (by_id 0) bundle8 NoHeight (attach (replicate 32 4) 0) FreshChain EnsureBroadcast)
+    ∷ Call.Queue (delivery (by_id 0) bundle8 None (attach (replicate 32 4) 0) FreshChain EnsureBroadcast)
     ∷ Call.CausallyRolledBackIds (0 ∷ 1 ∷ 1 ∷ 9 ∷ []) []
     ∷ Call.RelinquishCompletedAttempt 42
     ∷ Call.ReconcileChainTerminality (0 ∷ 1 ∷ 0 ∷ 0 ∷ []) [] true (replicate 64 0)

@@ -2,11 +2,9 @@
 -- List 11766 of the seed, with what the Rust answered.
 use Rattle.base_sha256.specs.Fips
 use Rattle.std.specs.Prelude.{List, [], ◌∷◌, ◌++◌, ◌≡◌, refl, ℕ, replicate}
-use Rattle.std.proofs.Math.Option.{none, some}
+use Rattle.std.specs.Prelude.{None, Some}
 use Rattle.book.specs.Model.{Book}
 use Rattle.book.specs.Zero.{zeros, zero_output, zero_spend, zero_bundle, zero_hash, zero_attempt, no_attempt, base_variant}
-use Rattle.book.specs.declared.OptionalHeight.TheVariants.{NoHeight}
-use Rattle.book.specs.declared.OptionalId.TheVariants.{NoId}
 use Rattle.book.specs.declared.FeeResolution.TheVariants.{Attached}
 use Rattle.book.specs.declared.SubmissionChainTerminality.TheVariants.{InputSpent}
 use Rattle.book.specs.declared.SubmissionDeliveryGoal.TheVariants.{EnsureBroadcast, FeeUpgrade}
@@ -24,9 +22,9 @@ use Rattle.rules_recorded_lists.specs.Shared.{digest15, digest24, digest25, dige
 
 abbrev pub start : Book
 start = book_of 18446744073709551613 4 (
-    submission 3 (held (attempt 18446744073709551612 EnsureBroadcast digest25 (hash digest15))) no_attempt digest24 bundle2 (fee_bearing bundle1 7) Attached (attach (replicate 32 3) 7) zero_hash InputSpent NoHeight
+    submission 3 (held (attempt 18446744073709551612 EnsureBroadcast digest25 (hash digest15))) no_attempt digest24 bundle2 (fee_bearing bundle1 7) Attached (attach (replicate 32 3) 7) zero_hash InputSpent None
     ∷ [])
-    ((delivery NoId bundle2 (at 0) (attach (replicate 32 3) 7) Protocol EnsureBroadcast) ∷ []) (3 ∷ []) (at 99) []
+    ((delivery None bundle2 (at 0) (attach (replicate 32 3) 7) Protocol EnsureBroadcast) ∷ []) (3 ∷ []) (at 99) []
 
 abbrev pub calls : List Call
 calls =
@@ -45,11 +43,11 @@ calls =
 abbrev pub answers : List (Answer Value)
 answers =
     answer [] no_value
-    ∷ answer [] (height_is NoHeight)
+    ∷ answer [] (height_is None)
     ∷ answer [] no_value
     ∷ answer [] no_value
-    ∷ answer [] (finalized none)
-    ∷ answer (drained 3 18446744073709551613 (some 18446744073709551612) Other bundle1 (at 0) already_paid ∷ []) (failures (failed 1 IntentDiffers 3 digest26 ∷ []))
+    ∷ answer [] (finalized None)
+    ∷ answer (drained 3 18446744073709551613 (Some 18446744073709551612) Other bundle1 (at 0) already_paid ∷ []) (failures (failed 1 IntentDiffers 3 digest26 ∷ []))
     ∷ answer [] (ids_are [])
     ∷ answer [] (status_is Stale)
     ∷ answer [] (ids_are (3 ∷ []))

@@ -4,7 +4,7 @@ use Rattle.base_sha256.specs.Fips
 use Rattle.std.specs.Prelude.{true, List, [], ◌∷◌, ◌++◌, ◌≡◌, refl, ℕ, replicate}
 use Rattle.book.specs.Model.{Book}
 use Rattle.book.specs.Zero.{zeros, zero_output, zero_spend, zero_bundle, zero_hash, zero_attempt, no_attempt, base_variant}
-use Rattle.book.specs.declared.OptionalHeight.TheVariants.{NoHeight}
+use Rattle.std.specs.Prelude.{None}
 use Rattle.book.specs.declared.FeeResolution.TheVariants.{Unresolved}
 use Rattle.book.specs.declared.SubmissionChainTerminality.TheVariants.{Landed}
 use Rattle.book.specs.declared.SubmissionDeliveryGoal.TheVariants.{EnsureBroadcast, FeeUpgrade}
@@ -20,9 +20,9 @@ use Rattle.rules_recorded_lists.specs.Shared.{digest21, bundle10}
 
 abbrev pub start : Book
 start = book_of 18446744073709551614 18446744073709551615 (
-    submission 1 no_attempt (held (attempt 18446744073709551613 FeeUpgrade (replicate 32 5) zero_hash)) digest21 zero_bundle base_variant Unresolved (attach (replicate 32 4) 0) zero_hash Landed NoHeight
+    submission 1 no_attempt (held (attempt 18446744073709551613 FeeUpgrade (replicate 32 5) zero_hash)) digest21 zero_bundle base_variant Unresolved (attach (replicate 32 4) 0) zero_hash Landed None
     ∷ [])
-    ((delivery (by_id 1) zero_bundle (at 0) (attach (replicate 32 4) 0) Protocol FeeUpgrade) ∷ []) [] NoHeight []
+    ((delivery (by_id 1) zero_bundle (at 0) (attach (replicate 32 4) 0) Protocol FeeUpgrade) ∷ []) [] None []
 
 abbrev pub calls : List Call
 calls =

@@ -4,8 +4,7 @@ use Rattle.base_sha256.specs.Fips
 use Rattle.std.specs.Prelude.{true, false, List, [], ◌∷◌, ◌++◌, ◌≡◌, refl, ℕ, replicate}
 use Rattle.book.specs.Model.{Book}
 use Rattle.book.specs.Zero.{zeros, zero_output, zero_spend, zero_bundle, zero_hash, zero_attempt, no_attempt, base_variant}
-use Rattle.book.specs.declared.OptionalHeight.TheVariants.{NoHeight}
-use Rattle.book.specs.declared.OptionalId.TheVariants.{NoId}
+use Rattle.std.specs.Prelude.{None}
 use Rattle.book.specs.declared.FeeResolution.TheVariants.{NotRequested}
 use Rattle.book.specs.declared.SubmissionChainTerminality.TheVariants.{InputSpent}
 use Rattle.book.specs.declared.SubmissionDeliveryGoal.TheVariants.{EnsureBroadcast, FeeUpgrade}
@@ -20,14 +19,14 @@ use Rattle.rules_recorded_lists.specs.Shared.{digest27, bundle3, bundle4, bundle
 
 abbrev pub start : Book
 start = book_of 44 1 (
-    submission 1 no_attempt no_attempt digest27 zero_bundle (fee_bearing bundle4 18446744073709551615) NotRequested already_paid zero_hash InputSpent NoHeight
+    submission 1 no_attempt no_attempt digest27 zero_bundle (fee_bearing bundle4 18446744073709551615) NotRequested already_paid zero_hash InputSpent None
     ∷ [])
     [] (1000 ∷ []) (at 0) []
 
 abbrev pub calls : List Call
 calls =
     Call.CausallyRolledBackIds (0 ∷ []) (replicate 32 9)
-    ∷ Call.Queue (delivery NoId zero_bundle (at 50) already_paid Rollback FeeUpgrade)
+    ∷ Call.Queue (delivery None zero_bundle (at 50) already_paid Rollback FeeUpgrade)
     ∷ Call.AbandonAttempt 44
     ∷ Call.FinalizeAttempt 45 source.Joined bundle11
     ∷ Call.CollectRollbackReplayIds (replicate 65 0)
@@ -41,11 +40,11 @@ calls =
     ∷ Call.WriteArchive 153
     ∷ Call.ReconcileChainTerminality (0 ∷ 0 ∷ []) [] false (1 ∷ [])
     ∷ Call.QueueRebroadcastEpoch (1000 ∷ []) FreshChain
-    ∷ Call.Queue (delivery NoId bundle3 NoHeight (attach (replicate 32 4) 0) FreshChain EnsureBroadcast)
+    ∷ Call.Queue (delivery None bundle3 None (attach (replicate 32 4) 0) FreshChain EnsureBroadcast)
     ∷ Call.DrainRetirements
-    ∷ Call.Queue (delivery NoId bundle12 NoHeight (attach (replicate 32 255) 18446744073709551615) FreshChain EnsureBroadcast)
+    ∷ Call.Queue (delivery None bundle12 None (attach (replicate 32 255) 18446744073709551615) FreshChain EnsureBroadcast)
     ∷ Call.AbsentOutputsForIds (1 ∷ 18446744073709551615 ∷ []) ((0 ∷ 1 ∷ 74 ∷ []) ++ replicate 74 1) 8
-    ∷ Call.Queue (delivery NoId bundle13 (at 18446744073709551615) (attach (replicate 32 3) 7) ProviderReadiness EnsureBroadcast)
+    ∷ Call.Queue (delivery None bundle13 (at 18446744073709551615) (attach (replicate 32 3) 7) ProviderReadiness EnsureBroadcast)
     ∷ Call.ReconcileChainTerminality (0 ∷ 1 ∷ 0 ∷ []) [] true (1 ∷ 1 ∷ 1 ∷ [])
     ∷ []
 

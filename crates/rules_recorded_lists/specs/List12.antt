@@ -2,11 +2,9 @@
 -- List 13723 of the seed, with what the Rust answered.
 use Rattle.base_sha256.specs.Fips
 use Rattle.std.specs.Prelude.{false, List, [], ◌∷◌, ◌++◌, ◌≡◌, refl, ℕ, replicate}
-use Rattle.std.proofs.Math.Option.{none}
+use Rattle.std.specs.Prelude.{None}
 use Rattle.book.specs.Model.{Book}
 use Rattle.book.specs.Zero.{zeros, zero_output, zero_spend, zero_bundle, zero_hash, zero_attempt, no_attempt, base_variant}
-use Rattle.book.specs.declared.OptionalHeight.TheVariants.{NoHeight}
-use Rattle.book.specs.declared.OptionalId.TheVariants.{NoId}
 use Rattle.book.specs.declared.FeeResolution.TheVariants.{NotRequested}
 use Rattle.book.specs.declared.SubmissionChainTerminality.TheVariants.{Active}
 use Rattle.book.specs.declared.SubmissionDeliveryGoal.TheVariants.{EnsureBroadcast, FeeUpgrade}
@@ -22,9 +20,9 @@ use Rattle.rules_recorded_lists.specs.Shared.{digest8, digest19, bundle2, bundle
 
 abbrev pub start : Book
 start = book_of 42 0 (
-    submission 0 no_attempt (held (attempt 41 EnsureBroadcast digest8 zero_hash)) digest19 zero_bundle base_variant NotRequested already_paid (hash digest8) Active NoHeight
+    submission 0 no_attempt (held (attempt 41 EnsureBroadcast digest8 zero_hash)) digest19 zero_bundle base_variant NotRequested already_paid (hash digest8) Active None
     ∷ [])
-    ((delivery (by_id 0) zero_bundle NoHeight already_paid Rollback EnsureBroadcast) ∷ (delivery NoId bundle2 (at 0) no_fee ProviderReadiness FeeUpgrade) ∷ []) (0 ∷ 1 ∷ []) (at 99) (0 ∷ [])
+    ((delivery (by_id 0) zero_bundle None already_paid Rollback EnsureBroadcast) ∷ (delivery None bundle2 (at 0) no_fee ProviderReadiness FeeUpgrade) ∷ []) (0 ∷ 1 ∷ []) (at 99) (0 ∷ [])
 
 abbrev pub calls : List Call
 calls =
@@ -54,10 +52,10 @@ abbrev pub answers : List (Answer Value)
 answers =
     answer [] (flag false)
     ∷ refused 2
-    ∷ answer [] (finalized none)
-    ∷ answer [] (fee_intent_is none)
+    ∷ answer [] (finalized None)
+    ∷ answer [] (fee_intent_is None)
     ∷ answer [] (status_is Stale)
-    ∷ answer [] (attempt_is none)
+    ∷ answer [] (attempt_is None)
     ∷ refused 2
     ∷ answer [] no_value
     ∷ answer [] (status_is Stale)

@@ -4,7 +4,7 @@ use Rattle.base_sha256.specs.Fips
 use Rattle.std.specs.Prelude.{true, false, List, [], ◌∷◌, ◌++◌, ◌≡◌, refl, ℕ, replicate}
 use Rattle.book.specs.Model.{Book}
 use Rattle.book.specs.Zero.{zeros, zero_output, zero_spend, zero_bundle, zero_hash, zero_attempt, no_attempt, base_variant}
-use Rattle.book.specs.declared.OptionalId.TheVariants.{NoId}
+use Rattle.std.specs.Prelude.{None}
 use Rattle.book.specs.declared.FeeResolution.TheVariants.{Unresolved, Attached}
 use Rattle.book.specs.declared.SubmissionChainTerminality.TheVariants.{Active, Landed}
 use Rattle.book.specs.declared.SubmissionDeliveryGoal.TheVariants.{EnsureBroadcast, FeeUpgrade}
@@ -22,7 +22,7 @@ start = book_of 44 3 (
     submission 1 (held (attempt 43 EnsureBroadcast (replicate 32 5) (hash digest28))) no_attempt (replicate 32 5) bundle5 base_variant Unresolved (attach (replicate 32 3) 7) zero_hash Active (at 0)
     ∷ submission 2 no_attempt (held (attempt 42 FeeUpgrade digest25 zero_hash)) digest7 zero_bundle (fee_bearing bundle1 7) Attached (attach (replicate 32 4) 0) (hash digest25) Landed (at 100)
     ∷ [])
-    ((delivery (by_id 1) bundle5 (at 0) (attach (replicate 32 3) 7) Rollback EnsureBroadcast) ∷ (delivery NoId zero_bundle (at 2004) no_fee Protocol EnsureBroadcast) ∷ []) (1000 ∷ 1001 ∷ []) (at 0) []
+    ((delivery (by_id 1) bundle5 (at 0) (attach (replicate 32 3) 7) Rollback EnsureBroadcast) ∷ (delivery None zero_bundle (at 2004) no_fee Protocol EnsureBroadcast) ∷ []) (1000 ∷ 1001 ∷ []) (at 0) []
 
 abbrev pub calls : List Call
 calls =

@@ -2,11 +2,9 @@
 -- List 14035 of the seed, with what the Rust answered.
 use Rattle.base_sha256.specs.Fips
 use Rattle.std.specs.Prelude.{true, false, List, [], ◌∷◌, ◌++◌, ◌≡◌, refl, ℕ, replicate}
-use Rattle.std.proofs.Math.Option.{none}
+use Rattle.std.specs.Prelude.{None}
 use Rattle.book.specs.Model.{Book}
 use Rattle.book.specs.Zero.{zeros, zero_output, zero_spend, zero_bundle, zero_hash, zero_attempt, no_attempt, base_variant}
-use Rattle.book.specs.declared.OptionalHeight.TheVariants.{NoHeight}
-use Rattle.book.specs.declared.OptionalId.TheVariants.{NoId}
 use Rattle.book.specs.declared.FeeIntentKind.TheVariants.{AlreadyPaid}
 use Rattle.book.specs.declared.FeeResolution.TheVariants.{Unresolved}
 use Rattle.book.specs.declared.SubmissionChainTerminality.TheVariants.{Active}
@@ -24,19 +22,19 @@ abbrev pub start : Book
 start = book_of 42 18446744073709551516 (
     submission 18446744073709551515 no_attempt (held (attempt 41 FeeUpgrade digest8 zero_hash)) digest7 zero_bundle base_variant Unresolved (attach (replicate 32 4) 0) (hash digest8) Active (at 100)
     ∷ [])
-    ((delivery (by_id 18446744073709551515) zero_bundle (at 100) (attach (replicate 32 4) 0) FreshChain FeeUpgrade) ∷ []) (1000 ∷ []) NoHeight []
+    ((delivery (by_id 18446744073709551515) zero_bundle (at 100) (attach (replicate 32 4) 0) FreshChain FeeUpgrade) ∷ []) (1000 ∷ []) None []
 
 abbrev pub calls : List Call
 calls =
     Call.Attempt 43
-    ∷ Call.Queue (delivery (by_id 18446744073709551615) bundle2 NoHeight (fee_cells AlreadyPaid (replicate 28 255 ++ (1 ∷ 255 ∷ 255 ∷ 255 ∷ [])) 18446744073709551615) Rollback FeeUpgrade)
+    ∷ Call.Queue (delivery (by_id 18446744073709551615) bundle2 None (fee_cells AlreadyPaid (replicate 28 255 ++ (1 ∷ 255 ∷ 255 ∷ 255 ∷ [])) 18446744073709551615) Rollback FeeUpgrade)
     ∷ Call.AbandonAttempt 36
     ∷ Call.CausallyRolledBackIds ((0 ∷ 1 ∷ 74 ∷ []) ++ replicate 74 1) []
     ∷ Call.BeginReplay (height 0)
     ∷ Call.CollectRollbackReplayIds (replicate 65 0)
     ∷ Call.ReconciliationInputCoins ((0 ∷ 1 ∷ 74 ∷ []) ++ replicate 74 1) 1
     ∷ Call.AbandonAttempt 42
-    ∷ Call.Queue (delivery NoId zero_bundle (at 0) (attach (replicate 32 4) 0) FreshChain EnsureBroadcast)
+    ∷ Call.Queue (delivery None zero_bundle (at 0) (attach (replicate 32 4) 0) FreshChain EnsureBroadcast)
     ∷ Call.ReconcileChainTerminality (0 ∷ 0 ∷ []) (0 ∷ []) false (18446744073709551515 ∷ [])
     ∷ Call.RelinquishCompletedAttempt 41
     ∷ Call.CausallyRolledBackIds ((0 ∷ 1 ∷ 40 ∷ []) ++ replicate 39 1) []
@@ -50,7 +48,7 @@ calls =
 
 abbrev pub answers : List (Answer Value)
 answers =
-    answer [] (attempt_is none)
+    answer [] (attempt_is None)
     ∷ refused 3
     ∷ answer [] (status_is Stale)
     ∷ refused 2

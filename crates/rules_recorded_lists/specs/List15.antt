@@ -4,8 +4,7 @@ use Rattle.base_sha256.specs.Fips
 use Rattle.std.specs.Prelude.{true, false, List, [], ◌∷◌, ◌++◌, ◌≡◌, refl, ℕ, replicate}
 use Rattle.book.specs.Model.{Book}
 use Rattle.book.specs.Zero.{zeros, zero_output, zero_spend, zero_bundle, zero_hash, zero_attempt, no_attempt, base_variant}
-use Rattle.book.specs.declared.OptionalHeight.TheVariants.{NoHeight}
-use Rattle.book.specs.declared.OptionalId.TheVariants.{NoId}
+use Rattle.std.specs.Prelude.{None}
 use Rattle.book.specs.declared.FeeResolution.TheVariants.{NotRequested, Attached}
 use Rattle.book.specs.declared.SubmissionChainTerminality.TheVariants.{Active, Landed}
 use Rattle.book.specs.declared.SubmissionDeliveryGoal.TheVariants.{EnsureBroadcast, FeeUpgrade}
@@ -23,29 +22,29 @@ start = book_of 41 2 (
     submission 0 no_attempt (held (attempt 40 EnsureBroadcast digest8 (hash digest8))) digest29 zero_bundle base_variant NotRequested already_paid zero_hash Active (at 0)
     ∷ submission 1 (held (attempt 38 EnsureBroadcast digest15 (hash digest15))) (held (attempt 39 EnsureBroadcast digest15 zero_hash)) digest30 bundle2 (fee_bearing bundle2 7) Attached (attach (replicate 32 3) 8) zero_hash Landed (at 100)
     ∷ [])
-    ((delivery NoId zero_bundle (at 100) (attach (replicate 32 255) 18446744073709551615) FreshChain EnsureBroadcast) ∷ (delivery NoId bundle2 NoHeight (attach (replicate 32 3) 8) FreshChain EnsureBroadcast) ∷ []) [] (at 100) (0 ∷ 1 ∷ [])
+    ((delivery None zero_bundle (at 100) (attach (replicate 32 255) 18446744073709551615) FreshChain EnsureBroadcast) ∷ (delivery None bundle2 None (attach (replicate 32 3) 8) FreshChain EnsureBroadcast) ∷ []) [] (at 100) (0 ∷ 1 ∷ [])
 
 abbrev pub calls : List Call
 calls =
     Call.ReconcileChainTerminality (0 ∷ 0 ∷ []) digest1 true (1 ∷ 0 ∷ [])
     ∷ Call.StopAttempt 41
     ∷ Call.ReconcileChainTerminality (0 ∷ 0 ∷ []) [] false []
-    ∷ Call.Queue (delivery (by_id 0) bundle2 NoHeight (attach (replicate 32 3) 8) ProviderReadiness EnsureBroadcast)
+    ∷ Call.Queue (delivery (by_id 0) bundle2 None (attach (replicate 32 3) 8) ProviderReadiness EnsureBroadcast)
     ∷ Call.ReconciliationInputCoins ((0 ∷ 1 ∷ 40 ∷ []) ++ replicate 39 1) 5
     ∷ Call.RetainSubmitted (1 ∷ 1 ∷ 10 ∷ 0 ∷ [])
     ∷ Call.DrainRetirements
-    ∷ Call.Queue (delivery NoId zero_bundle (at 18446744073709551615) (attach (replicate 32 255) 18446744073709551615) ProviderReadiness FeeUpgrade)
+    ∷ Call.Queue (delivery None zero_bundle (at 18446744073709551615) (attach (replicate 32 255) 18446744073709551615) ProviderReadiness FeeUpgrade)
     ∷ Call.FinalizeAttempt 18446744073709551615 source.JoinFailed zero_bundle
     ∷ Call.EmitRetirement 18446744073709551615
     ∷ Call.FinalizeAttempt 41 source.Failed bundle15
     ∷ Call.ReconciliationInputCoins (0 ∷ 1 ∷ 0 ∷ []) 2
     ∷ Call.AbsentOutputsForIds (25 ∷ 2 ∷ []) (0 ∷ 1 ∷ 64 ∷ []) 0
     ∷ Call.AbsentOutputsForIds (18 ∷ 27 ∷ 2 ∷ 2 ∷ []) (0 ∷ 0 ∷ []) 1
-    ∷ Call.Queue (delivery NoId zero_bundle NoHeight (attach (replicate 32 3) 8) Rollback EnsureBroadcast)
-    ∷ Call.Queue (delivery NoId zero_bundle NoHeight (attach (replicate 32 4) 0) Protocol EnsureBroadcast)
+    ∷ Call.Queue (delivery None zero_bundle None (attach (replicate 32 3) 8) Rollback EnsureBroadcast)
+    ∷ Call.Queue (delivery None zero_bundle None (attach (replicate 32 4) 0) Protocol EnsureBroadcast)
     ∷ Call.RetainSubmitted (replicate 65 0)
     ∷ Call.EmitRetirement 18
-    ∷ Call.Queue (delivery NoId zero_bundle (at 100) (attach (replicate 32 4) 0) Protocol EnsureBroadcast)
+    ∷ Call.Queue (delivery None zero_bundle (at 100) (attach (replicate 32 4) 0) Protocol EnsureBroadcast)
     ∷ []
 
 abbrev pub answers : List (Answer Value)

@@ -2,11 +2,9 @@
 -- List 18439 of the seed, with what the Rust answered.
 use Rattle.base_sha256.specs.Fips
 use Rattle.std.specs.Prelude.{true, false, List, [], ◌∷◌, ◌++◌, ◌≡◌, refl, ℕ, replicate}
-use Rattle.std.proofs.Math.Option.{none, some}
+use Rattle.std.specs.Prelude.{None, Some}
 use Rattle.book.specs.Model.{Book}
 use Rattle.book.specs.Zero.{zeros, zero_output, zero_spend, zero_bundle, zero_hash, zero_attempt, no_attempt, base_variant}
-use Rattle.book.specs.declared.OptionalHeight.TheVariants.{NoHeight}
-use Rattle.book.specs.declared.OptionalId.TheVariants.{NoId}
 use Rattle.book.specs.declared.FeeResolution.TheVariants.{Unresolved, Attached}
 use Rattle.book.specs.declared.SubmissionChainTerminality.TheVariants.{Active, Landed}
 use Rattle.book.specs.declared.SubmissionDeliveryGoal.TheVariants.{EnsureBroadcast}
@@ -24,10 +22,10 @@ use Rattle.rules_recorded_lists.specs.Shared.{digest6, digest25, digest31, diges
 
 abbrev pub start : Book
 start = book_of 44 18446744073709551614 (
-    submission 0 no_attempt (held (attempt 43 EnsureBroadcast digest6 zero_hash)) digest31 bundle3 base_variant Unresolved no_fee (hash digest6) Landed NoHeight
+    submission 0 no_attempt (held (attempt 43 EnsureBroadcast digest6 zero_hash)) digest31 bundle3 base_variant Unresolved no_fee (hash digest6) Landed None
     ∷ submission 1 no_attempt no_attempt digest32 bundle2 (fee_bearing bundle1 18446744073709551615) Attached already_paid zero_hash Active (at 50)
     ∷ [])
-    ((delivery (by_id 1) bundle2 (at 50) already_paid FreshChain EnsureBroadcast) ∷ (delivery NoId zero_bundle (at 100) (attach (replicate 32 255) 18446744073709551615) Rollback EnsureBroadcast) ∷ []) [] (at 101) []
+    ((delivery (by_id 1) bundle2 (at 50) already_paid FreshChain EnsureBroadcast) ∷ (delivery None zero_bundle (at 100) (attach (replicate 32 255) 18446744073709551615) Rollback EnsureBroadcast) ∷ []) [] (at 101) []
 
 abbrev pub calls : List Call
 calls =
@@ -47,7 +45,7 @@ calls =
     ∷ Call.AcknowledgeAttempt 47
     ∷ Call.RelinquishCompletedAttempt 41
     ∷ Call.FeeIntentForAttempt 0
-    ∷ Call.Queue (delivery NoId zero_bundle (at 18446744073709551615) (attach (replicate 32 3) 8) Protocol EnsureBroadcast)
+    ∷ Call.Queue (delivery None zero_bundle (at 18446744073709551615) (attach (replicate 32 3) 8) Protocol EnsureBroadcast)
     ∷ Call.QueueRetainedDelivery 9 ProviderReadiness EnsureBroadcast
     ∷ Call.EmitRetirement 6
     ∷ Call.Attempt 42
@@ -57,12 +55,12 @@ abbrev pub answers : List (Answer Value)
 answers =
     answer [] (height_is (at 101))
     ∷ answer [] (status_is Stale)
-    ∷ answer (drained 1 44 none Initial bundle1 (at 50) already_paid ∷ drained 18446744073709551614 45 none Initial zero_bundle (at 100) (attach (replicate 32 255) 18446744073709551615) ∷ []) (failures [])
+    ∷ answer (drained 1 44 None Initial bundle1 (at 50) already_paid ∷ drained 18446744073709551614 45 None Initial zero_bundle (at 100) (attach (replicate 32 255) 18446744073709551615) ∷ []) (failures [])
     ∷ answer [] (height_is (at 101))
-    ∷ answer [] (attempt_is (some (attempt 44 EnsureBroadcast digest25 zero_hash)))
-    ∷ answer [] (fee_intent_is none)
-    ∷ answer [] (finalized (some (finalized_as bundle1 18446744073709551615 false disposition.NotRequested digest25 true)))
-    ∷ answer [] (fee_intent_is (some (attach (replicate 32 255) 18446744073709551615)))
+    ∷ answer [] (attempt_is (Some (attempt 44 EnsureBroadcast digest25 zero_hash)))
+    ∷ answer [] (fee_intent_is None)
+    ∷ answer [] (finalized (Some (finalized_as bundle1 18446744073709551615 false disposition.NotRequested digest25 true)))
+    ∷ answer [] (fee_intent_is (Some (attach (replicate 32 255) 18446744073709551615)))
     ∷ answer [] (ids_are (1 ∷ 18446744073709551614 ∷ []))
     ∷ answer [] no_value
     ∷ answer [] (status_is Applied)
@@ -70,11 +68,11 @@ answers =
     ∷ answer [] no_value
     ∷ refused 4
     ∷ answer [] (status_is Stale)
-    ∷ answer [] (fee_intent_is none)
+    ∷ answer [] (fee_intent_is None)
     ∷ answer [] no_value
     ∷ answer [] no_value
     ∷ answer [] no_value
-    ∷ answer [] (attempt_is none)
+    ∷ answer [] (attempt_is None)
     ∷ []
 
 abbrev pub archive : List ℕ

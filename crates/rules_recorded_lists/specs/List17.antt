@@ -4,8 +4,7 @@ use Rattle.base_sha256.specs.Fips
 use Rattle.std.specs.Prelude.{false, List, [], ◌∷◌, ◌++◌, ◌≡◌, refl, ℕ, replicate}
 use Rattle.book.specs.Model.{Book}
 use Rattle.book.specs.Zero.{zeros, zero_output, zero_spend, zero_bundle, zero_hash, zero_attempt, no_attempt, base_variant}
-use Rattle.book.specs.declared.OptionalHeight.TheVariants.{NoHeight}
-use Rattle.book.specs.declared.OptionalId.TheVariants.{NoId}
+use Rattle.std.specs.Prelude.{None}
 use Rattle.book.specs.declared.FeeResolution.TheVariants.{NotRequested}
 use Rattle.book.specs.declared.SubmissionChainTerminality.TheVariants.{InputSpent}
 use Rattle.book.specs.declared.SubmissionDeliveryGoal.TheVariants.{EnsureBroadcast, FeeUpgrade}
@@ -25,7 +24,7 @@ start = book_of 18446744073709551614 18446744073709551516 (
 
 abbrev pub calls : List Call
 calls =
-    Call.Queue (delivery NoId zero_bundle NoHeight (attach (replicate 32 4) 0) ProviderReadiness EnsureBroadcast)
+    Call.Queue (delivery None zero_bundle None (attach (replicate 32 4) 0) ProviderReadiness EnsureBroadcast)
     ∷ Call.Queue (delivery (by_id 18446744073709551515) bundle16 (at 18446744073709551615) (attach (replicate 32 4) 0) Protocol EnsureBroadcast)
     ∷ Call.ReconcileChainTerminality ((0 ∷ 1 ∷ 66 ∷ []) ++ digest1 ++ replicate 32 1 ++ (0 ∷ 128 ∷ [])) [] false (18446744073709551516 ∷ [])
     ∷ Call.ReconciliationInputCoins ((0 ∷ 1 ∷ 66 ∷ []) ++ digest1 ++ replicate 32 1 ++ (0 ∷ 128 ∷ [])) 73

@@ -2,10 +2,9 @@
 -- List 18947 of the seed, with what the Rust answered.
 use Rattle.base_sha256.specs.Fips
 use Rattle.std.specs.Prelude.{true, false, List, [], ◌∷◌, ◌++◌, ◌≡◌, refl, ℕ, replicate}
-use Rattle.std.proofs.Math.Option.{none, some}
+use Rattle.std.specs.Prelude.{None, Some}
 use Rattle.book.specs.Model.{Book}
 use Rattle.book.specs.Zero.{zeros, zero_output, zero_spend, zero_bundle, zero_hash, zero_attempt, no_attempt, base_variant}
-use Rattle.book.specs.declared.OptionalHeight.TheVariants.{NoHeight}
 use Rattle.book.specs.declared.FeeResolution.TheVariants.{Unresolved, NotRequested}
 use Rattle.book.specs.declared.SubmissionChainTerminality.TheVariants.{Active, Landed}
 use Rattle.book.specs.declared.SubmissionDeliveryGoal.TheVariants.{EnsureBroadcast}
@@ -32,7 +31,7 @@ calls =
     ∷ Call.Attempt 41
     ∷ Call.WriteArchive 470
     ∷ Call.QueueRebroadcastEpoch (3 ∷ []) FreshChain
-    ∷ Call.Queue (delivery (by_id 2) bundle17 NoHeight (attach (replicate 32 3) 8) Rollback EnsureBroadcast)
+    ∷ Call.Queue (delivery (by_id 2) bundle17 None (attach (replicate 32 3) 8) Rollback EnsureBroadcast)
     ∷ Call.ReconcileChainTerminality (0 ∷ 0 ∷ []) [] false []
     ∷ Call.EmitRetirement 2
     ∷ Call.ReconciliationInputCoins (0 ∷ 0 ∷ []) 2
@@ -51,7 +50,7 @@ calls =
 abbrev pub answers : List (Answer Value)
 answers =
     refused 2
-    ∷ answer [] (attempt_is (some (attempt 41 EnsureBroadcast digest6 (hash (replicate 32 5)))))
+    ∷ answer [] (attempt_is (Some (attempt 41 EnsureBroadcast digest6 (hash (replicate 32 5)))))
     ∷ answer [] (written ((2 ∷ []) ++ num 42 ++ replicate 7 255 ++ (254 ∷ 3 ∷ []) ++ num 4 ++ (1 ∷ []) ++ num 40 ++ (0 ∷ []) ++ digest8 ++ (1 ∷ []) ++ replicate 32 5 ++ (0 ∷ []) ++ digest34 ++ (0 ∷ 0 ∷ 0 ∷ 2 ∷ []) ++ replicate 40 255 ++ (1 ∷ []) ++ digest8 ++ (0 ∷ 1 ∷ []) ++ replicate 8 255 ++ num 3 ++ (0 ∷ 0 ∷ []) ++ digest35 ++ (0 ∷ 0 ∷ 0 ∷ 1 ∷ 0 ∷ 2 ∷ 1 ∷ []) ++ num 100 ++ num 2 ++ (1 ∷ []) ++ num 41 ++ (0 ∷ []) ++ digest6 ++ (1 ∷ []) ++ replicate 32 5 ++ (0 ∷ []) ++ digest34 ++ (0 ∷ 0 ∷ 1 ∷ 2 ∷ []) ++ replicate 40 255 ++ (0 ∷ 0 ∷ 1 ∷ []) ++ replicate 8 255 ++ (0 ∷ 1 ∷ []) ++ num 2 ++ (1 ∷ []) ++ replicate 7 255 ++ (254 ∷ 0 ∷ [])))
     ∷ answer [] no_value
     ∷ refused 3
@@ -63,7 +62,7 @@ answers =
     ∷ answer [] no_value
     ∷ refused 2
     ∷ answer [] (written (0 ∷ 0 ∷ []))
-    ∷ answer [] (attempt_is none)
+    ∷ answer [] (attempt_is None)
     ∷ answer [] (status_is Applied)
     ∷ answer [] (ids_are [])
     ∷ refused 2

@@ -1,14 +1,11 @@
 -- Short forms for the books, arguments and answers of the recorded lists: counted cells from plain lists, marks from their parts.
 use Rattle.std.specs.Prelude.{ℕ, zero, suc, Bool, true, false, List, [], ◌∷◌, ◌++◌, length, replicate}
-use Rattle.std.proofs.Math.Option.{Option, none, some}
+use Rattle.std.specs.Prelude.{Option, None, Some}
 use Rattle.base_lists.specs.Lists.{cells}
 use Rattle.book.specs.Model.{Book}
 use Rattle.book.specs.Zero.{zeros, zero_output, zero_spend, zero_bundle, zero_hash, no_attempt, base_variant}
 use Rattle.book.specs.declared.Height.{Height}
-use Rattle.book.specs.declared.OptionalHeight.{OptionalHeight}
-use Rattle.book.specs.declared.OptionalHeight.TheVariants.{NoHeight, At}
-use Rattle.book.specs.declared.OptionalId.{OptionalId}
-use Rattle.book.specs.declared.OptionalId.TheVariants.{NoId, Of}
+use Rattle.book.specs.declared.SubmissionId.{SubmissionId}
 use Rattle.book.specs.declared.Output.{Output}
 use Rattle.book.specs.declared.CoinSpend.{CoinSpend}
 use Rattle.book.specs.declared.SpendBundle.{SpendBundle}
@@ -46,11 +43,11 @@ count_from m (suc n) = m ∷ count_from (suc m) n
 abbrev pub height : ℕ → Height
 height n = record { 0 = n }
 
-abbrev pub at : ℕ → OptionalHeight
-at n = At (height n)
+abbrev pub at : ℕ → Option Height
+at n = Some (height n)
 
-abbrev pub by_id : ℕ → OptionalId
-by_id i = Of (record { 0 = i })
+abbrev pub by_id : ℕ → Option SubmissionId
+by_id i = Some (record { 0 = i })
 
 -- ---- bundles and fee intents
 abbrev pub output : List ℕ → ℕ → Output
@@ -85,7 +82,7 @@ abbrev pub attach : List ℕ → ℕ → SubmissionFeeIntent
 attach = fee_cells Attach
 
 -- ---- a book
-abbrev pub delivery : OptionalId → SpendBundle → OptionalHeight → SubmissionFeeIntent → DeliveryTrigger → SubmissionDeliveryGoal → PendingDelivery
+abbrev pub delivery : Option SubmissionId → SpendBundle → Option Height → SubmissionFeeIntent → DeliveryTrigger → SubmissionDeliveryGoal → PendingDelivery
 delivery i b x f t g = record { intent = record { id = i; bundle = b; expiry = x; fee_intent = f }; trigger = t; goal = g }
 
 abbrev pub hash : List ℕ → OptionalHash
@@ -102,7 +99,7 @@ fee_bearing b n = record { fee_bearing = true; bundle = b; applied_fee = n }
 
 -- as the archive has it: id, live and set-aside attempt, intent fingerprint, base bundle, variant, mark, fee intent, acknowledged, chain, expiry
 abbrev pub submission : ℕ → OptionalAttempt → OptionalAttempt → List ℕ → SpendBundle → SubmissionBroadcastVariant → FeeResolution → SubmissionFeeIntent → OptionalHash
-    → SubmissionChainTerminality → OptionalHeight → SubmittedTx
+    → SubmissionChainTerminality → Option Height → SubmittedTx
 submission i a s h b v r f k c x = record {
   slots = record { active_attempt = a; completed_attempt = s };
   entry = record {
@@ -116,12 +113,12 @@ submission i a s h b v r f k c x = record {
   };
 }
 
-abbrev pub book_of : ℕ → ℕ → List SubmittedTx → List PendingDelivery → List ℕ → OptionalHeight → List ℕ → Book
+abbrev pub book_of : ℕ → ℕ → List SubmittedTx → List PendingDelivery → List ℕ → Option Height → List ℕ → Book
 book_of t i ss ds rs h is = record { next_token = record { 0 = t }; next_id = record { 0 = i }; submitted = ss; pending = ds; retired = rs; rollback = h; replayed = is }
 
 -- ---- answers
 -- id, token, predecessor, relationship, bundle, expiry, fee intent
-abbrev pub drained : ℕ → ℕ → Option ℕ → SubmissionAttemptRelationship → SpendBundle → OptionalHeight → SubmissionFeeIntent → DrainedSubmission
+abbrev pub drained : ℕ → ℕ → Option ℕ → SubmissionAttemptRelationship → SpendBundle → Option Height → SubmissionFeeIntent → DrainedSubmission
 drained i t p r b x f = record { id = record { 0 = i }; attempt_token = record { 0 = t }; predecessor_attempt_token = token_by p; relationship = r; bundle = b; expiry = x; fee_intent = f }
 
 -- index, cause, candidate id, intent fingerprint

@@ -2,9 +2,8 @@
 -- behind, and the candidates that plan 3 turns away.
 use Rattle.base_sha256.specs.Fips
 use Rattle.std.specs.Prelude.{true, false, List, [], ◌∷◌, ◌++◌, map, ◌≡◌, refl}
-use Rattle.std.proofs.Math.Option.{none, some}
-use Rattle.base_lists.specs.Lists.{allb, flat_map}
-use Rattle.book.specs.declared.OptionalId.TheVariants.{NoId}
+use Rattle.std.specs.Prelude.{None, Some}
+use Rattle.std.specs.List.{list_all, flat_map}
 use Rattle.book.specs.declared.SubmissionChainTerminality.TheVariants.{Active, InputSpent, Landed}
 use Rattle.book.specs.Sound.{sound_lists}
 use Rattle.book.specs.Zero.{zero_bundle, zero_fee_intent}
@@ -27,7 +26,7 @@ attempts =
     listed (record {
       start = holding (seventh Active) (live_slot 5) [];
       calls = Call.StopAttempt 5 ∷ Call.Queue (delivery (by_id 1) 7) ∷ Call.Drain ∷ [];
-      answers = answer [] (status_is Applied) ∷ answer [] no_value ∷ answer (drained 1 6 (some 5) Other 7 ∷ []) (failures []) ∷ [];
+      answers = answer [] (status_is Applied) ∷ answer [] no_value ∷ answer (drained 1 6 (Some 5) Other 7 ∷ []) (failures []) ∷ [];
       leaves = (7 ∷ []) ∷ (2 ∷ []) ∷ (1 ∷ []) ∷ (7 ∷ []) ∷ [] ∷ [] ∷ [] ∷ [];
     } ∷ [])
     -- a joined bundle is attached once, acknowledged, and its attempt set aside
@@ -35,8 +34,8 @@ attempts =
       start = holding fee_open (drained_slot 5) [];
       calls = Call.FeeIntentForAttempt 5 ∷ Call.AcknowledgeAttempt 5 ∷ Call.FinalizeAttempt 5 source.Joined zero_bundle ∷ Call.FinalizeAttempt 5 source.Joined zero_bundle
           ∷ Call.FeeIntentForAttempt 5 ∷ Call.AcknowledgeAttempt 5 ∷ Call.RelinquishCompletedAttempt 5 ∷ Call.FinalizeAttempt 5 source.NotRequested zero_bundle ∷ [];
-      answers = answer [] (fee_intent_is (some fee_of3)) ∷ refused 6 ∷ answer [] (finalized (some joined_empty)) ∷ refused 5
-          ∷ answer [] (fee_intent_is (some zero_fee_intent)) ∷ answer [] (status_is Applied) ∷ answer [] (status_is Applied) ∷ answer [] (finalized none) ∷ [];
+      answers = answer [] (fee_intent_is (Some fee_of3)) ∷ refused 6 ∷ answer [] (finalized (Some joined_empty)) ∷ refused 5
+          ∷ answer [] (fee_intent_is (Some zero_fee_intent)) ∷ answer [] (status_is Applied) ∷ answer [] (status_is Applied) ∷ answer [] (finalized None) ∷ [];
       leaves = (6 ∷ []) ∷ (2 ∷ []) ∷ (1 ∷ []) ∷ (0 ∷ []) ∷ [] ∷ [] ∷ [] ∷ [];
     } ∷ [])
     -- finalising refused: 7, attached without a fee bundle; 8, drained with another bundle; 9, a fee source that is not asked for
@@ -98,10 +97,10 @@ drains =
     -- token of 3, and 4 as retained with the next id; the last candidate never came
     listed (record {
       start = retaining 18446744073709551613 2 (unattempted (seventh Landed) ∷ []);
-      calls = Call.Queue (delivery NoId 8) ∷ Call.Drain ∷ Call.Queue (delivery (by_id 1) 7) ∷ Call.Queue (delivery (by_id 2) 9) ∷ Call.Queue (delivery NoId 10)
-          ∷ Call.Queue (delivery NoId 11) ∷ Call.Queue (delivery NoId 12) ∷ Call.Drain ∷ Call.Drain
+      calls = Call.Queue (delivery None 8) ∷ Call.Drain ∷ Call.Queue (delivery (by_id 1) 7) ∷ Call.Queue (delivery (by_id 2) 9) ∷ Call.Queue (delivery None 10)
+          ∷ Call.Queue (delivery None 11) ∷ Call.Queue (delivery None 12) ∷ Call.Drain ∷ Call.Drain
           ∷ Call.StopAttempt 18446744073709551614 ∷ Call.StopAttempt 18446744073709551613 ∷ [];
-      answers = answer [] no_value ∷ answer (drained 2 18446744073709551613 none Initial 8 ∷ []) (failures []) ∷ answer [] no_value ∷ answer [] no_value ∷ answer [] no_value
+      answers = answer [] no_value ∷ answer (drained 2 18446744073709551613 None Initial 8 ∷ []) (failures []) ∷ answer [] no_value ∷ answer [] no_value ∷ answer [] no_value
           ∷ answer [] no_value ∷ answer [] no_value ∷ refused 11 ∷ answer [] (failures [])
           ∷ answer [] (status_is Applied) ∷ answer [] (status_is Stale) ∷ [];
       leaves = (18446744073709551615 ∷ []) ∷ (5 ∷ []) ∷ (1 ∷ 3 ∷ 4 ∷ []) ∷ (7 ∷ 10 ∷ 11 ∷ []) ∷ [] ∷ (2 ∷ []) ∷ [] ∷ [];
@@ -109,14 +108,14 @@ drains =
     -- next id already retained: SubmissionId, also for an unreadable bundle; unreadable: ExpectedOutputs, and the next id stays
     ∷ staged (record {
       start = retaining 6 1 (unattempted (entry_for 1 payment Active) ∷ []);
-      calls = Call.Queue (delivery NoId 7) ∷ Call.Queue unreadable ∷ Call.Drain ∷ [];
+      calls = Call.Queue (delivery None 7) ∷ Call.Queue unreadable ∷ Call.Drain ∷ [];
       answers = answer [] no_value ∷ answer [] no_value ∷ answer [] (failures (failing 0 IdCollides 1 7 ∷ failing_as 1 IdCollides 1 unreadable ∷ [])) ∷ [];
       leaves = (6 ∷ []) ∷ (1 ∷ []) ∷ (1 ∷ []) ∷ (0 ∷ []) ∷ [] ∷ [] ∷ [] ∷ [];
     }) (stage.SubmissionId ∷ stage.SubmissionId ∷ [])
     ∷ staged (record {
       start = opened 5 1;
-      calls = Call.Queue unreadable ∷ Call.Queue (delivery NoId 7) ∷ Call.Drain ∷ [];
-      answers = answer [] no_value ∷ answer [] no_value ∷ answer (drained 1 5 none Initial 7 ∷ []) (failures (failing_as 0 OutputsUnreadable 1 unreadable ∷ [])) ∷ [];
+      calls = Call.Queue unreadable ∷ Call.Queue (delivery None 7) ∷ Call.Drain ∷ [];
+      answers = answer [] no_value ∷ answer [] no_value ∷ answer (drained 1 5 None Initial 7 ∷ []) (failures (failing_as 0 OutputsUnreadable 1 unreadable ∷ [])) ∷ [];
       leaves = (6 ∷ []) ∷ (2 ∷ []) ∷ (1 ∷ []) ∷ (7 ∷ []) ∷ [] ∷ [] ∷ [] ∷ [];
     }) (stage.ExpectedOutputs ∷ [])
     ∷ []
@@ -134,6 +133,6 @@ unfolding play opened height seventh zero_bundle delivery by_id drained failing 
 drains_hold = refl
 
 -- every list starts from a sound book
-pub further_sound : allb (λ s. sound_lists s.start) (flat_map specimens_in (attempts ++ chain ++ drains)) ≡ true
+pub further_sound : list_all (λ s. sound_lists s.start) (flat_map specimens_in (attempts ++ chain ++ drains)) ≡ true
 unfolding sound_lists opened holding seventh fee_open fee_of3 drained_slot zero_bundle spending live_slot zero_fee_intent entry_for attached_to_base payment retaining unattempted
 further_sound = refl

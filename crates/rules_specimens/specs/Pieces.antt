@@ -4,8 +4,7 @@ use Rattle.book.specs.declared.SpendBundle.{SpendBundle}
 use Rattle.book.specs.declared.SubmittedEntry.{SubmittedEntry}
 use Rattle.book.specs.declared.SubmittedTx.{SubmittedTx}
 use Rattle.book.specs.declared.PendingDelivery.{PendingDelivery}
-use Rattle.book.specs.declared.OptionalHeight.TheVariants.{NoHeight}
-use Rattle.book.specs.declared.OptionalId.TheVariants.{NoId}
+use Rattle.std.specs.Prelude.{None}
 use Rattle.book.specs.declared.SubmissionDeliveryGoal.TheVariants.{EnsureBroadcast}
 use Rattle.book.specs.declared.DeliveryTrigger.TheVariants.{Protocol}
 use Rattle.book.specs.declared.SubmissionChainTerminality.{SubmissionChainTerminality}
@@ -27,7 +26,7 @@ entry_for i s c = record {
   state = record {
     current_variant = base_variant;
     wallet_acknowledged_variant = zero_hash;
-    status = record { fee_resolution = NotRequested; chain_terminality = c; expiry = NoHeight };
+    status = record { fee_resolution = NotRequested; chain_terminality = c; expiry = None };
   };
 }
 
@@ -60,12 +59,12 @@ unfoldable pub unreadable : PendingDelivery
 unfolding zero_spend zero_output zero_fee_intent
 unreadable = record {
   intent = record {
-    id = NoId;
+    id = None;
     bundle = record {
       count = 1;
       spends = record { coin_len = 1; coin = 7 ∷ zeros 72; digest = zeros 32; readable = false; output_count = 0; outputs = replicate 4 zero_output } ∷ replicate 3 zero_spend;
     };
-    expiry = NoHeight;
+    expiry = None;
     fee_intent = zero_fee_intent;
   };
   trigger = Protocol;
@@ -83,7 +82,7 @@ retaining token id ts = record {
   submitted = ts;
   pending = [];
   retired = [];
-  rollback = NoHeight;
+  rollback = None;
   replayed = [];
 }
 

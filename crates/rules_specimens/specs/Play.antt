@@ -1,7 +1,7 @@
 -- A list of calls, played under the rules with our archive form; and the stages at which candidates of its drains failed.
 use Rattle.std.specs.Prelude.{List, [], ◌∷◌, map, ◌≡◌, refl}
 use Rattle.std.proofs.Common.{ap}
-use Rattle.base_lists.specs.Lists.{flat_map}
+use Rattle.std.specs.List.{flat_map}
 use Rattle.book.specs.Model.{Book}
 use Rattle.archive_form.specs.Encode.{encode_model}
 use Rattle.rules.specs.Books.{book_after, answers_book}

@@ -1,11 +1,9 @@
 -- Paper 01, "Specimens": those marked P, in one table, a row for each, whose truth one theorem proves by computation.
 use Rattle.base_sha256.specs.Fips
 use Rattle.std.specs.Prelude.{ℕ, true, false, List, [], ◌∷◌, map, ◌≡◌, refl, length}
-use Rattle.std.proofs.Math.Option.{none, some}
-use Rattle.base_lists.specs.Lists.{allb, flat_map}
+use Rattle.std.specs.Prelude.{None, Some}
+use Rattle.std.specs.List.{list_all, flat_map}
 use Rattle.base_coin_string.specs.Amount.{atom_of}
-use Rattle.book.specs.declared.OptionalHeight.TheVariants.{NoHeight, At}
-use Rattle.book.specs.declared.OptionalId.TheVariants.{NoId}
 use Rattle.book.specs.declared.SubmissionChainTerminality.TheVariants.{Landed}
 use Rattle.book.specs.Sound.{sound_lists}
 use Rattle.book.specs.Zero.{zero_bundle, zero_fee_intent}
@@ -78,8 +76,8 @@ table =
       start = opened 5 1;
       calls = Call.BeginReplay (height 100) ∷ Call.BeginReplay (height 100) ∷ Call.FinishReplayIfAdvanced (height 100) ∷ Call.ReplayRollbackHeight
           ∷ Call.FinishReplayIfAdvanced (height 101) ∷ Call.ReplayRollbackHeight ∷ [];
-      answers = answer [] (flag true) ∷ answer [] (flag false) ∷ answer [] no_value ∷ answer [] (height_is (At (height 100)))
-          ∷ answer [] no_value ∷ answer [] (height_is NoHeight) ∷ [];
+      answers = answer [] (flag true) ∷ answer [] (flag false) ∷ answer [] no_value ∷ answer [] (height_is (Some (height 100)))
+          ∷ answer [] no_value ∷ answer [] (height_is None) ∷ [];
       leaves = (5 ∷ []) ∷ (1 ∷ []) ∷ [] ∷ [] ∷ [] ∷ [] ∷ [] ∷ [];
     } ∷ [])
     -- P Landed, only an input spent: reorg no Landed, yes InputSpent; both halted. Landed has no input coins to reconcile, InputSpent has, and
@@ -87,61 +85,61 @@ table =
     -- an earlier retirement, and not again where it is retired already
     ∷ listed (record {
       start = holding (spending Landed) (live_slot 5) (1 ∷ []);
-      calls = Call.Queue (delivery (by_id 1) 7) ∷ Call.Queue (delivery NoId 8) ∷ Call.EmitRetirement 9 ∷ Call.ReconcileChainTerminality no_coins seventh_id false []
+      calls = Call.Queue (delivery (by_id 1) 7) ∷ Call.Queue (delivery None 8) ∷ Call.EmitRetirement 9 ∷ Call.ReconcileChainTerminality no_coins seventh_id false []
           ∷ Call.ReconciliationInputCoins no_coins 9 ∷ Call.ActiveIds ∷ Call.Attempt 5 ∷ Call.RelinquishCompletedAttempt 5 ∷ [];
       answers = answer [] no_value ∷ answer [] no_value ∷ answer [] no_value ∷ answer [] no_value
-          ∷ answer [] (written no_coins) ∷ answer [] (ids_are []) ∷ answer [] (attempt_is none) ∷ answer [] (status_is Applied) ∷ [];
+          ∷ answer [] (written no_coins) ∷ answer [] (ids_are []) ∷ answer [] (attempt_is None) ∷ answer [] (status_is Applied) ∷ [];
       leaves = (6 ∷ []) ∷ (2 ∷ []) ∷ (1 ∷ []) ∷ (0 ∷ []) ∷ (0 ∷ []) ∷ (9 ∷ 1 ∷ []) ∷ [] ∷ [];
     } ∷ record {
       start = holding (spending Landed) (live_slot 5) (1 ∷ []);
-      calls = Call.Queue (delivery (by_id 1) 7) ∷ Call.Queue (delivery NoId 8) ∷ Call.EmitRetirement 1 ∷ Call.EmitRetirement 9 ∷ Call.ReconcileChainTerminality no_coins seventh_id true []
+      calls = Call.Queue (delivery (by_id 1) 7) ∷ Call.Queue (delivery None 8) ∷ Call.EmitRetirement 1 ∷ Call.EmitRetirement 9 ∷ Call.ReconcileChainTerminality no_coins seventh_id true []
           ∷ Call.ReconciliationInputCoins no_coins 9 ∷ Call.ActiveIds ∷ Call.Attempt 5 ∷ Call.RelinquishCompletedAttempt 5 ∷ [];
       answers = answer [] no_value ∷ answer [] no_value ∷ answer [] no_value ∷ answer [] no_value ∷ answer [] no_value
-          ∷ answer [] (written (0 ∷ 1 ∷ 1 ∷ 7 ∷ [])) ∷ answer [] (ids_are []) ∷ answer [] (attempt_is none) ∷ answer [] (status_is Applied) ∷ [];
+          ∷ answer [] (written (0 ∷ 1 ∷ 1 ∷ 7 ∷ [])) ∷ answer [] (ids_are []) ∷ answer [] (attempt_is None) ∷ answer [] (status_is Applied) ∷ [];
       leaves = (6 ∷ []) ∷ (2 ∷ []) ∷ (1 ∷ []) ∷ (0 ∷ []) ∷ (0 ∷ []) ∷ (1 ∷ 9 ∷ []) ∷ [] ∷ [];
     } ∷ [])
     -- P next token 2^64 − 2: issued; one more: 11, and what was retained stays
     ∷ listed (record {
       start = opened 18446744073709551614 1;
-      calls = Call.Queue (delivery NoId 7) ∷ Call.Drain ∷ Call.RetainSubmitted (1 ∷ []) ∷ Call.Queue (delivery NoId 7) ∷ Call.Drain ∷ [];
-      answers = answer [] no_value ∷ answer (drained 1 18446744073709551614 none Initial 7 ∷ []) (failures []) ∷ answer [] (ids_are (1 ∷ []))
+      calls = Call.Queue (delivery None 7) ∷ Call.Drain ∷ Call.RetainSubmitted (1 ∷ []) ∷ Call.Queue (delivery None 7) ∷ Call.Drain ∷ [];
+      answers = answer [] no_value ∷ answer (drained 1 18446744073709551614 None Initial 7 ∷ []) (failures []) ∷ answer [] (ids_are (1 ∷ []))
           ∷ answer [] no_value ∷ refused 11 ∷ [];
       leaves = (18446744073709551615 ∷ []) ∷ (3 ∷ []) ∷ (2 ∷ []) ∷ (7 ∷ []) ∷ [] ∷ (1 ∷ []) ∷ [] ∷ [];
     } ∷ [])
     -- P next id 2^64 − 1, new readable intent: SubmissionId
     ∷ staged (record {
       start = opened 5 18446744073709551615;
-      calls = Call.Queue (delivery NoId 7) ∷ Call.Drain ∷ [];
+      calls = Call.Queue (delivery None 7) ∷ Call.Drain ∷ [];
       answers = answer [] no_value ∷ answer [] (failures (failing 0 IdsExhausted 18446744073709551615 7 ∷ [])) ∷ [];
       leaves = (5 ∷ []) ∷ (18446744073709551615 ∷ []) ∷ [] ∷ [] ∷ [] ∷ [] ∷ [] ∷ [];
     }) (stage.SubmissionId ∷ [])
     -- P relinquish a live token: Stale
     ∷ listed (record {
       start = opened 5 1;
-      calls = Call.Queue (delivery NoId 7) ∷ Call.Drain ∷ Call.RelinquishCompletedAttempt 5 ∷ [];
-      answers = answer [] no_value ∷ answer (drained 1 5 none Initial 7 ∷ []) (failures []) ∷ answer [] (status_is Stale) ∷ [];
+      calls = Call.Queue (delivery None 7) ∷ Call.Drain ∷ Call.RelinquishCompletedAttempt 5 ∷ [];
+      answers = answer [] no_value ∷ answer (drained 1 5 None Initial 7 ∷ []) (failures []) ∷ answer [] (status_is Stale) ∷ [];
       leaves = (6 ∷ []) ∷ (2 ∷ []) ∷ (1 ∷ []) ∷ (7 ∷ []) ∷ [] ∷ [] ∷ [] ∷ [];
     } ∷ [])
     -- P one intent queued twice: drained once
     ∷ listed (record {
       start = opened 5 1;
-      calls = Call.Queue (delivery NoId 7) ∷ Call.Queue (delivery NoId 7) ∷ Call.Drain ∷ [];
-      answers = answer [] no_value ∷ answer [] no_value ∷ answer (drained 1 5 none Initial 7 ∷ []) (failures []) ∷ [];
+      calls = Call.Queue (delivery None 7) ∷ Call.Queue (delivery None 7) ∷ Call.Drain ∷ [];
+      answers = answer [] no_value ∷ answer [] no_value ∷ answer (drained 1 5 None Initial 7 ∷ []) (failures []) ∷ [];
       leaves = (6 ∷ []) ∷ (2 ∷ []) ∷ (1 ∷ []) ∷ (7 ∷ []) ∷ [] ∷ [] ∷ [] ∷ [];
     } ∷ [])
     -- P drained, the same intent queued again for EnsureBroadcast, unacknowledged, drained: predecessor first token, Exact
     ∷ listed (record {
       start = opened 5 1;
-      calls = Call.Queue (delivery NoId 7) ∷ Call.Drain ∷ Call.Queue (delivery NoId 7) ∷ Call.Drain ∷ [];
-      answers = answer [] no_value ∷ answer (drained 1 5 none Initial 7 ∷ []) (failures []) ∷ answer [] no_value
-          ∷ answer (drained 1 6 (some 5) Exact 7 ∷ []) (failures []) ∷ [];
+      calls = Call.Queue (delivery None 7) ∷ Call.Drain ∷ Call.Queue (delivery None 7) ∷ Call.Drain ∷ [];
+      answers = answer [] no_value ∷ answer (drained 1 5 None Initial 7 ∷ []) (failures []) ∷ answer [] no_value
+          ∷ answer (drained 1 6 (Some 5) Exact 7 ∷ []) (failures []) ∷ [];
       leaves = (7 ∷ []) ∷ (2 ∷ []) ∷ (1 ∷ []) ∷ (7 ∷ []) ∷ [] ∷ [] ∷ [] ∷ [];
     } ∷ [])
     -- P 16th retained accepted, 17th refused 10. The two intents differ in their expiry alone
     ∷ listed (record {
       start = fifteen;
-      calls = Call.Queue (delivery NoId 7) ∷ Call.Drain ∷ Call.Queue (delivery NoId 8) ∷ Call.Drain ∷ [];
-      answers = answer [] no_value ∷ answer (drained 16 5 none Initial 7 ∷ []) (failures []) ∷ answer [] no_value ∷ refused 10 ∷ [];
+      calls = Call.Queue (delivery None 7) ∷ Call.Drain ∷ Call.Queue (delivery None 8) ∷ Call.Drain ∷ [];
+      answers = answer [] no_value ∷ answer (drained 16 5 None Initial 7 ∷ []) (failures []) ∷ answer [] no_value ∷ refused 10 ∷ [];
       leaves = (6 ∷ []) ∷ (17 ∷ []) ∷ (1 ∷ 2 ∷ 3 ∷ 4 ∷ 5 ∷ 6 ∷ 7 ∷ 8 ∷ 9 ∷ 10 ∷ 11 ∷ 12 ∷ 13 ∷ 14 ∷ 15 ∷ 16 ∷ [])
           ∷ (0 ∷ 0 ∷ 0 ∷ 0 ∷ 0 ∷ 0 ∷ 0 ∷ 0 ∷ 0 ∷ 0 ∷ 0 ∷ 0 ∷ 0 ∷ 0 ∷ 0 ∷ 7 ∷ []) ∷ (0 ∷ []) ∷ [] ∷ [] ∷ [];
     } ∷ [])
@@ -156,6 +154,6 @@ pub twelve : length table ≡ 12
 twelve = refl
 
 -- every list starts from a sound book
-pub specimens_sound : allb (λ s. sound_lists s.start) (flat_map specimens_in table) ≡ true
+pub specimens_sound : list_all (λ s. sound_lists s.start) (flat_map specimens_in table) ≡ true
 unfolding sound_lists opened holding zero_bundle spending entry_of live_slot fifteen zero_fee_intent
 specimens_sound = refl

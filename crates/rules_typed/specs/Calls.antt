@@ -1,20 +1,20 @@
 -- Every call's rules keep a book within the types.
 use Rattle.std.specs.Prelude.{ℕ, suc, ◌<◌, Bool, cond, not, ◌&&◌, List, [], ◌∷◌, map, ◌≡◌, refl, leb, ltb, length}
 use Rattle.std.proofs.Math.Bool.{true, false}
-use Rattle.std.proofs.Math.Option.{Option, none, some}
+use Rattle.std.specs.Prelude.{Option, None, Some}
 use Rattle.std.proofs.Common.{arith}
 use Rattle.std.proofs.Math.Dec.{eqb}
 use Rattle.std.proofs.lemmas.Bool.{eqb-false}
 use Rattle.base_lists.specs.Bytes.{eqs}
-use Rattle.base_lists.specs.Lists.{filterb, flat_map, elemb, rising}
+use Rattle.base_lists.specs.Lists.{elemb, rising}
+use Rattle.std.specs.List.{filter, flat_map}
 use Rattle.base_coin_string.specs.CoinIds.{id_listb, ids_in}
 use Rattle.base_coin_string.specs.CoinList.{coins_in, coin_listb}
 use Rattle.book.specs.declared.Height.{Height}
 use Rattle.book.specs.declared.SpendBundle.{SpendBundle}
 use Rattle.book.specs.declared.SubmittedTx.{SubmittedTx}
 use Rattle.book.specs.declared.PendingDelivery.{PendingDelivery}
-use Rattle.book.specs.declared.OptionalId.{OptionalId}
-use Rattle.book.specs.declared.OptionalId.TheVariants.{NoId, Of}
+use Rattle.book.specs.declared.SubmissionId.{SubmissionId}
 use Rattle.book.specs.declared.SubmissionDeliveryGoal.{SubmissionDeliveryGoal}
 use Rattle.book.specs.declared.SubmissionDeliveryGoal.TheVariants.{EnsureBroadcast}
 use Rattle.book.specs.declared.DeliveryTrigger.{DeliveryTrigger}
@@ -184,7 +184,7 @@ typed_offers w (t ∷ ts) b k = typed_offered (id_of t) w (goal_for t.entry) (λ
 
 typed_readiness : Kept queue_fee_readiness
 unfolding queue_fee_readiness
-typed_readiness b k = typed_offers ProviderReadiness (filterb (λ t. active_entry t.entry && fee_unresolved t.entry) b.submitted) b k
+typed_readiness b k = typed_offers ProviderReadiness (filter (λ t. active_entry t.entry && fee_unresolved t.entry) b.submitted) b k
 
 -- ---- drain
 module _ (P : Memory → Type 0) (h : (a : Memory) → P a) where
@@ -202,8 +202,8 @@ module _ (P : Memory → Type 0) (h : (a : Memory) → P a) where
     typed_met t a b = (k.expiry, λ d x. typed_cond P d (wanted c.goal t.entry) _ _ (typed_deliver (id_of t) c.goal a d x) (h a))
 
     typed_known_by : (f : List ℕ) (t : SubmittedTx) → TypedSubmitted t → (a : Memory) (m : Option DrainFailureCause) (b : Book) → Within b → TypedTo P b (known_by n c f t a m)
-    typed_known_by f t x a none b w = typed_met t a b
-    typed_known_by f t x a (some m) b w = typed_bind P (withdraw (id_of t)) (λ _. done (failed m)) b w (typed_withdraw (Then P (λ _. done (failed m))) (λ d y. h (failed m)) (id_of t) x.entry.id b)
+    typed_known_by f t x a None b w = typed_met t a b
+    typed_known_by f t x a (Some m) b w = typed_bind P (withdraw (id_of t)) (λ _. done (failed m)) b w (typed_withdraw (Then P (λ _. done (failed m))) (λ d y. h (failed m)) (id_of t) x.entry.id b)
       where
         failed : DrainFailureCause → Memory
         failed m = with_failure n m (id_of t) f (with_removed (id_of t) a)
@@ -231,9 +231,9 @@ module _ (P : Memory → Type 0) (h : (a : Memory) → P a) where
     typed_unnamed f a [] x b w = typed_unknown f a b w
     typed_unnamed f a (t ∷ ts) x b w = typed_known f t x.0 a b w
 
-    typed_planned : (f : List ℕ) (a : Memory) (i : OptionalId) (b : Book) → Within b → TypedTo P b (planned_by n c f b a i)
-    typed_planned f a NoId b w = typed_unnamed f a (filterb (λ t. eqs t.entry.intent.intent_fingerprint f) b.submitted) (every_filter TypedSubmitted (λ t. eqs t.entry.intent.intent_fingerprint f) b.submitted w.submitted) b w
-    typed_planned f a (Of i) b w = typed_named f i.0 a (pick id_of i.0 b.submitted) (pick_typed b i.0 w) b w
+    typed_planned : (f : List ℕ) (a : Memory) (i : Option SubmissionId) (b : Book) → Within b → TypedTo P b (planned_by n c f b a i)
+    typed_planned f a None b w = typed_unnamed f a (filter (λ t. eqs t.entry.intent.intent_fingerprint f) b.submitted) (every_filter TypedSubmitted (λ t. eqs t.entry.intent.intent_fingerprint f) b.submitted w.submitted) b w
+    typed_planned f a (Some i) b w = typed_named f i.0 a (pick id_of i.0 b.submitted) (pick_typed b i.0 w) b w
 
     typed_one : (a : Memory) (b : Book) → Within b → TypedTo P b (one_candidate n c a)
     unfolding one_candidate candidate
@@ -308,7 +308,7 @@ typed_relinquish t b w = go (find t b)
 typed_retain_submitted : (is : List ℕ) → Kept (retain_submitted is)
 unfolding retain_submitted to_remove
 typed_retain_submitted is b w = typed_cond Ends b (ids_ok is) _ _
-    (typed_withdraws _ (λ c x. tt) (to_remove is b) (every_rising U64 (filterb (λ i. elemb i is) (map id_of b.submitted)) (every_filter U64 (λ i. elemb i is) (map id_of b.submitted) (ids_typed b.submitted w.submitted))) b w) tt
+    (typed_withdraws _ (λ c x. tt) (to_remove is b) (every_rising U64 (filter (λ i. elemb i is) (map id_of b.submitted)) (every_filter U64 (λ i. elemb i is) (map id_of b.submitted) (ids_typed b.submitted w.submitted))) b w) tt
 
 typed_clear : Kept clear_local_artifacts
 unfolding clear_local_artifacts
@@ -356,7 +356,7 @@ typed_marks b0 r h (i ∷ is) k b w = go (elemb i b0.replayed) (typed_marks b0 r
 typed_collect : (is : List ℕ) → Kept (collect_rollback_replay_ids is)
 unfolding collect_rollback_replay_ids
 typed_collect is b w = typed_cond Ends b (ids_ok is) _ _
-    (typed_marks b _ (typed_offer_again (filterb (λ i. elemb i is) (map id_of b.submitted))) (filterb (λ i. elemb i is) (map id_of b.submitted))
+    (typed_marks b _ (typed_offer_again (filter (λ i. elemb i is) (map id_of b.submitted))) (filter (λ i. elemb i is) (map id_of b.submitted))
     (every_filter U64 (λ i. elemb i is) (map id_of b.submitted) (ids_typed b.submitted w.submitted)) b w) tt
 
 typed_set_asides : (is : List ℕ) → Kept (set_aside_each is)
@@ -401,7 +401,7 @@ typed encode (Call.CausallyRolledBackIds absent inputs) h = kept_map ids_are (ca
 typed encode (Call.AbsentOutputsForIds is absent room) h =
     kept_map written (absent_outputs_for_ids is absent room)
     (λ b w. typed_cond Ends b (ids_ok is && coin_listb absent) _ _
-    (typed_writing room (encode_coins (flat_map (λ t. absent_outputs (coins_in absent) t.entry.intent) (filterb (λ t. elemb (id_of t) is) b.submitted))) b w) tt)
+    (typed_writing room (encode_coins (flat_map (λ t. absent_outputs (coins_in absent) t.entry.intent) (filter (λ t. elemb (id_of t) is) b.submitted))) b w) tt)
 typed encode (Call.CollectRollbackReplayIds is) h = kept_map nothing (collect_rollback_replay_ids is) (typed_collect is)
 typed encode Call.ClearLocalArtifacts h = kept_map nothing clear_local_artifacts typed_clear
 typed encode Call.RestoreRuntime h = kept_map nothing restore_runtime (λ b w. typed_set_asides (map id_of b.submitted) b w)

@@ -1,7 +1,8 @@
 -- What every element has, under the list functions that the steps use.
 use Rattle.std.specs.Prelude.{ℕ, Bool, true, false, cond, eqb, ltb}
 use mathlib.Core.List.{List, [], ◌∷◌, ◌++◌, map}
-use Rattle.base_lists.specs.Lists.{filterb, elemb, foldl, insert_up, rising, push_new}
+use Rattle.base_lists.specs.Lists.{elemb, insert_up, rising, push_new}
+use Rattle.std.specs.List.{filter, fold}
 use Rattle.book.specs.Typed.{Every}
 use Rattle.archive_laws.specs.Cells.{every_append}
 use Rattle.rules.specs.Keyed.{change}
@@ -11,9 +12,9 @@ either P true x y h k = h
 either P false x y h k = k
 
 module _ {A : Type 0} (P : A → Type 0) where
-  pub every_filter : (t : A → Bool) (xs : List A) → Every P xs → Every P (filterb t xs)
+  pub every_filter : (t : A → Bool) (xs : List A) → Every P xs → Every P (filter t xs)
   every_filter t [] h = tt
-  every_filter t (x ∷ xs) h = either (Every P) (t x) (x ∷ filterb t xs) (filterb t xs) (h.0, every_filter t xs h.1) (every_filter t xs h.1)
+  every_filter t (x ∷ xs) h = either (Every P) (t x) (x ∷ filter t xs) (filter t xs) (h.0, every_filter t xs h.1) (every_filter t xs h.1)
 
   pub every_end : (xs : List A) (x : A) → Every P xs → P x → Every P (xs ++ (x ∷ []))
   every_end xs x h k = every_append P xs (x ∷ []) h (k, tt)
@@ -35,7 +36,7 @@ module _ (P : ℕ → Type 0) where
   every_insert x [] k h = (k, tt)
   every_insert x (y ∷ ys) k h = either (Every P) (ltb x y) (x ∷ y ∷ ys) (y ∷ insert_up x ys) (k, h) (h.0, every_insert x ys k h.1)
 
-  every_inserts : (xs acc : List ℕ) → Every P xs → Every P acc → Every P (foldl (λ a x. insert_up x a) acc xs)
+  every_inserts : (xs acc : List ℕ) → Every P xs → Every P acc → Every P (fold (λ a x. insert_up x a) acc xs)
   every_inserts [] acc h k = k
   every_inserts (x ∷ xs) acc h k = every_inserts xs (insert_up x acc) h.1 (every_insert x acc h.0 k)
 

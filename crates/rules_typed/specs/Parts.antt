@@ -5,8 +5,8 @@ use Rattle.base_sha256.specs.Fips.{sha256_of}
 use Rattle.base_sha256.specs.Laws.{digest_length, digest_bytes}
 use Rattle.archive_bundle_form.specs.Forms.{encode_bundle, variant_fingerprint, intent_fingerprint}
 use Rattle.book.specs.declared.Height.{Height}
-use Rattle.book.specs.declared.OptionalHeight.{OptionalHeight}
-use Rattle.book.specs.declared.OptionalHeight.TheVariants.{NoHeight, At}
+use Rattle.std.specs.Prelude.{Option}
+use Rattle.std.specs.Prelude.{None, Some}
 use Rattle.book.specs.declared.SubmissionId.{SubmissionId}
 use Rattle.book.specs.declared.SpendBundle.{SpendBundle}
 use Rattle.book.specs.declared.DeliveryAttempt.{DeliveryAttempt}
@@ -92,12 +92,12 @@ pub slots_within : (g : AttemptSlots → AttemptSlots) → ((s : AttemptSlots) �
 slots_within g h t w = record { slots = h t.slots w.slots; entry = w.entry }
 
 -- ---- the other facts
-min_typed : (x y : OptionalHeight) → TypedOptionalHeight x → TypedOptionalHeight y → TypedOptionalHeight (min_expiry x y)
+min_typed : (x y : Option Height) → TypedOptionalHeight x → TypedOptionalHeight y → TypedOptionalHeight (min_expiry x y)
 unfolding min_expiry
-min_typed NoHeight NoHeight h k = tt
-min_typed NoHeight (At y) h k = k
-min_typed (At x) NoHeight h k = h
-min_typed (At x) (At y) h k = either TypedOptionalHeight (ltb y.0 x.0) (At y) (At x) k h
+min_typed None None h k = tt
+min_typed None (Some y) h k = k
+min_typed (Some x) None h k = h
+min_typed (Some x) (Some y) h k = either TypedOptionalHeight (ltb y.0 x.0) (Some y) (Some x) k h
 
 revised_state_typed : (r : Revision) (p : RetainedIntent) (s : SubmissionState) → TypedRevision r → TypedRetainedIntent p → TypedState s → TypedState (revised_state r p s)
 unfolding revised_state

@@ -1,7 +1,8 @@
 -- Every step that is within the types keeps the book within them.
 use Rattle.std.specs.Prelude.{ℕ, suc, Bool, true, false, cond, ◌&&◌, List, [], ◌∷◌, ◌++◌, map, eqb}
 use Rattle.std.proofs.Math.Bool.{not}
-use Rattle.base_lists.specs.Lists.{filterb, elemb, insert_up}
+use Rattle.base_lists.specs.Lists.{elemb, insert_up}
+use Rattle.std.specs.List.{filter}
 use Rattle.book.specs.declared.AttemptSlots.{AttemptSlots}
 use Rattle.book.specs.declared.SubmittedTx.{SubmittedTx}
 use Rattle.book.specs.declared.PendingSubmissionIntent.{PendingSubmissionIntent}

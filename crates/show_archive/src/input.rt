@@ -16,6 +16,7 @@ pub fn read_all<R: Read>(file: &mut R, room: &mut [u8]) -> io::Result<Got>
     ensures { IfOk result (λ got. got.count ≤ length room.new) }
 {
     let mut count: usize = 0;
+    // Each read says itself how many bytes came.
     while count < room.len() {
         let n = file.read(&mut room[count..])?;
         if n == 0 {

@@ -16,10 +16,8 @@ use std::{fs, io, str};
 // The bytes in hand and whether there may be more of them.
 fn show(rt: &impl Print, s: &[u8], more: bool, hex: bool) -> io::Result<()> {
     let r = archive_read::read_archive(s);
-    let ok = r.ok;
-    if ok {
-        let book = r.book;
-        tool_book_report::show_book(rt, s.len(), base_sha256::sha256(s), book)?;
+    if r.ok {
+        tool_book_report::show_book(rt, s.len(), &base_sha256::sha256(s), &r.book)?;
     } else {
         refusal::show_refusal(rt, s, r.place, more)?;
     }
@@ -97,15 +95,12 @@ fn is_present(rt: &impl Env, i: usize) -> bool {
 fn is_option(rt: &impl Env, i: usize) -> bool {
     let mut word = [0u8; 2];
     let _ = rt.arg(i, &mut word);
-    base_lists::same(&word, b"--")
+    word == *b"--"
 }
 
 fn is_hex_option(rt: &impl Env, i: usize) -> bool {
     let mut word = [0u8; 5];
-    match rt.arg(i, &mut word) {
-        Ok(n) => base_lists::same(&word[..n], b"--hex"),
-        Err(_) => false,
-    }
+    matches!(rt.arg(i, &mut word), Ok(5)) && word == *b"--hex"
 }
 
 // The file's name is the argument at `file`, and none stands at `end` or behind it.
@@ -115,10 +110,7 @@ fn show_checked(
     end: usize,
     hex: bool,
 ) -> io::Result<()> {
-    if is_option(rt, file) {
-        return say_usage(rt);
-    }
-    if is_present(rt, end) {
+    if is_option(rt, file) || is_present(rt, end) {
         return say_usage(rt);
     }
     show_argument(rt, file, hex)

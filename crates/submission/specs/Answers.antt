@@ -1,9 +1,9 @@
 -- What each method answers: the rules of its call behind the door, in the method's answer struct, beside the next book.
 use Rattle.std.specs.Prelude.{ℕ, Bool, List}
-use Rattle.std.proofs.Math.Option.{Option}
+use Rattle.std.specs.Prelude.{Option}
 use Rattle.book.specs.Model.{Book}
 use Rattle.book.specs.declared.DeliveryAttempt.{DeliveryAttempt}
-use Rattle.book.specs.declared.OptionalHeight.{OptionalHeight}
+use Rattle.book.specs.declared.Height.{Height}
 use Rattle.book.specs.declared.SubmissionFeeIntent.{SubmissionFeeIntent}
 use Rattle.book_answers.specs.declared.BookSummary.{BookSummary}
 use Rattle.book_answers.specs.declared.FinalizedSubmission.{FinalizedSubmission}
@@ -90,7 +90,7 @@ ids_given s o = ids_from (ids_reply s.parts o)
 abbrev pub flag_given : SubmissionBook → Outcome Book Bool → FlagAnswer
 flag_given s o = flag_from (flag_reply s.parts o)
 
-abbrev pub height_given : SubmissionBook → Outcome Book OptionalHeight → HeightAnswer
+abbrev pub height_given : SubmissionBook → Outcome Book (Option Height) → HeightAnswer
 height_given s o = height_from (height_reply s.parts o)
 
 abbrev pub attempt_given : SubmissionBook → Outcome Book (Option DeliveryAttempt) → AttemptAnswer
@@ -127,7 +127,7 @@ ids_answer s r = ids_given s (outcome_of s.parts r)
 abbrev pub flag_answer : SubmissionBook → Rule Bool → FlagAnswer
 flag_answer s r = flag_given s (outcome_of s.parts r)
 
-abbrev pub height_answer : SubmissionBook → Rule OptionalHeight → HeightAnswer
+abbrev pub height_answer : SubmissionBook → Rule (Option Height) → HeightAnswer
 height_answer s r = height_given s (outcome_of s.parts r)
 
 abbrev pub attempt_answer : SubmissionBook → Rule (Option DeliveryAttempt) → AttemptAnswer

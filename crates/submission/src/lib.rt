@@ -44,8 +44,8 @@ use crate::refused::{
     written_refused,
 };
 use book::{
-    BookData, DeliveryTrigger, Height, Ids64, OptionalAttempt, OptionalHeight, PendingDelivery,
-    SpendBundle, SubmissionDeliveryGoal, SubmissionFeeIntent, SubmissionId, Token,
+    BookData, DeliveryTrigger, Height, Ids, OptionalAttempt, PendingDelivery, SpendBundle,
+    SubmissionDeliveryGoal, SubmissionFeeIntent, SubmissionId, Token,
 };
 use book_answers::{
     BookSummary, DrainedSubmission, FinalizedSubmission, SubmissionAttemptStatus,
@@ -79,7 +79,7 @@ pub struct StatusAnswer {
 #[derive(Clone, Copy)]
 pub struct IdsAnswer {
     pub answer: CallAnswer,
-    pub ids: Ids64,
+    pub ids: Ids<64>,
     pub book: SubmissionBook,
 }
 
@@ -93,7 +93,7 @@ pub struct FlagAnswer {
 #[derive(Clone, Copy)]
 pub struct HeightAnswer {
     pub answer: CallAnswer,
-    pub height: OptionalHeight,
+    pub height: Option<Height>,
     pub book: SubmissionBook,
 }
 

@@ -8,7 +8,7 @@ use crate::{
     HeightAnswer, IdsAnswer, LookAnswer, StatusAnswer, SubmissionBook, SummaryAnswer,
     WrittenAnswer,
 };
-use book::{Ids64, OptionalAttempt, OptionalHeight, SubmissionFeeIntent};
+use book::{Height, Ids, OptionalAttempt, SubmissionFeeIntent};
 use book_answers::{
     BookSummary, DrainedSubmission, FinalizedSubmission, SubmissionAttemptStatus,
     SubmissionDrainFailure, SubmissionLook,
@@ -37,7 +37,7 @@ pub fn status_refused(book: SubmissionBook, n: u8) -> StatusAnswer
 pub fn ids_refused(book: SubmissionBook, n: u8) -> IdsAnswer
     ensures { result ≡ ids_given book (undone n) }
 {
-    let ids = Ids64 {
+    let ids = Ids {
         count: 0,
         items: [0; 64],
     };
@@ -63,7 +63,7 @@ pub fn height_refused(book: SubmissionBook, n: u8) -> HeightAnswer
 {
     HeightAnswer {
         answer: CallAnswer::Refused(n),
-        height: OptionalHeight::NoHeight,
+        height: None,
         book,
     }
 }

@@ -3,7 +3,7 @@
 
 pub mod order;
 
-#[derive(Clone, Copy)]
+#[derive(Clone, Copy, PartialEq, Eq)]
 pub enum Item {
     NumbersCount,
     NextToken,
@@ -50,18 +50,76 @@ pub enum Item {
     End,
 }
 
-// Where in its section an item is. Entries, spends and outputs count from 1. `second` tells the set-aside attempt from the live one, and
-// the fee bundle from the base bundle.
-#[derive(Clone, Copy)]
+// How the bytes of an item are read.
+#[derive(Clone, Copy, PartialEq, Eq)]
+pub enum Form {
+    Byte,
+    Number,
+    Run,
+    Nothing,
+}
+
+impl Item {
+    pub fn form(self) -> Form {
+        match self {
+            Item::NextToken
+            | Item::NextId
+            | Item::Id
+            | Item::AttemptToken
+            | Item::Amount
+            | Item::AppliedFee
+            | Item::FeeAmount
+            | Item::Expiry
+            | Item::QueueId
+            | Item::RetiredId
+            | Item::RollbackHeight
+            | Item::ReplayedId => Form::Number,
+            Item::DrainedFingerprint
+            | Item::FinalizedFingerprint
+            | Item::IntentFingerprint
+            | Item::Coin
+            | Item::Digest
+            | Item::PuzzleHash
+            | Item::FeeTarget
+            | Item::AcknowledgedFingerprint => Form::Run,
+            Item::End => Form::Nothing,
+            _ => Form::Byte,
+        }
+    }
+}
+
+// The place-th of so many, counted from 1.
+#[derive(Clone, Copy, Default)]
+pub struct Nth {
+    pub place: u8,
+    pub of: u8,
+}
+
+impl Nth {
+    pub fn first(of: u8) -> Nth {
+        Nth { place: 1, of }
+    }
+
+    pub fn next(self) -> Option<Nth> {
+        if self.place < self.of {
+            Some(Nth {
+                place: self.place + 1,
+                of: self.of,
+            })
+        } else {
+            None
+        }
+    }
+}
+
+// Where in its section an item is. `second` tells the set-aside attempt from the live one, and the fee bundle from the base bundle.
+#[derive(Clone, Copy, Default)]
 pub struct Within {
     pub queue: bool,
     pub second: bool,
-    pub entry: u8,
-    pub entries: u8,
-    pub spend: u8,
-    pub spends: u8,
-    pub output: u8,
-    pub outputs: u8,
+    pub entry: Nth,
+    pub spend: Nth,
+    pub output: Nth,
     pub coin_len: u8,
 }
 
@@ -69,11 +127,4 @@ pub struct Within {
 pub struct Position {
     pub item: Item,
     pub within: Within,
-}
-
-// `ok` is false where no item starts at the place.
-#[derive(Clone, Copy)]
-pub struct Found {
-    pub ok: bool,
-    pub position: Position,
 }

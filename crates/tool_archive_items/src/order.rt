@@ -1,358 +1,225 @@
 // Which item follows which: an item's one byte, where it has one, decides what comes next.
-use crate::{Found, Item, Position, Within};
+use crate::{Form, Item, Nth, Position, Within};
 
-fn at_item(item: Item, within: Within) -> Position {
-    Position { item, within }
-}
+impl Within {
+    fn at(self, item: Item) -> Position {
+        Position { item, within: self }
+    }
 
-fn first() -> Position {
-    let within = Within {
-        queue: false,
-        second: false,
-        entry: 0,
-        entries: 0,
-        spend: 0,
-        spends: 0,
-        output: 0,
-        outputs: 0,
-        coin_len: 0,
-    };
-    at_item(Item::NumbersCount, within)
-}
+    fn in_entry(self, queue: bool, entry: Nth) -> Within {
+        Within {
+            queue,
+            second: false,
+            entry,
+            ..self
+        }
+    }
 
-fn in_entries(w: Within, queue: bool, entry: u8, entries: u8) -> Within {
-    let mut out = w;
-    out.queue = queue;
-    out.second = false;
-    out.entry = entry;
-    out.entries = entries;
-    out
-}
+    fn in_second(self, second: bool) -> Within {
+        Within { second, ..self }
+    }
 
-fn in_second(w: Within, second: bool) -> Within {
-    let mut out = w;
-    out.second = second;
-    out
-}
+    fn in_spend(self, spend: Nth) -> Within {
+        Within { spend, ..self }
+    }
 
-fn in_spends(w: Within, spend: u8, spends: u8) -> Within {
-    let mut out = w;
-    out.spend = spend;
-    out.spends = spends;
-    out
-}
-
-fn in_outputs(w: Within, output: u8, outputs: u8) -> Within {
-    let mut out = w;
-    out.output = output;
-    out.outputs = outputs;
-    out
+    fn in_output(self, output: Nth) -> Within {
+        Within { output, ..self }
+    }
 }
 
 // Behind a retained submission or a queue entry.
 fn after_entry(w: Within) -> Position {
-    let queue = w.queue;
-    let entry = w.entry;
-    let entries = w.entries;
-    if entry < entries {
-        let next = in_entries(w, queue, entry + 1, entries);
-        if queue {
-            return at_item(Item::QueueIdMark, next);
-        }
-        return at_item(Item::Id, next);
+    match (w.entry.next(), w.queue) {
+        (Some(entry), true) => w.in_entry(true, entry).at(Item::QueueIdMark),
+        (Some(entry), false) => w.in_entry(false, entry).at(Item::Id),
+        (None, true) => w.at(Item::RetirementCount),
+        (None, false) => w.at(Item::QueueCount),
     }
-    if queue {
-        return at_item(Item::RetirementCount, w);
-    }
-    at_item(Item::QueueCount, w)
 }
 
 fn after_slot(w: Within) -> Position {
     if w.second {
-        return at_item(Item::IntentFingerprint, in_second(w, false));
+        w.in_second(false).at(Item::IntentFingerprint)
+    } else {
+        w.in_second(true).at(Item::AttemptMark)
     }
-    at_item(Item::AttemptMark, in_second(w, true))
 }
 
 fn after_bundle(w: Within) -> Position {
     if w.queue {
-        return at_item(Item::ExpiryMark, w);
+        w.at(Item::ExpiryMark)
+    } else if w.second {
+        w.at(Item::AppliedFee)
+    } else {
+        w.at(Item::FeeBundleMark)
     }
-    if w.second {
-        return at_item(Item::AppliedFee, w);
-    }
-    at_item(Item::FeeBundleMark, w)
 }
 
 fn after_spend(w: Within) -> Position {
-    let spend = w.spend;
-    let spends = w.spends;
-    if spend < spends {
-        return at_item(Item::CoinLength, in_spends(w, spend + 1, spends));
+    match w.spend.next() {
+        Some(spend) => w.in_spend(spend).at(Item::CoinLength),
+        None => after_bundle(w),
     }
-    after_bundle(w)
 }
 
 fn after_output(w: Within) -> Position {
-    let output = w.output;
-    let outputs = w.outputs;
-    if output < outputs {
-        return at_item(Item::PuzzleHash, in_outputs(w, output + 1, outputs));
+    match w.output.next() {
+        Some(output) => w.in_output(output).at(Item::PuzzleHash),
+        None => after_spend(w),
     }
-    after_spend(w)
 }
 
 fn after_fee_intent(w: Within) -> Position {
-    if w.queue {
-        return at_item(Item::Trigger, w);
-    }
-    at_item(Item::AcknowledgedMark, w)
+    w.at(if w.queue {
+        Item::Trigger
+    } else {
+        Item::AcknowledgedMark
+    })
 }
 
 fn after_expiry(w: Within) -> Position {
     if w.queue {
-        return at_item(Item::FeeIntentKind, w);
+        w.at(Item::FeeIntentKind)
+    } else {
+        after_entry(w)
     }
-    after_entry(w)
 }
 
 // Behind a count of spends or outputs, a coin's length or a run's kind.
-fn after_bundle_byte(p: Position, v: u8) -> Position {
-    let item = p.item;
-    let w = p.within;
-    match item {
-        Item::BundleCount => {
-            if v == 0 {
-                return after_bundle(w);
-            }
-            at_item(Item::CoinLength, in_spends(w, 1, v))
-        }
-        Item::CoinLength => {
-            if v == 0 {
-                return at_item(Item::Digest, w);
-            }
-            let mut coin = w;
-            coin.coin_len = v;
-            at_item(Item::Coin, coin)
-        }
-        Item::RunKind => {
-            if v == 0 {
-                return after_spend(w);
-            }
-            at_item(Item::OutputCount, w)
-        }
-        _ => {
-            if v == 0 {
-                return after_spend(w);
-            }
-            at_item(Item::PuzzleHash, in_outputs(w, 1, v))
-        }
+fn after_bundle_byte(item: Item, w: Within, v: u8) -> Position {
+    match (item, v) {
+        (Item::BundleCount, 0) => after_bundle(w),
+        (Item::BundleCount, _) => w.in_spend(Nth::first(v)).at(Item::CoinLength),
+        (Item::CoinLength, 0) => w.at(Item::Digest),
+        (Item::CoinLength, _) => Within { coin_len: v, ..w }.at(Item::Coin),
+        (_, 0) => after_spend(w),
+        (Item::RunKind, _) => w.at(Item::OutputCount),
+        _ => w.in_output(Nth::first(v)).at(Item::PuzzleHash),
     }
-}
-
-// Behind a fee intent's kind.
-fn after_kind(w: Within, v: u8) -> Position {
-    if v == 2 {
-        return at_item(Item::FeeTarget, w);
-    }
-    after_fee_intent(w)
 }
 
 // Behind the mark of an optional part of an entry, or a fee intent's kind.
-fn after_mark(p: Position, v: u8) -> Position {
-    let item = p.item;
-    let w = p.within;
-    let absent = v == 0;
-    match item {
-        Item::AttemptMark => if absent {
-            after_slot(w)
-        } else {
-            at_item(Item::AttemptToken, w)
-        },
-        Item::FinalizedMark => if absent {
-            after_slot(w)
-        } else {
-            at_item(Item::FinalizedFingerprint, w)
-        },
-        Item::FeeBundleMark => if absent {
-            at_item(Item::DurableMark, w)
-        } else {
-            at_item(Item::BundleCount, in_second(w, true))
-        },
-        Item::AcknowledgedMark => if absent {
-            at_item(Item::Chain, w)
-        } else {
-            at_item(Item::AcknowledgedFingerprint, w)
-        },
-        Item::ExpiryMark => if absent {
-            after_expiry(w)
-        } else {
-            at_item(Item::Expiry, w)
-        },
-        Item::QueueIdMark => if absent {
-            at_item(Item::BundleCount, w)
-        } else {
-            at_item(Item::QueueId, w)
-        },
-        _ => after_kind(w, v),
+fn after_mark(item: Item, w: Within, v: u8) -> Position {
+    match (item, v) {
+        (Item::AttemptMark | Item::FinalizedMark, 0) => after_slot(w),
+        (Item::AttemptMark, _) => w.at(Item::AttemptToken),
+        (Item::FinalizedMark, _) => w.at(Item::FinalizedFingerprint),
+        (Item::FeeBundleMark, 0) => w.at(Item::DurableMark),
+        (Item::FeeBundleMark, _) => w.in_second(true).at(Item::BundleCount),
+        (Item::AcknowledgedMark, 0) => w.at(Item::Chain),
+        (Item::AcknowledgedMark, _) => w.at(Item::AcknowledgedFingerprint),
+        (Item::ExpiryMark, 0) => after_expiry(w),
+        (Item::ExpiryMark, _) => w.at(Item::Expiry),
+        (Item::QueueIdMark, 0) => w.at(Item::BundleCount),
+        (Item::QueueIdMark, _) => w.at(Item::QueueId),
+        (_, 2) => w.at(Item::FeeTarget),
+        _ => after_fee_intent(w),
     }
 }
 
 // Behind a section's count.
-fn after_count(p: Position, v: u8) -> Position {
-    let item = p.item;
-    let w = p.within;
-    let absent = v == 0;
-    match item {
-        Item::RetainedCount => if absent {
-            at_item(Item::QueueCount, w)
-        } else {
-            at_item(Item::Id, in_entries(w, false, 1, v))
-        },
-        Item::QueueCount => if absent {
-            at_item(Item::RetirementCount, w)
-        } else {
-            at_item(Item::QueueIdMark, in_entries(w, true, 1, v))
-        },
-        Item::RetirementCount => if absent {
-            at_item(Item::RollbackMark, w)
-        } else {
-            at_item(Item::RetiredId, in_entries(w, false, 1, v))
-        },
-        Item::RollbackMark => if absent {
-            at_item(Item::ReplayedCount, w)
-        } else {
-            at_item(Item::RollbackHeight, w)
-        },
-        _ => if absent {
-            at_item(Item::End, w)
-        } else {
-            at_item(Item::ReplayedId, in_entries(w, false, 1, v))
-        },
+fn after_count(item: Item, w: Within, v: u8) -> Position {
+    let first = Nth::first(v);
+    match (item, v) {
+        (Item::RetainedCount, 0) => w.at(Item::QueueCount),
+        (Item::RetainedCount, _) => w.in_entry(false, first).at(Item::Id),
+        (Item::QueueCount, 0) => w.at(Item::RetirementCount),
+        (Item::QueueCount, _) => w.in_entry(true, first).at(Item::QueueIdMark),
+        (Item::RetirementCount, 0) => w.at(Item::RollbackMark),
+        (Item::RetirementCount, _) => w.in_entry(false, first).at(Item::RetiredId),
+        (Item::RollbackMark, 0) => w.at(Item::ReplayedCount),
+        (Item::RollbackMark, _) => w.at(Item::RollbackHeight),
+        (_, 0) => w.at(Item::End),
+        _ => w.in_entry(false, first).at(Item::ReplayedId),
     }
 }
 
-// Behind an id of the last sections.
-fn after_listed(p: Position, then: Item) -> Position {
-    let w = p.within;
-    let entry = w.entry;
-    let entries = w.entries;
-    if entry < entries {
-        let item = p.item;
-        return at_item(item, in_entries(w, false, entry + 1, entries));
+// Behind an id of the last sections: the next id, or what comes behind the list.
+fn after_listed(item: Item, w: Within, then: Item) -> Position {
+    match w.entry.next() {
+        Some(entry) => w.in_entry(false, entry).at(item),
+        None => w.at(then),
     }
-    at_item(then, w)
 }
 
 // Behind the items that leave no choice, or whose place decides.
-fn after_plain(p: Position) -> Position {
-    let item = p.item;
-    let w = p.within;
+fn after_plain(item: Item, w: Within) -> Position {
     match item {
-        Item::NumbersCount => at_item(Item::NextToken, w),
-        Item::NextToken => at_item(Item::NextId, w),
-        Item::NextId => at_item(Item::RetainedCount, w),
-        Item::Id => at_item(Item::AttemptMark, w),
-        Item::AttemptToken => at_item(Item::AttemptGoal, w),
-        Item::AttemptGoal => at_item(Item::DrainedFingerprint, w),
-        Item::DrainedFingerprint => at_item(Item::FinalizedMark, w),
+        Item::NumbersCount => w.at(Item::NextToken),
+        Item::NextToken => w.at(Item::NextId),
+        Item::NextId => w.at(Item::RetainedCount),
+        Item::Id => w.at(Item::AttemptMark),
+        Item::AttemptToken => w.at(Item::AttemptGoal),
+        Item::AttemptGoal => w.at(Item::DrainedFingerprint),
+        Item::DrainedFingerprint => w.at(Item::FinalizedMark),
         Item::FinalizedFingerprint => after_slot(w),
-        Item::IntentFingerprint => at_item(Item::BundleCount, w),
-        Item::Coin => at_item(Item::Digest, w),
-        Item::Digest => at_item(Item::RunKind, w),
-        Item::PuzzleHash => at_item(Item::Amount, w),
+        Item::IntentFingerprint | Item::QueueId => w.at(Item::BundleCount),
+        Item::Coin => w.at(Item::Digest),
+        Item::Digest => w.at(Item::RunKind),
+        Item::PuzzleHash => w.at(Item::Amount),
         Item::Amount => after_output(w),
-        Item::AppliedFee => at_item(Item::DurableMark, w),
-        Item::DurableMark => at_item(Item::FeeIntentKind, w),
-        Item::FeeTarget => at_item(Item::FeeAmount, w),
+        Item::AppliedFee => w.at(Item::DurableMark),
+        Item::DurableMark => w.at(Item::FeeIntentKind),
+        Item::FeeTarget => w.at(Item::FeeAmount),
         Item::FeeAmount => after_fee_intent(w),
-        Item::AcknowledgedFingerprint => at_item(Item::Chain, w),
-        Item::Chain => at_item(Item::ExpiryMark, w),
+        Item::AcknowledgedFingerprint => w.at(Item::Chain),
+        Item::Chain => w.at(Item::ExpiryMark),
         Item::Expiry => after_expiry(w),
-        Item::QueueId => at_item(Item::BundleCount, w),
-        Item::Trigger => at_item(Item::QueueGoal, w),
+        Item::Trigger => w.at(Item::QueueGoal),
         Item::QueueGoal => after_entry(w),
-        Item::RetiredId => after_listed(p, Item::RollbackMark),
-        Item::RollbackHeight => at_item(Item::ReplayedCount, w),
-        _ => after_listed(p, Item::End),
+        Item::RetiredId => after_listed(item, w, Item::RollbackMark),
+        Item::RollbackHeight => w.at(Item::ReplayedCount),
+        _ => after_listed(item, w, Item::End),
     }
 }
 
 // The item behind one whose first byte is v.
 fn after(p: Position, v: u8) -> Position {
-    let item = p.item;
-    match item {
-        Item::RetainedCount => after_count(p, v),
-        Item::QueueCount => after_count(p, v),
-        Item::RetirementCount => after_count(p, v),
-        Item::RollbackMark => after_count(p, v),
-        Item::ReplayedCount => after_count(p, v),
-        Item::AttemptMark => after_mark(p, v),
-        Item::FinalizedMark => after_mark(p, v),
-        Item::FeeBundleMark => after_mark(p, v),
-        Item::AcknowledgedMark => after_mark(p, v),
-        Item::ExpiryMark => after_mark(p, v),
-        Item::QueueIdMark => after_mark(p, v),
-        Item::FeeIntentKind => after_mark(p, v),
-        Item::BundleCount => after_bundle_byte(p, v),
-        Item::CoinLength => after_bundle_byte(p, v),
-        Item::RunKind => after_bundle_byte(p, v),
-        Item::OutputCount => after_bundle_byte(p, v),
-        _ => after_plain(p),
+    let w = p.within;
+    match p.item {
+        Item::RetainedCount
+        | Item::QueueCount
+        | Item::RetirementCount
+        | Item::RollbackMark
+        | Item::ReplayedCount => after_count(p.item, w, v),
+        Item::AttemptMark
+        | Item::FinalizedMark
+        | Item::FeeBundleMark
+        | Item::AcknowledgedMark
+        | Item::ExpiryMark
+        | Item::QueueIdMark
+        | Item::FeeIntentKind => after_mark(p.item, w, v),
+        Item::BundleCount | Item::CoinLength | Item::RunKind | Item::OutputCount => {
+            after_bundle_byte(p.item, w, v)
+        }
+        _ => after_plain(p.item, w),
     }
 }
 
 // How many bytes an item has.
 pub fn size(p: Position) -> usize {
-    let item = p.item;
-    match item {
-        Item::NextToken => 8,
-        Item::NextId => 8,
-        Item::Id => 8,
-        Item::AttemptToken => 8,
-        Item::Amount => 8,
-        Item::AppliedFee => 8,
-        Item::FeeAmount => 8,
-        Item::Expiry => 8,
-        Item::QueueId => 8,
-        Item::RetiredId => 8,
-        Item::RollbackHeight => 8,
-        Item::ReplayedId => 8,
-        Item::DrainedFingerprint => 32,
-        Item::FinalizedFingerprint => 32,
-        Item::IntentFingerprint => 32,
-        Item::Digest => 32,
-        Item::PuzzleHash => 32,
-        Item::FeeTarget => 32,
-        Item::AcknowledgedFingerprint => 32,
-        Item::Coin => p.within.coin_len as usize,
-        Item::End => 0,
-        _ => 1,
+    match p.item.form() {
+        Form::Byte => 1,
+        Form::Number => 8,
+        Form::Run if p.item == Item::Coin => p.within.coin_len as usize,
+        Form::Run => 32,
+        Form::Nothing => 0,
     }
 }
 
-// The item that starts at a place, in bytes whose items before that place are those of an archive.
-pub fn item_at(s: &[u8], place: usize) -> Found {
-    let mut position = first();
-    let mut at: usize = 0;
+// The item that starts at a place, in bytes whose items before that place are those of an archive; none where no item starts there.
+pub fn item_at(s: &[u8], place: usize) -> Option<Position> {
+    let mut position = Within::default().at(Item::NumbersCount);
+    let mut at = 0;
+    // The place moves on by the size of each item.
     while at < place {
         let n = size(position);
-        if s.len() <= at {
-            break;
+        if n == 0 || s.len().saturating_sub(at) < n {
+            return None;
         }
-        if n < 1 {
-            break;
-        }
-        if s.len() - at < n {
-            break;
-        }
-        let v = s[at];
-        let next = after(position, v);
-        position = next;
+        position = after(position, s[at]);
         at += n;
     }
-    Found {
-        ok: at == place,
-        position,
-    }
+    if at == place { Some(position) } else { None }
 }

@@ -1,5 +1,5 @@
 // Reading an archive, and whether the book is sound.
-use crate::frame::{Step, broken, finish, finish_with, say};
+use crate::frame::{Step, finish, finish_with, say};
 use archive_read::read_archive;
 use book::BookData;
 use book_sound::is_sound;
@@ -22,21 +22,14 @@ fn say_place(place: usize) {
 }
 
 // 1c: an accepted archive becomes the book.
-fn read_call(s: &[u8], at: usize, b: SubmissionBook) -> Step {
-    let a = read_bytes(s, at);
-    let ok = a.ok;
-    if !ok {
-        return broken(b);
-    }
-    let from = a.from;
-    let end = a.at;
-    let r = read_archive(&s[from..end]);
-    let accepted = r.ok;
-    if accepted {
-        return accept(r.book, end);
+fn read_call(s: &[u8], at: usize, b: SubmissionBook) -> Option<Step> {
+    let archive = read_bytes(s, at)?;
+    let r = read_archive(archive.value);
+    if r.ok {
+        return Some(accept(r.book, archive.at));
     }
     say_place(r.place);
-    finish(b, end)
+    Some(finish(b, archive.at))
 }
 
 fn say_sound(sound: bool) {
@@ -48,15 +41,14 @@ fn say_sound(sound: bool) {
 
 // 1d
 fn sound_call(at: usize, b: SubmissionBook) -> Step {
-    let sound = is_sound(b.parts);
-    say_sound(sound);
+    say_sound(is_sound(&b.parts));
     finish(b, at)
 }
 
 // 1c and 1d
-pub fn play(op: u8, s: &[u8], at: usize, b: SubmissionBook) -> Step {
-    if op == 0x1c {
-        return read_call(s, at, b);
+pub fn play(op: u8, s: &[u8], at: usize, b: SubmissionBook) -> Option<Step> {
+    match op {
+        0x1c => read_call(s, at, b),
+        _ => Some(sound_call(at, b)),
     }
-    sound_call(at, b)
 }

@@ -21,32 +21,20 @@ fn move_to_front(room: &mut [u8], at: usize, end: usize) -> usize
     requires end_in_bounds { end ≤ length room.old }
     ensures { result ≤ length room.new }
 {
-    let n = end - at;
-    let mut i: usize = 0;
-    while i < n {
-        room[i] = room[at + i];
-        i += 1;
-    }
-    n
+    room.copy_within(at..end, 0);
+    end - at
 }
 
 // Reads on behind the first n bytes, and answers where the bytes in hand end.
 fn read_behind(room: &mut [u8], n: usize) -> usize
     requires { n ≤ length room.old }
 {
-    let got = io::read_full(0, &mut room[n..]);
-    n + got
+    n + io::read_full(0, &mut room[n..])
 }
 
 // Sees to it that the next call is in hand as a whole. A room that was not filled shows that the input has ended.
 pub fn refill(room: &mut [u8], at: usize, end: usize) -> InHand {
-    if end != room.len() {
-        return InHand { at, end };
-    }
-    if end < at {
-        return InHand { at, end };
-    }
-    if LONGEST_CALL <= end - at {
+    if end != room.len() || end < at || LONGEST_CALL <= end - at {
         return InHand { at, end };
     }
     let n = move_to_front(&mut *room, at, end);

@@ -1,5 +1,5 @@
 // The looks: what a retained submission holds, and the book in numbers.
-use crate::frame::{Step, broken, finish, finish_with, say};
+use crate::frame::{Step, finish, say, say_byte};
 use book::SubmissionId;
 use book_answers::{BookSummary, SubmissionLook};
 use codec_answers::value::{append_optional_look, append_summary, refusal_number};
@@ -15,12 +15,10 @@ fn say_look(present: bool, look: SubmissionLook) {
 }
 
 fn finish_look(r: LookAnswer, at: usize) -> Step {
-    let answer = r.answer;
-    let n = refusal_number(answer);
-    if n != 0 {
-        return finish_with(n, r.book, at);
+    match refusal_number(r.answer) {
+        0 => say_look(r.present, r.look),
+        n => say_byte(n),
     }
-    say_look(r.present, r.look);
     finish(r.book, at)
 }
 
@@ -32,35 +30,23 @@ fn say_summary(summary: BookSummary) {
 }
 
 fn finish_summary(r: SummaryAnswer, at: usize) -> Step {
-    let answer = r.answer;
-    let n = refusal_number(answer);
-    if n != 0 {
-        return finish_with(n, r.book, at);
+    match refusal_number(r.answer) {
+        0 => say_summary(r.summary),
+        n => say_byte(n),
     }
-    say_summary(r.summary);
     finish(r.book, at)
 }
 
 // 1e
-fn look(s: &[u8], at: usize, b: SubmissionBook) -> Step {
-    let id = read_number(s, at);
-    let ok = id.ok;
-    if !ok {
-        return broken(b);
-    }
-    let r = b.look(SubmissionId(id.value));
-    finish_look(r, id.at)
+fn look(s: &[u8], at: usize, b: SubmissionBook) -> Option<Step> {
+    let id = read_number(s, at)?;
+    Some(finish_look(b.look(SubmissionId(id.value)), id.at))
 }
 
-// 1f
-fn summary(at: usize, b: SubmissionBook) -> Step {
-    let r = b.summary();
-    finish_summary(r, at)
-}
-
-pub fn play(op: u8, s: &[u8], at: usize, b: SubmissionBook) -> Step {
-    if op == 0x1e {
-        return look(s, at, b);
+// 1e and 1f
+pub fn play(op: u8, s: &[u8], at: usize, b: SubmissionBook) -> Option<Step> {
+    match op {
+        0x1e => look(s, at, b),
+        _ => Some(finish_summary(b.summary(), at)),
     }
-    summary(at, b)
 }

@@ -1,5 +1,5 @@
 // Calls that answer whether a token's attempt took them.
-use crate::frame::{Step, broken, finish, finish_with, say};
+use crate::frame::{Step, finish, say, say_byte};
 use book::Token;
 use book_answers::SubmissionAttemptStatus;
 use codec_answers::value::{append_status, refusal_number};
@@ -15,36 +15,22 @@ fn say_status(status: SubmissionAttemptStatus) {
 }
 
 fn finish_status(r: StatusAnswer, at: usize) -> Step {
-    let answer = r.answer;
-    let status = r.status;
-    let n = refusal_number(answer);
-    if n != 0 {
-        return finish_with(n, r.book, at);
+    match refusal_number(r.answer) {
+        0 => say_status(r.status),
+        n => say_byte(n),
     }
-    say_status(status);
     finish(r.book, at)
 }
 
-fn answer_of(op: u8, b: SubmissionBook, token: Token) -> StatusAnswer {
-    if op == 0x08 {
-        return b.acknowledge_attempt(token);
-    }
-    if op == 0x09 {
-        return b.stop_attempt(token);
-    }
-    if op == 0x0a {
-        return b.abandon_attempt(token);
-    }
-    b.relinquish_completed_attempt(token)
-}
-
 // 08, 09, 0a and 0b
-pub fn play(op: u8, s: &[u8], at: usize, b: SubmissionBook) -> Step {
-    let t = read_number(s, at);
-    let ok = t.ok;
-    if !ok {
-        return broken(b);
-    }
-    let r = answer_of(op, b, Token(t.value));
-    finish_status(r, t.at)
+pub fn play(op: u8, s: &[u8], at: usize, b: SubmissionBook) -> Option<Step> {
+    let n = read_number(s, at)?;
+    let token = Token(n.value);
+    let r = match op {
+        0x08 => b.acknowledge_attempt(token),
+        0x09 => b.stop_attempt(token),
+        0x0a => b.abandon_attempt(token),
+        _ => b.relinquish_completed_attempt(token),
+    };
+    Some(finish_status(r, n.at))
 }

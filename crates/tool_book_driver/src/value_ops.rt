@@ -1,8 +1,8 @@
 // Calls that answer one value of their own: a finalised submission, a fee intent, a flag, a height, an attempt.
-use crate::frame::{Step, broken, finish, finish_with, say};
+use crate::frame::{Step, finish, finish_with, say, say_byte};
 use archive_bundle_write::write::append_height;
 use archive_entry_write::append_slot;
-use book::{Height, OptionalAttempt, OptionalHeight, SubmissionFeeIntent, Token};
+use book::{Height, OptionalAttempt, SubmissionFeeIntent, Token};
 use book_answers::FinalizedSubmission;
 use codec_answers::part::append_flag;
 use codec_answers::value::{append_optional_fee_intent, append_optional_finalized, refusal_number};
@@ -21,16 +21,14 @@ fn say_flag(flag: bool) {
 }
 
 fn finish_flag(r: FlagAnswer, at: usize) -> Step {
-    let answer = r.answer;
-    let n = refusal_number(answer);
-    if n != 0 {
-        return finish_with(n, r.book, at);
+    match refusal_number(r.answer) {
+        0 => say_flag(r.flag),
+        n => say_byte(n),
     }
-    say_flag(r.flag);
     finish(r.book, at)
 }
 
-fn say_height(height: OptionalHeight) {
+fn say_height(height: Option<Height>) {
     let mut out = [0u8; 10];
     let head = append_byte(&mut out, 0, 0);
     let e = append_height(&mut out, head, height);
@@ -38,13 +36,10 @@ fn say_height(height: OptionalHeight) {
 }
 
 fn finish_height(r: HeightAnswer, at: usize) -> Step {
-    let answer = r.answer;
-    let height = r.height;
-    let n = refusal_number(answer);
-    if n != 0 {
-        return finish_with(n, r.book, at);
+    match refusal_number(r.answer) {
+        0 => say_height(r.height),
+        n => say_byte(n),
     }
-    say_height(height);
     finish(r.book, at)
 }
 
@@ -56,12 +51,10 @@ fn say_attempt(attempt: OptionalAttempt) {
 }
 
 fn finish_attempt(r: AttemptAnswer, at: usize) -> Step {
-    let answer = r.answer;
-    let n = refusal_number(answer);
-    if n != 0 {
-        return finish_with(n, r.book, at);
+    match refusal_number(r.answer) {
+        0 => say_attempt(r.attempt),
+        n => say_byte(n),
     }
-    say_attempt(r.attempt);
     finish(r.book, at)
 }
 
@@ -73,12 +66,10 @@ fn say_fee_intent(present: bool, fee_intent: SubmissionFeeIntent) {
 }
 
 fn finish_fee_intent(r: FeeIntentAnswer, at: usize) -> Step {
-    let answer = r.answer;
-    let n = refusal_number(answer);
-    if n != 0 {
-        return finish_with(n, r.book, at);
+    match refusal_number(r.answer) {
+        0 => say_fee_intent(r.present, r.fee_intent),
+        n => say_byte(n),
     }
-    say_fee_intent(r.present, r.fee_intent);
     finish(r.book, at)
 }
 
@@ -90,79 +81,42 @@ fn say_finalized(present: bool, finalized: FinalizedSubmission) {
 }
 
 fn finish_finalized(r: FinalizeAnswer, at: usize) -> Step {
-    let answer = r.answer;
-    let n = refusal_number(answer);
-    if n != 0 {
-        return finish_with(n, r.book, at);
+    match refusal_number(r.answer) {
+        0 => say_finalized(r.present, r.finalized),
+        n => say_byte(n),
     }
-    say_finalized(r.present, r.finalized);
     finish(r.book, at)
 }
 
 // 06
-fn finalize_attempt(s: &[u8], at: usize, b: SubmissionBook) -> Step {
-    let t = read_number(s, at);
-    let f = read_source(s, t.at);
-    let j = read_bundle(s, f.at);
-    let ok = t.ok & f.ok & j.ok;
-    let fit = f.fit & j.fit;
-    if !ok {
-        return broken(b);
-    }
-    if !fit {
-        return finish_with(3, b, j.at);
-    }
-    let source = f.value;
-    let r = b.finalize_attempt(Token(t.value), source, j.value);
-    finish_finalized(r, j.at)
-}
-
-// 07
-fn fee_intent_for_attempt(b: SubmissionBook, token: u64, at: usize) -> Step {
-    let r = b.fee_intent_for_attempt(Token(token));
-    finish_fee_intent(r, at)
-}
-
-// 11
-fn begin_replay(b: SubmissionBook, height: u64, at: usize) -> Step {
-    let r = b.begin_replay(Height(height));
-    finish_flag(r, at)
-}
-
-// 1a
-fn attempt(b: SubmissionBook, token: u64, at: usize) -> Step {
-    let r = b.attempt(Token(token));
-    finish_attempt(r, at)
+fn finalize_attempt(s: &[u8], at: usize, b: SubmissionBook) -> Option<Step> {
+    let token = read_number(s, at)?;
+    let source = read_source(s, token.at)?;
+    let joined = read_bundle(s, source.at)?;
+    Some(match (source.value, joined.value) {
+        (Some(from), Some(bundle)) => {
+            let r = b.finalize_attempt(Token(token.value), from, bundle);
+            finish_finalized(r, joined.at)
+        }
+        _ => finish_with(3, b, joined.at),
+    })
 }
 
 // 07, 11 and 1a: a number.
-fn play_number(op: u8, s: &[u8], at: usize, b: SubmissionBook) -> Step {
-    let n = read_number(s, at);
-    let ok = n.ok;
-    if !ok {
-        return broken(b);
-    }
-    if op == 0x07 {
-        return fee_intent_for_attempt(b, n.value, n.at);
-    }
-    if op == 0x11 {
-        return begin_replay(b, n.value, n.at);
-    }
-    attempt(b, n.value, n.at)
+fn play_number(op: u8, s: &[u8], at: usize, b: SubmissionBook) -> Option<Step> {
+    let n = read_number(s, at)?;
+    Some(match op {
+        0x07 => finish_fee_intent(b.fee_intent_for_attempt(Token(n.value)), n.at),
+        0x11 => finish_flag(b.begin_replay(Height(n.value)), n.at),
+        _ => finish_attempt(b.attempt(Token(n.value)), n.at),
+    })
 }
 
-// 13
-fn replay_rollback_height(at: usize, b: SubmissionBook) -> Step {
-    let r = b.replay_rollback_height();
-    finish_height(r, at)
-}
-
-pub fn play(op: u8, s: &[u8], at: usize, b: SubmissionBook) -> Step {
-    if op == 0x06 {
-        return finalize_attempt(s, at, b);
+// 06, 07, 11, 13 and 1a
+pub fn play(op: u8, s: &[u8], at: usize, b: SubmissionBook) -> Option<Step> {
+    match op {
+        0x06 => finalize_attempt(s, at, b),
+        0x13 => Some(finish_height(b.replay_rollback_height(), at)),
+        _ => play_number(op, s, at, b),
     }
-    if op == 0x13 {
-        return replay_rollback_height(at, b);
-    }
-    play_number(op, s, at, b)
 }

@@ -1,6 +1,6 @@
 -- All payments of a book in totals.
 use Rattle.std.specs.Prelude.{cond, List, [], ◌∷◌}
-use Rattle.base_lists.specs.Lists.{anyb, foldl}
+use Rattle.std.specs.List.{list_any, fold}
 use Rattle.book.specs.declared.SubmittedTx.{SubmittedTx}
 use Rattle.book.specs.declared.PendingDelivery.{PendingDelivery}
 use Rattle.tool_payments.specs.Payments.{retained_payment, queued_payment}
@@ -11,7 +11,7 @@ use Rattle.tool_book_summary.specs.Queue.{is_for, is_new}
 
 -- the payment that a submission is, beside the queue ds
 abbrev pub payment_of : List PendingDelivery → SubmittedTx → Payment
-payment_of ds x = retained_payment (anyb (is_for x) ds) x
+payment_of ds x = retained_payment (list_any (is_for x) ds) x
 
 abbrev pub add_retained : List PendingDelivery → Totals → SubmittedTx → Totals
 add_retained ds t x = add_payment t (payment_of ds x)
@@ -25,4 +25,4 @@ add_queued ts t [] = t
 add_queued ts t (d ∷ rest) = add_queued ts (add_new ts rest t d) rest
 
 unfoldable pub totals_of : List SubmittedTx → List PendingDelivery → Totals
-totals_of ts ds = add_queued ts (foldl (add_retained ds) no_totals ts) ds
+totals_of ts ds = add_queued ts (fold (add_retained ds) no_totals ts) ds

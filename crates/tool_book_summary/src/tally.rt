@@ -1,92 +1,62 @@
 // All payments of a book in totals.
-ghost use Rattle.std.specs.Prelude.{◌≡◌, take, drop};
-ghost use Rattle.base_lists.specs.Lists.{foldl};
+ghost use Rattle.std.specs.Prelude.{◌≡◌};
+ghost use Rattle.std.specs.List.{fold};
 ghost use Rattle.tool_book_summary.specs.Tally.{payment_of, add_retained, add_new, add_queued, totals_of};
 
 use crate::queue::{is_new, waits};
-use base_lists::at_most;
 use book::{PendingDelivery, SubmittedTx};
 use tool_payments::counts::{add_payment, no_totals};
 use tool_payments::payments::{queued_payment, retained_payment};
 use tool_payments::{Payment, Totals};
 
-// The payment that a submission is, beside the first m queue entries.
-pub fn payment_of(t: SubmittedTx, pending: [PendingDelivery; 16], m: usize) -> Payment
-    ensures { result ≡ payment_of (take m pending) t }
+// The payment that a submission is, beside the queue.
+pub fn payment_of(t: SubmittedTx, queue: &[PendingDelivery]) -> Payment
+    ensures { result ≡ payment_of queue.now t }
 {
-    let queued = waits(t, pending, m);
-    retained_payment(t, queued)
+    retained_payment(t, waits(t, queue))
 }
 
-// The payments that the first n submissions are.
-fn add_retained(
-    t: Totals,
-    submitted: [SubmittedTx; 16],
-    n: usize,
-    pending: [PendingDelivery; 16],
-    m: usize,
-) -> Totals
-    ensures { result ≡ foldl (add_retained (take m pending)) t (take n submitted) }
+// The payments that the submissions are.
+fn add_retained(t: Totals, submitted: &[SubmittedTx], queue: &[PendingDelivery]) -> Totals
+    ensures { result ≡ fold (add_retained queue.now) t submitted.now }
 {
-    let k = at_most(n, 16);
-    let mut acc = t;
-    let mut i: usize = 0;
-    while i < k {
-        let x = submitted[i];
-        acc = add_payment(acc, payment_of(x, pending, m));
-        i += 1;
-    }
-    acc
+    submitted
+        .iter()
+        .fold(t, |sum, x| add_payment(sum, payment_of(*x, queue)))
 }
 
-// The queue entry d, with the queue from a place on behind it, if it is a payment of its own.
+// The queue entry d, with the queue behind it, if it is a payment of its own.
 fn add_new(
     t: Totals,
     d: PendingDelivery,
-    submitted: [SubmittedTx; 16],
-    n: usize,
-    pending: [PendingDelivery; 16],
-    from: usize,
-    m: usize,
+    submitted: &[SubmittedTx],
+    behind: &[PendingDelivery],
 ) -> Totals
-    ensures { result ≡ add_new (take n submitted) (drop from (take m pending)) t d }
+    ensures { result ≡ add_new submitted.now behind.now t d }
 {
-    if is_new(d, submitted, n, pending, from, m) {
+    if is_new(d, submitted, behind) {
         return add_payment(t, queued_payment(d));
     }
     t
 }
 
-// The payments of their own among the first m queue entries.
-fn add_queued(
-    t: Totals,
-    submitted: [SubmittedTx; 16],
-    n: usize,
-    pending: [PendingDelivery; 16],
-    m: usize,
-) -> Totals
-    ensures { result ≡ add_queued (take n submitted) t (take m pending) }
+// The payments of their own in the queue.
+fn add_queued(t: Totals, submitted: &[SubmittedTx], queue: &[PendingDelivery]) -> Totals
+    ensures { result ≡ add_queued submitted.now t queue.now }
 {
-    let k = at_most(m, 16);
-    let mut acc = t;
-    let mut i: usize = 0;
-    while i < k {
-        let d = pending[i];
-        acc = add_new(acc, d, submitted, n, pending, i + 1, k);
-        i += 1;
+    let mut sum = t;
+    // A loop: a turn takes the queue behind its entry too, which no step of a fold does.
+    for (i, d) in queue.iter().enumerate() {
+        sum = add_new(sum, *d, submitted, &queue[i + 1..]);
     }
-    acc
+    sum
 }
 
-// The first n submissions and the first m queue entries.
-pub fn totals(
-    submitted: [SubmittedTx; 16],
-    n: usize,
-    pending: [PendingDelivery; 16],
-    m: usize,
-) -> Totals
-    ensures { result ≡ totals_of (take n submitted) (take m pending) }
+// All of the submissions and of the queue.
+#[tactic(auto, unfolding(crate::specs::Tally::totals_of))]
+pub fn totals(submitted: &[SubmittedTx], queue: &[PendingDelivery]) -> Totals
+    ensures { result ≡ totals_of submitted.now queue.now }
 {
-    let retained = add_retained(no_totals(), submitted, n, pending, m);
-    add_queued(retained, submitted, n, pending, m)
+    let retained = add_retained(no_totals(), submitted, queue);
+    add_queued(retained, submitted, queue)
 }

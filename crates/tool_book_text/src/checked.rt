@@ -5,7 +5,6 @@ ghost use Rattle.tool_book_text.specs.Checked.{fingerprints_of, intent_agrees, a
 
 use crate::Fingerprints;
 use archive_fingerprints::{intent_fingerprint, variant_fingerprint};
-use base_lists::same32;
 use book::{OptionalHash, SubmittedEntry};
 use codec_append::append_bytes;
 use part_submitted::fingerprint::current_variant_fingerprint;
@@ -26,32 +25,22 @@ pub fn fingerprints_of(e: SubmittedEntry) -> Fingerprints
 pub fn intent_agrees(e: SubmittedEntry) -> bool
     ensures { result ≡ intent_agrees e }
 {
-    let stored = e.intent.intent_fingerprint;
     let bundle = e.intent.base_bundle;
-    let status = e.state.status;
-    let expiry = status.expiry;
+    let expiry = e.state.status.expiry;
     let fee = e.intent.fee_intent;
-    let computed = intent_fingerprint(bundle, expiry, fee);
-    same32(&stored, &computed)
+    e.intent.intent_fingerprint == intent_fingerprint(bundle, expiry, fee)
 }
 
 fn append_agreement(out: &mut [u8], at: usize, base: bool, current: bool) -> usize
     ensures { Fits (agreement_text base current) at out.old out.new result }
 {
-    if base {
-        if current {
-            return append_bytes(out, at, b", agrees with base bundle and current variant\n");
-        }
-        return append_bytes(out, at, b", agrees with the base bundle\n");
-    }
-    if current {
-        return append_bytes(out, at, b", agrees with the current variant\n");
-    }
-    append_bytes(
-        out,
-        at,
-        b", DOES NOT AGREE with base bundle or current variant\n",
-    )
+    let text: &[u8] = match (base, current) {
+        (true, true) => b", agrees with base bundle and current variant\n",
+        (true, false) => b", agrees with the base bundle\n",
+        (false, true) => b", agrees with the current variant\n",
+        (false, false) => b", DOES NOT AGREE with base bundle or current variant\n",
+    };
+    append_bytes(out, at, text)
 }
 
 // A label, a fingerprint of a variant, and which variant has it.
@@ -64,15 +53,11 @@ pub fn append_checked(
 ) -> usize
     ensures { Fits (checked_text label.now stored.now f) at out.old out.new result }
 {
-    let base = f.base;
-    let current = f.current;
-    let of_base = same32(stored, &base);
-    let of_current = same32(stored, &current);
     let hash_end = append_hash_part(&mut *out, at, label, stored);
-    append_agreement(out, hash_end, of_base, of_current)
+    append_agreement(out, hash_end, *stored == f.base, *stored == f.current)
 }
 
-// An optional one.
+// An optional one. paper 01: an optional digest is a mark with the digest beside it.
 pub fn append_checked_optional(
     out: &mut [u8],
     at: usize,
@@ -94,18 +79,12 @@ pub fn append_checked_optional(
 fn append_intent_agreement(out: &mut [u8], at: usize, agrees: bool) -> usize
     ensures { Fits (intent_agreement agrees) at out.old out.new result }
 {
-    if agrees {
-        return append_bytes(
-            out,
-            at,
-            b", agrees with base bundle, expiry and fee intent\n",
-        );
-    }
-    append_bytes(
-        out,
-        at,
-        b", DOES NOT AGREE with base bundle, expiry and fee intent\n",
-    )
+    let text: &[u8] = if agrees {
+        b", agrees with base bundle, expiry and fee intent\n"
+    } else {
+        b", DOES NOT AGREE with base bundle, expiry and fee intent\n"
+    };
+    append_bytes(out, at, text)
 }
 
 // The intent fingerprint of a submission.

@@ -196,11 +196,8 @@ fn append_numbers(out: &mut [u8], at: usize, l: &[u64]) -> usize
     ensures { Fits (enc_many id_after_space l.now) at out.old out.new result }
 {
     let mut e = at;
-    let mut i: usize = 0;
-    while i < l.len() {
-        let n = l[i];
-        e = append_spaced(&mut *out, e, n);
-        i += 1;
+    for n in l {
+        e = append_spaced(&mut *out, e, *n);
     }
     e
 }
@@ -208,7 +205,7 @@ fn append_numbers(out: &mut [u8], at: usize, l: &[u64]) -> usize
 fn append_none(out: &mut [u8], at: usize, l: &[u64]) -> usize
     ensures { Fits (none_of l.now) at out.old out.new result }
 {
-    if l.len() == 0 {
+    if l.is_empty() {
         return append_bytes(out, at, b" none");
     }
     at

@@ -1,6 +1,7 @@
 -- A coin string taken apart: parent, puzzle hash and amount, if it is made of these.
-use Rattle.std.specs.Prelude.{◌≡◌, Bool, true, false, ◌&&◌, List, [], ◌∷◌, ◌++◌, ℕ, suc, ◌*◌, ◌+◌, ◌-◌, ◌%◌, ◌^◌, ◌≤◌, ◌<◌, length, take, drop, get_or, leb, ltb}
-use Rattle.std.proofs.Common.{sym, ap, ◌∙◌, add-one, le-leb, leb-true, lt-ltb, drop_of_length-le, drop-cons, arith}
+use Rattle.std.specs.Prelude.{◌≡◌, Bool, true, false, ◌&&◌, List, ◌++◌, ℕ, ◌*◌, ◌+◌, ◌-◌, ◌%◌, ◌^◌, ◌≤◌, ◌<◌, length, take, drop, leb, ltb}
+use Rattle.std.specs.List.{fold}
+use Rattle.std.proofs.Common.{sym, ap, ◌∙◌, le-leb, leb-true, lt-ltb, arith}
 use Rattle.std.proofs.lemmas.Bool.{lt-leb}
 use Rattle.base_lists.specs.Bytes.{eqs}
 use Rattle.base_lists.specs.Laws.{and_split}
@@ -20,8 +21,7 @@ puzzle_of c = take 32 (drop 32 c)
 
 -- a number and then the bytes of l, the highest first, in the last eight bytes
 unfoldable pub amount_from : ℕ → List ℕ → ℕ
-amount_from v [] = v
-amount_from v (x ∷ l) = amount_from (v % 2 ^ 56 * 256 + x) l
+amount_from v l = fold (λ (n x : ℕ). n % 2 ^ 56 * 256 + x) v l
 
 -- the number that the bytes behind the first 64 stand for
 unfoldable pub amount_of : List ℕ → ℕ
@@ -53,19 +53,6 @@ coin_or_bytes c =
 unfoldable pub coin_text : List ℕ → List ℕ
 unfolding coin_or_bytes hex_line
 coin_text c = coin_or_bytes c ++ hex_line (ascii "      coin id: ") (coin_id_of c)
-
--- ---- the loop over the amount's bytes
-pub amount_turn : (c : List ℕ) (i v m x : ℕ) → i < length c → x ≡ get_or c i 0 → amount_from v (drop i c) ≡ m → amount_from (v % 2 ^ 56 * 256 + x) (drop (i + 1) c) ≡ m
-unfolding amount_from
-amount_turn c i v m x h q e =
-    ap (λ (k : ℕ). amount_from (v % 2 ^ 56 * 256 + x) (drop k c)) (add-one i)
-    ∙ ap (λ (y : ℕ). amount_from (v % 2 ^ 56 * 256 + y) (drop (suc i) c)) q
-    ∙ sym (ap (amount_from v) (drop-cons c i 0 h))
-    ∙ e
-
-pub amount_done : (c : List ℕ) (i v m : ℕ) → length c ≤ i → amount_from v (drop i c) ≡ m → v ≡ m
-unfolding amount_from
-amount_done c i v m h e = sym (ap (amount_from v) (drop_of_length-le c {i = i} h)) ∙ e
 
 -- ---- a coin of parts has 64 bytes and more
 pub coin_short : (c : List ℕ) → length c < 64 → false ≡ is_coin c

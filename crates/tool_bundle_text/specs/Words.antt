@@ -2,10 +2,10 @@
 use Rattle.std.specs.Prelude.{List, ◌++◌, ℕ}
 use Rattle.tool_text.specs.Ascii.{ascii}
 use Rattle.tool_text.specs.Numbers.{number_line, hex_line}
-use Rattle.book.specs.declared.OptionalHeight.{OptionalHeight}
-use Rattle.book.specs.declared.OptionalHeight.TheVariants.{NoHeight, At}
-use Rattle.book.specs.declared.OptionalId.{OptionalId}
-use Rattle.book.specs.declared.OptionalId.TheVariants.{NoId, Of}
+use Rattle.std.specs.Prelude.{Option}
+use Rattle.book.specs.declared.Height.{Height}
+use Rattle.std.specs.Prelude.{None, Some}
+use Rattle.book.specs.declared.SubmissionId.{SubmissionId}
 use Rattle.book.specs.declared.FeeIntentKind.{FeeIntentKind}
 use Rattle.book.specs.declared.FeeIntentKind.TheVariants.{AlreadyPaid, NoFeeConfigured, Attach}
 use Rattle.book.specs.declared.SubmissionFeeIntent.{SubmissionFeeIntent}
@@ -49,12 +49,12 @@ fee_intent_text f =
     fee_kind_text f.kind
     (hex_line (ascii "  fee intent: Attach, target ") f.target ++ number_line (ascii "    amount: ") f.amount)
 
-unfoldable pub height_text : List ℕ → OptionalHeight → List ℕ
+unfoldable pub height_text : List ℕ → Option Height → List ℕ
 unfolding number_line
-height_text label NoHeight = label ++ ascii "none\n"
-height_text label (At h) = number_line label h.0
+height_text label None = label ++ ascii "none\n"
+height_text label (Some h) = number_line label h.0
 
-unfoldable pub id_text : List ℕ → OptionalId → List ℕ
+unfoldable pub id_text : List ℕ → Option SubmissionId → List ℕ
 unfolding number_line
-id_text label NoId = label ++ ascii "new\n"
-id_text label (Of i) = number_line label i.0
+id_text label None = label ++ ascii "new\n"
+id_text label (Some i) = number_line label i.0

@@ -7,9 +7,7 @@ ghost use Rattle.tool_bundle_text.specs.Coins.{coin_text};
 ghost use Rattle.tool_bundle_text.specs.Bundles.{output_text, run_text, spend_text, bundle_text, variant_text};
 
 use crate::coin::append_coin;
-use crate::words::append_hash_line;
 use base_coin_string::{from_parts, to_coin_id};
-use base_lists::at_most;
 use book::{CoinSpend, Output, SpendBundle, SubmissionBroadcastVariant};
 use codec_append::append_bytes;
 use tool_text::{append_decimal, append_hex_line, append_number_line};
@@ -35,20 +33,16 @@ fn append_output(out: &mut [u8], at: usize, parent: [u8; 32], i: usize, o: Outpu
     let hash_end = append_hex_line(&mut *out, number_end, b" puzzle hash: ", &hash);
     let amount_end = append_number_line(&mut *out, hash_end, b"          amount: ", amount);
     let id = output_coin_id(parent, o);
-    append_hash_line(out, amount_end, b"          coin id: ", &id)
+    append_hex_line(out, amount_end, b"          coin id: ", &id)
 }
 
-// The first n outputs.
+// The first n outputs. Outputs and spends have a loop each: what a passed function would have to promise is longer than the loop.
 fn append_outputs(out: &mut [u8], at: usize, parent: [u8; 32], a: [Output; 4], n: usize) -> usize
     ensures { Fits (each_from (output_text parent) 0 (take n a)) at out.old out.new result }
 {
-    let k = at_most(n, 4);
     let mut e = at;
-    let mut i: usize = 0;
-    while i < k {
-        let o = a[i];
-        e = append_output(&mut *out, e, parent, i, o);
-        i += 1;
+    for (i, o) in a[..n.min(4)].iter().enumerate() {
+        e = append_output(&mut *out, e, parent, i, *o);
     }
     e
 }
@@ -74,8 +68,7 @@ fn append_run(
 fn append_cell(out: &mut [u8], at: usize, coin: [u8; 73], n: u8) -> usize
     ensures { Fits (coin_text (take n coin)) at out.old out.new result }
 {
-    let k = at_most(n as usize, 73);
-    append_coin(out, at, &coin[0..k])
+    append_coin(out, at, &coin[..usize::from(n).min(73)])
 }
 
 fn append_spend(out: &mut [u8], at: usize, i: usize, s: CoinSpend) -> usize
@@ -90,7 +83,7 @@ fn append_spend(out: &mut [u8], at: usize, i: usize, s: CoinSpend) -> usize
     let parent = to_coin_id(coin, s.coin_len);
     let heading_end = append_number_line(&mut *out, at, b"    spend ", (i + 1) as u64);
     let coin_end = append_cell(&mut *out, heading_end, coin, s.coin_len);
-    let digest_end = append_hash_line(
+    let digest_end = append_hex_line(
         &mut *out,
         coin_end,
         b"      digest of puzzle, solution and signature: ",
@@ -103,13 +96,9 @@ fn append_spend(out: &mut [u8], at: usize, i: usize, s: CoinSpend) -> usize
 fn append_spends(out: &mut [u8], at: usize, a: [CoinSpend; 4], n: usize) -> usize
     ensures { Fits (each_from spend_text 0 (take n a)) at out.old out.new result }
 {
-    let k = at_most(n, 4);
     let mut e = at;
-    let mut i: usize = 0;
-    while i < k {
-        let s = a[i];
-        e = append_spend(&mut *out, e, i, s);
-        i += 1;
+    for (i, s) in a[..n.min(4)].iter().enumerate() {
+        e = append_spend(&mut *out, e, i, *s);
     }
     e
 }

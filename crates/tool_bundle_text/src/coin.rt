@@ -4,22 +4,17 @@ ghost use Rattle.codec_append.specs.Fits.{Fits};
 ghost use Rattle.tool_bundle_text.specs.Coins.{amount_of, is_coin, parts_text, coin_or_bytes, coin_text};
 
 use base_coin_string::from_parts;
-use codec_bytes::read::wide;
 use codec_cursor::read_hash;
 use tool_text::{append_hex_line, append_number_line};
 
 // The amount of a coin string that is_coin accepts.
+#[tactic(auto, unfolding(crate::specs::Coins::amount_of, crate::specs::Coins::amount_from))]
 pub fn amount(c: &[u8]) -> u64
     ensures { result ≡ amount_of c.now }
 {
-    let mut v: u64 = 0;
-    let mut i: usize = 64;
-    while i < c.len() {
-        let b = wide(c[i]);
-        v = v % 0x100_0000_0000_0000 * 256 + b;
-        i += 1;
-    }
-    v
+    c.iter()
+        .skip(64)
+        .fold(0, |v, b| v % 0x100_0000_0000_0000 * 256 + u64::from(*b))
 }
 
 // Whether a coin string is the one of its parent, its puzzle hash and its amount.
@@ -37,7 +32,7 @@ pub fn is_coin(c: &[u8]) -> bool
     let made = from_parts(parent_hash, puzzle_hash, v);
     let bytes = made.bytes;
     let n = made.len as usize;
-    base_lists::same(c, &bytes[0..n])
+    c == &bytes[..n]
 }
 
 fn append_parts(out: &mut [u8], at: usize, c: &[u8]) -> usize

@@ -1,102 +1,70 @@
 // The kinds in words, each up to its line's end, and the optional parts.
 ghost use Rattle.std.specs.Prelude.{◌++◌, ◌≡◌};
 ghost use Rattle.codec_append.specs.Fits.{Fits};
-ghost use Rattle.tool_text.specs.Numbers.{hex, hex_line};
+ghost use Rattle.tool_text.specs.Numbers.{hex};
 ghost use Rattle.tool_bundle_text.specs.Words.{goal_text, trigger_text, chain_text, resolution_text, fee_intent_text, height_text, id_text};
 
 use book::{
-    DeliveryTrigger, FeeIntentKind, FeeResolution, OptionalHeight, OptionalId,
-    SubmissionChainTerminality, SubmissionDeliveryGoal, SubmissionFeeIntent,
+    DeliveryTrigger, FeeIntentKind, FeeResolution, Height, SubmissionChainTerminality,
+    SubmissionDeliveryGoal, SubmissionFeeIntent, SubmissionId,
 };
 use codec_append::append_bytes;
 use tool_text::{append_hex, append_hex_line, append_number_line};
 
+#[tactic(auto, unfolding(crate::specs::Words::goal_text))]
 pub fn append_goal(out: &mut [u8], at: usize, g: SubmissionDeliveryGoal) -> usize
     ensures { Fits (goal_text g) at out.old out.new result }
 {
-    match g {
-        SubmissionDeliveryGoal::EnsureBroadcast => append_bytes(
-            out,
-            at,
+    let text: &[u8] = match g {
+        SubmissionDeliveryGoal::EnsureBroadcast =>
             b"EnsureBroadcast (to have the bundle broadcast)\n",
-        ),
-        SubmissionDeliveryGoal::FeeUpgrade => append_bytes(
-            out,
-            at,
-            b"FeeUpgrade (to have a fee attached)\n",
-        ),
-    }
+        SubmissionDeliveryGoal::FeeUpgrade => b"FeeUpgrade (to have a fee attached)\n",
+    };
+    append_bytes(out, at, text)
 }
 
+#[tactic(auto, unfolding(crate::specs::Words::trigger_text))]
 pub fn append_trigger(out: &mut [u8], at: usize, t: DeliveryTrigger) -> usize
     ensures { Fits (trigger_text t) at out.old out.new result }
 {
-    match t {
-        DeliveryTrigger::Protocol => append_bytes(
-            out,
-            at,
-            b"  trigger: Protocol (the protocol asked for it)\n",
-        ),
-        DeliveryTrigger::FreshChain => append_bytes(
-            out,
-            at,
-            b"  trigger: FreshChain (a newer chain was seen)\n",
-        ),
-        DeliveryTrigger::Rollback => append_bytes(
-            out,
-            at,
-            b"  trigger: Rollback (the chain was rolled back)\n",
-        ),
-        DeliveryTrigger::ProviderReadiness => append_bytes(
-            out,
-            at,
+    let text: &[u8] = match t {
+        DeliveryTrigger::Protocol => b"  trigger: Protocol (the protocol asked for it)\n",
+        DeliveryTrigger::FreshChain => b"  trigger: FreshChain (a newer chain was seen)\n",
+        DeliveryTrigger::Rollback => b"  trigger: Rollback (the chain was rolled back)\n",
+        DeliveryTrigger::ProviderReadiness =>
             b"  trigger: ProviderReadiness (the fee provider became ready)\n",
-        ),
-    }
+    };
+    append_bytes(out, at, text)
 }
 
+#[tactic(auto, unfolding(crate::specs::Words::chain_text))]
 pub fn append_chain(out: &mut [u8], at: usize, c: SubmissionChainTerminality) -> usize
     ensures { Fits (chain_text c) at out.old out.new result }
 {
-    match c {
-        SubmissionChainTerminality::Active => append_bytes(
-            out,
-            at,
+    let text: &[u8] = match c {
+        SubmissionChainTerminality::Active =>
             b"  chain state: Active (neither landed nor an input spent)\n",
-        ),
-        SubmissionChainTerminality::InputSpent => append_bytes(
-            out,
-            at,
+        SubmissionChainTerminality::InputSpent =>
             b"  chain state: InputSpent (an input was spent, no output was seen)\n",
-        ),
-        SubmissionChainTerminality::Landed => append_bytes(
-            out,
-            at,
+        SubmissionChainTerminality::Landed =>
             b"  chain state: Landed (an output was seen on the chain)\n",
-        ),
-    }
+    };
+    append_bytes(out, at, text)
 }
 
+#[tactic(auto, unfolding(crate::specs::Words::resolution_text))]
 pub fn append_resolution(out: &mut [u8], at: usize, f: FeeResolution) -> usize
     ensures { Fits (resolution_text f) at out.old out.new result }
 {
-    match f {
-        FeeResolution::Unresolved => append_bytes(
-            out,
-            at,
+    let text: &[u8] = match f {
+        FeeResolution::Unresolved =>
             b"  durable fee state: Unresolved (the wallet is still to be asked for the fee)\n",
-        ),
-        FeeResolution::NotRequested => append_bytes(
-            out,
-            at,
+        FeeResolution::NotRequested =>
             b"  durable fee state: NotRequested (no fee is asked of the wallet)\n",
-        ),
-        FeeResolution::Attached => append_bytes(
-            out,
-            at,
+        FeeResolution::Attached =>
             b"  durable fee state: Attached (the wallet has added the fee)\n",
-        ),
-    }
+    };
+    append_bytes(out, at, text)
 }
 
 pub fn append_fee_intent(out: &mut [u8], at: usize, f: SubmissionFeeIntent) -> usize
@@ -127,35 +95,28 @@ pub fn append_fee_intent(out: &mut [u8], at: usize, f: SubmissionFeeIntent) -> u
     }
 }
 
-pub fn append_height(out: &mut [u8], at: usize, label: &[u8], h: OptionalHeight) -> usize
+pub fn append_height(out: &mut [u8], at: usize, label: &[u8], h: Option<Height>) -> usize
     ensures { Fits (height_text label.now h) at out.old out.new result }
 {
     match h {
-        OptionalHeight::NoHeight => {
+        None => {
             let label_end = append_bytes(&mut *out, at, label);
             append_bytes(out, label_end, b"none\n")
         }
-        OptionalHeight::At(x) => append_number_line(out, at, label, x.0),
+        Some(x) => append_number_line(out, at, label, x.0),
     }
 }
 
-pub fn append_id(out: &mut [u8], at: usize, label: &[u8], i: OptionalId) -> usize
+pub fn append_id(out: &mut [u8], at: usize, label: &[u8], i: Option<SubmissionId>) -> usize
     ensures { Fits (id_text label.now i) at out.old out.new result }
 {
     match i {
-        OptionalId::NoId => {
+        None => {
             let label_end = append_bytes(&mut *out, at, label);
             append_bytes(out, label_end, b"new\n")
         }
-        OptionalId::Of(x) => append_number_line(out, at, label, x.0),
+        Some(x) => append_number_line(out, at, label, x.0),
     }
-}
-
-// A line of its label and a hash.
-pub fn append_hash_line(out: &mut [u8], at: usize, label: &[u8], hash: &[u8; 32]) -> usize
-    ensures { Fits (hex_line label.now hash.now) at out.old out.new result }
-{
-    append_hex_line(out, at, label, hash)
 }
 
 // A label and a hash, with the line still open.

@@ -1,7 +1,8 @@
 // Writes the amount atom, the coin string and the coin id of coins made of their parts, a coin to a line.
 #![tactic(auto)]
 
-ghost use Rattle.std.specs.Prelude.{◌≤◌, ◌<◌};
+use base_coin_string::{from_parts, to_coin_id};
+use std::io;
 
 const AMOUNTS: [u64; 35] = [
     0,
@@ -41,74 +42,39 @@ const AMOUNTS: [u64; 35] = [
     18446744073709551615,
 ];
 
-fn newline() {
-    io::write_all(1, b"\n");
-}
-
-fn space() {
-    io::write_all(1, b" ");
-}
-
-fn wide(x: u8) -> u64 {
-    x as u64
-}
-
-fn show(s: &[u8]) {
-    let mut i: usize = 0;
-    while i < s.len() {
-        io::print_hex(1, wide(s[i]), 2);
-        i += 1;
+fn show(rt: &impl Print, s: &[u8]) -> io::Result<()> {
+    for b in s {
+        print!(rt; "{b:02x}")?;
     }
+    Ok(())
 }
 
 // 32 bytes, of which byte i is step times i + k modulo 256.
-fn filled(step: u64, k: u64) -> [u8; 32]
-    requires { (step < 256) × (k < 256) }
-{
-    let mut a = [0u8; 32];
+fn filled(step: u8, k: u8) -> [u8; 32] {
+    let mut a = [0; 32];
     let mut x = k;
-    let mut i: usize = 0;
-    while i < 32 {
-        a[i] = (x % 256) as u8;
-        x = (x + step) % 256;
-        i += 1;
+    for cell in &mut a {
+        *cell = x;
+        x = x.wrapping_add(step);
     }
     a
 }
 
-// How many of a cell's bytes are the coin's: at least the 64 of the two hashes.
-fn used(len: u8) -> usize
-    ensures { (64 ≤ result) × (result ≤ 73) }
-{
-    if len < 64 {
-        return 64;
-    }
-    if 73 < len {
-        return 73;
-    }
-    len as usize
+fn show_coin(rt: &impl Print, amount: u64, k: u8) -> io::Result<()> {
+    let coin = from_parts(filled(3, k), filled(5, k), amount);
+    // At least the 64 bytes of the two hashes.
+    let n = usize::from(coin.len).clamp(64, 73);
+    show(rt, &coin.bytes[64..n])?;
+    rt.print(" ")?;
+    show(rt, &coin.bytes[..n])?;
+    rt.print(" ")?;
+    show(rt, &to_coin_id(coin.bytes, coin.len))?;
+    rt.println("")
 }
 
-fn show_coin(amount: u64, k: u64)
-    requires { k < 256 }
-{
-    let coin = base_coin_string::from_parts(filled(3, k), filled(5, k), amount);
-    let bytes = coin.bytes;
-    let n = used(coin.len);
-    show(&bytes[64..n]);
-    space();
-    show(&bytes[0..n]);
-    space();
-    let id = base_coin_string::to_coin_id(bytes, coin.len);
-    show(&id);
-    newline();
-}
-
-fn main() {
-    let amounts = AMOUNTS;
-    let mut k: usize = 0;
-    while k < 35 {
-        show_coin(amounts[k], k as u64);
-        k += 1;
+fn main(rt: HostRuntime) -> io::Result<()> {
+    for (k, amount) in AMOUNTS.iter().enumerate() {
+        show_coin(&rt, *amount, k as u8)?;
     }
+    Ok(())
 }

@@ -1,7 +1,6 @@
 // Reads two 8-byte numbers, the next token and the next submission id, and writes the archive of the book opened with them: 22 bytes.
 #![tactic(auto)]
 
-use archive_write_checked::Wrote;
 use book::{SubmissionId, Token};
 use codec_cursor::read_number;
 
@@ -21,7 +20,7 @@ fn main() {
     let id = read_number(&numbers, &mut at);
     let book = call_open::open(Token(token), SubmissionId(id));
     let mut out = [0u8; 22];
-    let Wrote::Bytes(_n) = archive_write_checked::write_archive(book, &mut out) else {
+    let Ok(_n) = archive_write_checked::write_archive(book, &mut out) else {
         refuse(b"open_archive: the archive does not fit\n");
         return;
     };

@@ -1,6 +1,6 @@
 -- What a bundle pays out. A sum of amounts need not fit 64 bits: it is two numbers, in decimal one behind the other.
 use Rattle.std.specs.Prelude.{cond, List, [], map, ℕ, ◌+◌, ◌*◌, ◌/◌, ◌%◌, ◌^◌}
-use Rattle.base_lists.specs.Lists.{foldl, flat_map}
+use Rattle.std.specs.List.{fold, flat_map}
 use Rattle.book.specs.Sound.{spends_of, outputs_of}
 use Rattle.book.specs.declared.Output.{Output}
 use Rattle.book.specs.declared.CoinSpend.{CoinSpend}
@@ -32,4 +32,4 @@ abbrev pub amounts_of : CoinSpend → List ℕ
 amounts_of s = cond s.readable (map (λ (o : Output). o.amount) (outputs_of s)) []
 
 unfoldable pub amount_out : SpendBundle → Sum
-amount_out b = foldl add_amount (sum_of 0) (flat_map amounts_of (spends_of b))
+amount_out b = fold add_amount (sum_of 0) (flat_map amounts_of (spends_of b))

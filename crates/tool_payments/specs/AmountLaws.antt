@@ -2,15 +2,15 @@
 use Rattle.std.specs.Prelude.{◌≡◌, refl, Bool, true, cond, List, [], ◌∷◌, ◌++◌, ℕ, zero, suc, ◌+◌, ◌-◌, ◌*◌, ◌/◌, ◌%◌, ◌^◌, ◌≤◌, ◌<◌, eqb, ltb, length, replicate}
 use Rattle.std.proofs.Common.{sym, ap, ◌∙◌, append_assoc, append-nil, arith, pow-suc, mod-eq_of_lt, mul_assoc, mul_comm, div-one, mul-pos, div-lt_iff_lt-mul, zero-lt-suc, lt-ltb, le-ltb, ltb-true, ne_eqb}
 use Rattle.std.proofs.Math.Nat.{div-div-eq-div-mul, one-le-pow}
-use Rattle.base_lists.specs.Lists.{allb, foldl, flat_map}
+use Rattle.std.specs.List.{list_all, fold, flat_map}
 use Rattle.base_lists.specs.Laws.{and_split}
 use Rattle.book.specs.Sound.{spends_of}
 use Rattle.book.specs.declared.SpendBundle.{SpendBundle}
 use Rattle.tool_text.specs.Ascii.{ascii}
-use Rattle.tool_text.specs.Numbers.{decimal, decimal_in}
+use Rattle.tool_text.specs.Numbers.{decimal, decimal_in, padded}
 use Rattle.tool_payments.specs.declared.Sum.{Sum}
 use Rattle.tool_payments.specs.Amount.{value_of, sum_of, add_amount, amounts_of, amount_out}
-use Rattle.tool_payments.specs.Text.{padded, sum_text}
+use Rattle.tool_payments.specs.Text.{sum_text}
 
 abbrev pub total : List ℕ → ℕ
 total [] = 0
@@ -18,7 +18,7 @@ total (n ∷ ns) = n + total ns
 
 -- every one has 64 bits
 abbrev pub all64 : List ℕ → Bool
-all64 ns = allb (λ n. ltb n (2 ^ 64)) ns
+all64 ns = list_all (λ n. ltb n (2 ^ 64)) ns
 
 -- ---- adding
 record Small (k : ℕ) (s : Sum) : Type 0 where
@@ -46,7 +46,7 @@ module _ (k n : ℕ) (s : Sum) (h : n < 2 ^ 64) (b : k < 2 ^ 31) (p : Small k s)
       add_number s.high s.low (n / 10 ^ 18) (n % 10 ^ 18) g p.low (omega arith) (omega arith) ∙ ap (λ (x : ℕ). value_of s + x) whole
 
 -- a sum of up to a hundred million amounts is their sum
-sum_from : (k : ℕ) (s : Sum) (ns : List ℕ) → all64 ns ≡ true → k + 19 * length ns < 2 ^ 31 → Small k s → value_of (foldl add_amount s ns) ≡ value_of s + total ns
+sum_from : (k : ℕ) (s : Sum) (ns : List ℕ) → all64 ns ≡ true → k + 19 * length ns < 2 ^ 31 → Small k s → value_of (fold add_amount s ns) ≡ value_of s + total ns
 sum_from k s [] a b p = omega arith
 sum_from k s (n ∷ ns) a b p =
     let q = and_split (ltb n (2 ^ 64)) (all64 ns) a in
@@ -55,7 +55,7 @@ sum_from k s (n ∷ ns) a b p =
     let v : value_of (add_amount s n) ≡ value_of s + n = value_add k n s h j p in
     sum_from (k + 19) (add_amount s n) ns q.1 (omega (arith, b)) (small_add k n s h j p) ∙ omega (arith, v)
 
-pub sum_exact : (ns : List ℕ) → all64 ns ≡ true → length ns ≤ 100000000 → value_of (foldl add_amount (sum_of 0) ns) ≡ total ns
+pub sum_exact : (ns : List ℕ) → all64 ns ≡ true → length ns ≤ 100000000 → value_of (fold add_amount (sum_of 0) ns) ≡ total ns
 sum_exact ns a l = sum_from 0 (sum_of 0) ns a (omega arith) (record { low = omega arith; high = omega arith }) ∙ omega arith
 
 -- what a bundle pays out is the sum of its outputs
@@ -123,6 +123,6 @@ sum_text_lem s q = go s.high s.low q
         ∙ sym (high_digits 18 20 (suc h) l (omega arith) q)
 
 -- sixteen of the largest amount
-sixteen : sum_text (foldl add_amount (sum_of 0) (replicate 16 (2 ^ 64 - 1))) ≡ ascii "295147905179352825840"
+sixteen : sum_text (fold add_amount (sum_of 0) (replicate 16 (2 ^ 64 - 1))) ≡ ascii "295147905179352825840"
 unfolding sum_text decimal decimal_in padded
 sixteen = refl

@@ -2,7 +2,7 @@
 use Rattle.std.specs.Prelude.{Bool, cond, ℕ}
 use Rattle.rules.specs.Parts.{current_bundle, current_applied_fee, current_acknowledged, fee_unresolved, is_landed, is_input_spent}
 use Rattle.book.specs.Sound.{readable_bundle, is_attach}
-use Rattle.book.specs.declared.OptionalId.TheVariants.{Of}
+use Rattle.std.specs.Prelude.{Some}
 use Rattle.book.specs.declared.SubmissionChainTerminality.{SubmissionChainTerminality}
 use Rattle.book.specs.declared.SubmittedEntry.{SubmittedEntry}
 use Rattle.book.specs.declared.SubmittedTx.{SubmittedTx}
@@ -41,7 +41,7 @@ fee_of e = fee_by e.state.current_variant.fee_bearing (fee_unresolved e) (curren
 -- ---- payments
 unfoldable pub retained_payment : Bool → SubmittedTx → Payment
 retained_payment queued t = record {
-  id = Of t.entry.id;
+  id = Some t.entry.id;
   amount = amount_out (current_bundle t.entry);
   readable = readable_bundle (current_bundle t.entry);
   state = state_of queued t;

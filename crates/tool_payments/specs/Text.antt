@@ -1,9 +1,10 @@
 -- A payment as a line, and the totals, as text.
-use Rattle.std.specs.Prelude.{Bool, true, false, cond, List, [], ◌∷◌, ◌++◌, ℕ, zero, suc, ◌+◌, ◌/◌, ◌%◌, ◌^◌, eqb, get_or}
+use Rattle.std.specs.Prelude.{Bool, true, false, cond, List, ◌++◌, ℕ, eqb, get_or}
 use Rattle.tool_text.specs.Ascii.{ascii}
-use Rattle.tool_text.specs.Numbers.{decimal, number_line}
-use Rattle.book.specs.declared.OptionalId.{OptionalId}
-use Rattle.book.specs.declared.OptionalId.TheVariants.{NoId, Of}
+use Rattle.tool_text.specs.Numbers.{decimal, padded, number_line}
+use Rattle.std.specs.Prelude.{Option}
+use Rattle.book.specs.declared.SubmissionId.{SubmissionId}
+use Rattle.std.specs.Prelude.{None, Some}
 use Rattle.tool_payments.specs.declared.Sum.{Sum}
 use Rattle.tool_payments.specs.declared.Payment.{Payment}
 use Rattle.tool_payments.specs.declared.PaymentState.{PaymentState}
@@ -11,11 +12,6 @@ use Rattle.tool_payments.specs.declared.PaymentState.TheVariants.{HasLanded, Has
 use Rattle.tool_payments.specs.declared.PaymentFee.{PaymentFee}
 use Rattle.tool_payments.specs.declared.PaymentFee.TheVariants.{Open, NoFee, Applied}
 use Rattle.tool_payments.specs.declared.Totals.{Totals}
-
--- the last k digits of n
-unfoldable pub padded : ℕ → ℕ → List ℕ
-padded zero n = []
-padded (suc k) n = (48 + n / 10 ^ k % 10) ∷ padded k n
 
 -- a sum in decimal
 unfoldable pub sum_text : Sum → List ℕ
@@ -26,9 +22,9 @@ unfoldable pub sum_line : List ℕ → Sum → List ℕ
 unfolding sum_text
 sum_line label s = label ++ sum_text s ++ ascii "\n"
 
-abbrev pub id_or_none : OptionalId → List ℕ
-id_or_none NoId = ascii "none"
-id_or_none (Of i) = decimal i.0
+abbrev pub id_or_none : Option SubmissionId → List ℕ
+id_or_none None = ascii "none"
+id_or_none (Some i) = decimal i.0
 
 abbrev pub readable_text : Bool → List ℕ
 readable_text true = ascii ", "

@@ -6,7 +6,7 @@ pub mod counts;
 pub mod payments;
 pub mod text;
 
-use book::OptionalId;
+use book::SubmissionId;
 
 // A sum of amounts: high times 10^18, and low.
 #[derive(Clone, Copy)]
@@ -35,7 +35,7 @@ pub enum PaymentFee {
 // A retained submission, or a queue entry that is to become one.
 #[derive(Clone, Copy)]
 pub struct Payment {
-    pub id: OptionalId,
+    pub id: Option<SubmissionId>,
     pub amount: Sum,
     pub readable: bool,
     pub state: PaymentState,

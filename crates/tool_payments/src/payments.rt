@@ -7,7 +7,7 @@ ghost use Rattle.tool_payments.specs.Payments.{chain_of, undecided, state_of, fe
 use crate::amount::amount_out;
 use crate::{Payment, PaymentFee, PaymentState};
 use book::{
-    FeeIntentKind, OptionalId, PendingDelivery, SubmissionChainTerminality, SubmittedEntry,
+    FeeIntentKind, PendingDelivery, SubmissionChainTerminality, SubmissionId, SubmittedEntry,
     SubmittedTx,
 };
 use book_sound::is_readable_bundle;
@@ -22,6 +22,7 @@ fn chain_of(e: SubmittedEntry) -> SubmissionChainTerminality
 }
 
 // While the chain has settled nothing.
+#[tactic(auto, unfolding(crate::specs::Payments::undecided))]
 fn undecided_state(t: SubmittedTx, queued: bool) -> PaymentState
     ensures { result ≡ undecided queued t }
 {
@@ -38,6 +39,7 @@ fn undecided_state(t: SubmittedTx, queued: bool) -> PaymentState
     PaymentState::RetainedOnly
 }
 
+#[tactic(auto, unfolding(crate::specs::Payments::state_of))]
 pub fn state_of(t: SubmittedTx, queued: bool) -> PaymentState
     ensures { result ≡ state_of queued t }
 {
@@ -51,6 +53,7 @@ pub fn state_of(t: SubmittedTx, queued: bool) -> PaymentState
 }
 
 // A fee bundle has its fee applied; without one the fee is still asked for, or there is none.
+#[tactic(auto, unfolding(crate::specs::Payments::fee_of))]
 pub fn fee_of(e: SubmittedEntry) -> PaymentFee
     ensures { result ≡ fee_of e }
 {
@@ -64,6 +67,7 @@ pub fn fee_of(e: SubmittedEntry) -> PaymentFee
 }
 
 // A retained submission, and whether a delivery of it is queued.
+#[tactic(auto, unfolding(crate::specs::Payments::retained_payment))]
 pub fn retained_payment(t: SubmittedTx, queued: bool) -> Payment
     ensures { result ≡ retained_payment queued t }
 {
@@ -71,9 +75,9 @@ pub fn retained_payment(t: SubmittedTx, queued: bool) -> Payment
     let id = entry.id;
     let bundle = current_bundle(entry);
     Payment {
-        id: OptionalId::Of(id),
+        id: Some(id),
         amount: amount_out(bundle),
-        readable: is_readable_bundle(bundle),
+        readable: is_readable_bundle(&bundle),
         state: state_of(t, queued),
         fee: fee_of(entry),
     }
@@ -83,13 +87,13 @@ fn asked_fee(k: FeeIntentKind) -> PaymentFee
     ensures { result ≡ cond (is_attach k) Open NoFee }
 {
     match k {
-        FeeIntentKind::AlreadyPaid => PaymentFee::NoFee,
-        FeeIntentKind::NoFeeConfigured => PaymentFee::NoFee,
+        FeeIntentKind::AlreadyPaid | FeeIntentKind::NoFeeConfigured => PaymentFee::NoFee,
         FeeIntentKind::Attach => PaymentFee::Open,
     }
 }
 
 // A queue entry that is a payment of its own.
+#[tactic(auto, unfolding(crate::specs::Payments::queued_payment))]
 pub fn queued_payment(d: PendingDelivery) -> Payment
     ensures { result ≡ queued_payment d }
 {
@@ -101,7 +105,7 @@ pub fn queued_payment(d: PendingDelivery) -> Payment
     Payment {
         id: id,
         amount: amount_out(bundle),
-        readable: is_readable_bundle(bundle),
+        readable: is_readable_bundle(&bundle),
         state: PaymentState::Queued,
         fee: asked_fee(kind),
     }

@@ -1,38 +1,24 @@
 -- Where an argument that is there ends: behind its start and within the script.
-use Rattle.std.specs.Prelude.{◌≡◌, refl, Bool, true, false, not, ◌&&◌, List, ℕ, ◌+◌, ◌≤◌, ◌<◌, length, get_or, ltb, leb}
-use Rattle.std.proofs.Common.{sym, ◌∙◌, arith, leb-true, ltb-true, ltb-false}
+use Rattle.std.specs.Prelude.{◌≡◌, refl, Bool, true, false, cond, Option, Some, None, List, ℕ, ◌+◌, ◌≤◌, ◌<◌, length, get_or, ltb}
+use Rattle.std.proofs.Common.{sym, arith, ltb-false}
 use Rattle.std.proofs.Math.Decide.{dec_le}
-use Rattle.std.proofs.lemmas.Bool.{lt-leb, not-false}
+use Rattle.std.proofs.lemmas.Bool.{lt-leb}
 use Rattle.codec_forms.specs.Wire.{Ans, got, bad, Parser, pick, run, number, up_to}
 use Rattle.codec_bytes.specs.Reading.{run_short, run_got, number_short, number_got, up_to_short, up_to_over, up_to_got}
 use Rattle.codec_cursor.specs.Cursor.{far, refused_at, Reads, reads_got}
 use Rattle.codec_cursor.specs.Items.{Counts}
 
-pub record Onward (s : List ℕ) (at : ℕ) (ok : Bool) (e : ℕ) : Type 0 where
-  pub ahead : ok ≡ true → at < e
-  pub within : ok ≡ true → e ≤ length s
+pub record Onward (s : List ℕ) (at e : ℕ) : Type 0 where
+  pub ahead : at < e
+  pub within : e ≤ length s
 
--- an argument of one byte: whether it is there, and what the parser p makes of it
-pub record Argument {A : Type 0} (p : Parser A) (s : List ℕ) (at : ℕ) (ok fit : Bool) (value : A) (e : ℕ) : Type 0 where
-  pub on : Onward s at ok e
+-- an argument of one byte: where it ends, and what the parser p makes of it
+pub record Argument {A : Type 0} (p : Parser A) (s : List ℕ) (at : ℕ) (value : Option A) (e : ℕ) : Type 0 where
+  pub on : Onward s at e
+  pub made : A
   pub place : ℕ
-  pub is : Reads p s at value place
-  pub fits : fit ≡ ltb place far
-
--- ids: the count is within the cells
-pub record IdsRead (s : List ℕ) (at : ℕ) (ok : Bool) (count : ℕ) (items : List ℕ) (e : ℕ) : Type 0 where
-  pub on : Onward s at ok e
-  pub few : count ≤ length items
-
-pub record LengthRead (s : List ℕ) (at : ℕ) (ok : Bool) (n e : ℕ) : Type 0 where
-  pub on : Onward s at ok e
-  pub few : n ≤ 65536
-
--- bytes: a part of the script, at any rate
-pub record BytesRead (s : List ℕ) (at : ℕ) (ok : Bool) (from e : ℕ) : Type 0 where
-  pub on : Onward s at ok e
-  pub ordered : from ≤ e
-  pub inside : e ≤ length s
+  pub is : Reads p s at made place
+  pub fits : value ≡ cond (ltb place far) (Some made) None
 
 -- ---- the items that a cursor passes
 -- behind the cursor c the cursor e is a place further on and within the script, or a refusal
@@ -95,38 +81,6 @@ on_refused s c = record { ahead = λ t. absurd (far_off (ltb c far) refl t); wit
 pub on_passed : (s : List ℕ) (c n : ℕ) → 0 < n → c + n ≤ length s → On s c (c + n)
 on_passed s c n h k = record { ahead = λ t. omega arith; within = λ t. k }
 
--- what an argument's mark tells
-pub on_told_lem : {s : List ℕ} {c e : ℕ} → On s c e → Onward s c (ltb e far) e
-on_told_lem {s} {c} {e} x = record { ahead = λ t. x.ahead (ltb-true e far t); within = λ t. x.within (ltb-true e far t) }
-
--- ---- parts
-and_first : (a b : Bool) → a && b ≡ true → a ≡ true
-and_first true b h = refl
-and_first false b h = h
-
-and_next : (a b : Bool) → a && b ≡ true → b ≡ true
-and_next true b h = h
-and_next false b h = absurd (let x : ◌≡◌ {A = ℕ} 0 1 = cc in omega arith)
-
-pub on_join : {s : List ℕ} {at : ℕ} {a b : Bool} {d e : ℕ} → Onward s at a d → Onward s d b e → Onward s at (a && b) e
-on_join {s} {at} {a} {b} {d} {e} x y = record {
-  ahead = λ t. omega (arith, x.ahead (and_first a b t), y.ahead (and_next a b t));
-  within = λ t. y.within (and_next a b t);
-}
-
--- a further test takes nothing back
-pub on_test : {s : List ℕ} {at : ℕ} {a : Bool} {e : ℕ} (b : Bool) → Onward s at a e → Onward s at (a && b) e
-on_test {s} {at} {a} {e} b x = record { ahead = λ t. x.ahead (and_first a b t); within = λ t. x.within (and_first a b t) }
-
-pub on_none : (s : List ℕ) (at e : ℕ) → Onward s at false e
-on_none s at e = record { ahead = λ t. absurd (let x : ◌≡◌ {A = ℕ} 0 1 = cc in omega arith); within = λ t. absurd (let x : ◌≡◌ {A = ℕ} 0 1 = cc in omega arith) }
-
-pub on_there : (s : List ℕ) (at e : ℕ) → at < e → e ≤ length s → Onward s at true e
-on_there s at e h k = record { ahead = λ t. h; within = λ t. k }
-
--- ---- behind the test of a mark and of the room for n bytes
-pub both_first : (a r : Bool) → not (a && r) ≡ false → a ≡ true
-both_first a r h = and_first a r (not-false (a && r) h)
-
-pub both_room : (a : Bool) {r : Bool} (s : List ℕ) (at n : ℕ) → r ≡ leb (at + n) (length s) → not (a && r) ≡ false → at + n ≤ length s
-both_room a {r} s at n e h = leb-true (at + n) (length s) (sym e ∙ and_next a r (not-false (a && r) h))
+-- where a cursor that is no refusal ends
+pub on_told : {s : List ℕ} {c e : ℕ} → On s c e → e < far → Onward s c e
+on_told x h = record { ahead = x.ahead h; within = x.within h }

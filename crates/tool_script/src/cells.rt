@@ -1,8 +1,10 @@
 // Bundle cells (1,073 bytes) and fee intent cells (41 bytes). Of a bundle only a run mark above 1 cannot be held, of a fee intent
 // only a kind above 2.
+ghost use Rattle.std.specs.Prelude.{IfSome};
 ghost use Rattle.tool_script.specs.Onward.{On, Onward};
 
-use crate::{BundleArgument, FeeIntentArgument, SpendCell, SpendCells};
+use crate::Read;
+use crate::kind::flag_of;
 use book::{CoinSpend, FeeIntentKind, Output, SpendBundle, SubmissionFeeIntent};
 use codec_bytes::put::put;
 use codec_bytes::read::has;
@@ -45,7 +47,7 @@ fn read_coin(s: &[u8], at: &mut usize) -> [u8; 73]
     coin
 }
 
-fn read_spend(s: &[u8], at: &mut usize) -> SpendCell
+fn read_spend(s: &[u8], at: &mut usize) -> Option<CoinSpend>
     ensures { On s.now at.old at.new }
 {
     let coin_len = read_count(s, &mut *at, 255);
@@ -54,79 +56,77 @@ fn read_spend(s: &[u8], at: &mut usize) -> SpendCell
     let mark = read_count(s, &mut *at, 255);
     let output_count = read_count(s, &mut *at, 255);
     let outputs = read_outputs(s, at);
-    let value = CoinSpend {
+    flag_of(mark).map(|readable| CoinSpend {
         coin_len,
         coin,
         digest,
-        readable: mark == 1,
+        readable,
         output_count,
         outputs,
-    };
-    SpendCell {
-        fit: mark <= 1,
-        value,
-    }
+    })
 }
 
-fn read_spends(s: &[u8], at: &mut usize) -> SpendCells
+fn read_spends(s: &[u8], at: &mut usize) -> [Option<CoinSpend>; 4]
     ensures { On s.now at.old at.new }
 {
-    let a = read_spend(s, &mut *at);
-    let b = read_spend(s, &mut *at);
-    let c = read_spend(s, &mut *at);
-    let d = read_spend(s, at);
-    let first = a.value;
-    let second = b.value;
-    let third = c.value;
-    let fourth = d.value;
-    let value = [first, second, third, fourth];
-    SpendCells {
-        fit: a.fit & b.fit & c.fit & d.fit,
-        value,
-    }
+    let first = read_spend(s, &mut *at);
+    let second = read_spend(s, &mut *at);
+    let third = read_spend(s, &mut *at);
+    let fourth = read_spend(s, at);
+    [first, second, third, fourth]
 }
 
-pub fn read_bundle(s: &[u8], at: usize) -> BundleArgument
-    ensures { Onward s.now at result.ok result.at }
+fn bundle_of(count: u8, cells: [Option<CoinSpend>; 4]) -> Option<SpendBundle> {
+    let [first, second, third, fourth] = cells;
+    Some(SpendBundle {
+        count,
+        spends: [first?, second?, third?, fourth?],
+    })
+}
+
+pub fn read_bundle(s: &[u8], at: usize) -> Option<Read<Option<SpendBundle>>>
+    ensures { IfSome result (λ r. Onward s.now at r.at) }
 {
     let mut end = at;
     let count = read_count(s, &mut end, 255);
-    let c = read_spends(s, &mut end);
-    let spends = c.value;
-    let value = SpendBundle { count, spends };
-    BundleArgument {
-        ok: end < FAR,
-        fit: c.fit,
-        value,
-        at: end,
+    let cells = read_spends(s, &mut end);
+    if end < FAR {
+        Some(Read {
+            value: bundle_of(count, cells),
+            at: end,
+        })
+    } else {
+        None
     }
 }
 
-fn fee_kind_of(n: u8) -> FeeIntentKind {
-    match n {
+fn fee_intent_of(n: u8, target: [u8; 32], amount: u64) -> Option<SubmissionFeeIntent> {
+    let kind = match n {
         0 => FeeIntentKind::AlreadyPaid,
         1 => FeeIntentKind::NoFeeConfigured,
-        _ => FeeIntentKind::Attach,
-    }
+        2 => FeeIntentKind::Attach,
+        _ => return None,
+    };
+    Some(SubmissionFeeIntent {
+        kind,
+        target,
+        amount,
+    })
 }
 
-pub fn read_fee_intent(s: &[u8], at: usize) -> FeeIntentArgument
-    ensures { Onward s.now at result.ok result.at }
+pub fn read_fee_intent(s: &[u8], at: usize) -> Option<Read<Option<SubmissionFeeIntent>>>
+    ensures { IfSome result (λ r. Onward s.now at r.at) }
 {
     let mut end = at;
     let number = read_count(s, &mut end, 255);
     let target = read_hash(s, &mut end);
     let amount = read_number(s, &mut end);
-    let kind = fee_kind_of(number);
-    let value = SubmissionFeeIntent {
-        kind,
-        target,
-        amount,
-    };
-    FeeIntentArgument {
-        ok: end < FAR,
-        fit: number <= 2,
-        value,
-        at: end,
+    if end < FAR {
+        Some(Read {
+            value: fee_intent_of(number, target, amount),
+            at: end,
+        })
+    } else {
+        None
     }
 }

@@ -1,41 +1,53 @@
 // The arguments of `queue`: optional id, bundle, optional expiry, fee intent, trigger, goal.
+ghost use Rattle.std.specs.Prelude.{IfSome};
 ghost use Rattle.tool_script.specs.Onward.{Onward};
 
-use crate::DeliveryArgument;
+use crate::Read;
 use crate::cells::{read_bundle, read_fee_intent};
 use crate::kind::{read_expiry, read_goal, read_id, read_trigger};
-use book::{PendingDelivery, PendingSubmissionIntent};
+use book::{
+    DeliveryTrigger, Height, PendingDelivery, PendingSubmissionIntent, SpendBundle,
+    SubmissionDeliveryGoal, SubmissionFeeIntent, SubmissionId,
+};
 
-pub fn read_delivery(s: &[u8], at: usize) -> DeliveryArgument
-    ensures { Onward s.now at result.ok result.at }
+fn intent_of(
+    id: Option<Option<SubmissionId>>,
+    bundle: Option<SpendBundle>,
+    expiry: Option<Option<Height>>,
+    fee_intent: Option<SubmissionFeeIntent>,
+) -> Option<PendingSubmissionIntent> {
+    Some(PendingSubmissionIntent {
+        id: id?,
+        bundle: bundle?,
+        expiry: expiry?,
+        fee_intent: fee_intent?,
+    })
+}
+
+fn delivery_of(
+    intent: Option<PendingSubmissionIntent>,
+    trigger: Option<DeliveryTrigger>,
+    goal: Option<SubmissionDeliveryGoal>,
+) -> Option<PendingDelivery> {
+    Some(PendingDelivery {
+        intent: intent?,
+        trigger: trigger?,
+        goal: goal?,
+    })
+}
+
+pub fn read_delivery(s: &[u8], at: usize) -> Option<Read<Option<PendingDelivery>>>
+    ensures { IfSome result (λ r. Onward s.now at r.at) }
 {
-    let i = read_id(s, at);
-    let b = read_bundle(s, i.at);
-    let e = read_expiry(s, b.at);
-    let f = read_fee_intent(s, e.at);
-    let t = read_trigger(s, f.at);
-    let g = read_goal(s, t.at);
-    let id = i.value;
-    let bundle = b.value;
-    let expiry = e.value;
-    let fee_intent = f.value;
-    let trigger = t.value;
-    let goal = g.value;
-    let intent = PendingSubmissionIntent {
-        id,
-        bundle,
-        expiry,
-        fee_intent,
-    };
-    let value = PendingDelivery {
-        intent,
-        trigger,
-        goal,
-    };
-    DeliveryArgument {
-        ok: i.ok & b.ok & e.ok & f.ok & t.ok & g.ok,
-        fit: i.fit & b.fit & e.fit & f.fit & t.fit & g.fit,
-        value,
-        at: g.at,
-    }
+    let id = read_id(s, at)?;
+    let bundle = read_bundle(s, id.at)?;
+    let expiry = read_expiry(s, bundle.at)?;
+    let fee_intent = read_fee_intent(s, expiry.at)?;
+    let trigger = read_trigger(s, fee_intent.at)?;
+    let goal = read_goal(s, trigger.at)?;
+    let intent = intent_of(id.value, bundle.value, expiry.value, fee_intent.value);
+    Some(Read {
+        value: delivery_of(intent, trigger.value, goal.value),
+        at: goal.at,
+    })
 }

@@ -1,149 +1,130 @@
 // Arguments of one byte, numbers, and optional numbers.
-ghost use Rattle.std.specs.Prelude.{◌≡◌};
+ghost use Rattle.std.specs.Prelude.{IfSome};
 ghost use Rattle.archive_form.specs.Parse.{parse_goal, parse_trigger};
 ghost use Rattle.tool_script.specs.Onward.{Onward, Argument};
 
-use crate::{
-    ByteArgument, ExpiryArgument, FlagArgument, GoalArgument, IdArgument, NumberArgument,
-    SourceArgument, TriggerArgument,
-};
-use book::{Height, OptionalHeight, OptionalId, SubmissionId};
+use crate::Read;
+use book::{DeliveryTrigger, Height, SubmissionDeliveryGoal, SubmissionId};
 use book_answers::SubmissionFeeSource;
 use codec_cursor::{FAR, read_count};
 
-pub fn read_byte(s: &[u8], at: usize) -> ByteArgument
-    ensures { Onward s.now at result.ok result.at }
+pub fn read_byte(s: &[u8], at: usize) -> Option<Read<u8>>
+    ensures { IfSome result (λ r. Onward s.now at r.at) }
 {
     let mut end = at;
     let value = read_count(s, &mut end, 255);
-    ByteArgument {
-        ok: end < FAR,
-        value,
-        at: end,
+    if end < FAR {
+        Some(Read { value, at: end })
+    } else {
+        None
     }
 }
 
-pub fn read_number(s: &[u8], at: usize) -> NumberArgument
-    ensures { Onward s.now at result.ok result.at }
+pub fn read_number(s: &[u8], at: usize) -> Option<Read<u64>>
+    ensures { IfSome result (λ r. Onward s.now at r.at) }
 {
     let mut end = at;
     let value = codec_cursor::read_number(s, &mut end);
-    NumberArgument {
-        ok: end < FAR,
-        value,
-        at: end,
+    if end < FAR {
+        Some(Read { value, at: end })
+    } else {
+        None
     }
 }
 
-pub fn read_trigger(s: &[u8], at: usize) -> TriggerArgument
-    ensures { Argument parse_trigger s.now at result.ok result.fit result.value result.at }
+pub fn read_trigger(s: &[u8], at: usize) -> Option<Read<Option<DeliveryTrigger>>>
+    ensures { IfSome result (λ r. Argument parse_trigger s.now at r.value r.at) }
 {
-    let b = read_byte(s, at);
-    let mut trigger_end = at;
-    let value = archive_bundle_read::kind::read_trigger(s, &mut trigger_end);
-    TriggerArgument {
-        ok: b.ok,
-        fit: trigger_end < FAR,
-        value,
-        at: b.at,
-    }
+    let byte = read_byte(s, at)?;
+    let mut end = at;
+    let trigger = archive_bundle_read::kind::read_trigger(s, &mut end);
+    let value = if end < FAR { Some(trigger) } else { None };
+    Some(Read { value, at: byte.at })
 }
 
-pub fn read_goal(s: &[u8], at: usize) -> GoalArgument
-    ensures { Argument parse_goal s.now at result.ok result.fit result.value result.at }
+pub fn read_goal(s: &[u8], at: usize) -> Option<Read<Option<SubmissionDeliveryGoal>>>
+    ensures { IfSome result (λ r. Argument parse_goal s.now at r.value r.at) }
 {
-    let b = read_byte(s, at);
-    let mut goal_end = at;
-    let value = archive_bundle_read::kind::read_goal(s, &mut goal_end);
-    GoalArgument {
-        ok: b.ok,
-        fit: goal_end < FAR,
-        value,
-        at: b.at,
-    }
+    let byte = read_byte(s, at)?;
+    let mut end = at;
+    let goal = archive_bundle_read::kind::read_goal(s, &mut end);
+    let value = if end < FAR { Some(goal) } else { None };
+    Some(Read { value, at: byte.at })
 }
 
-fn source_of(n: u8) -> SubmissionFeeSource {
+fn source_of(n: u8) -> Option<SubmissionFeeSource> {
     match n {
-        0 => SubmissionFeeSource::NotRequested,
-        1 => SubmissionFeeSource::Joined,
-        2 => SubmissionFeeSource::JoinFailed,
-        _ => SubmissionFeeSource::Failed,
+        0 => Some(SubmissionFeeSource::NotRequested),
+        1 => Some(SubmissionFeeSource::Joined),
+        2 => Some(SubmissionFeeSource::JoinFailed),
+        3 => Some(SubmissionFeeSource::Failed),
+        _ => None,
     }
 }
 
-pub fn read_source(s: &[u8], at: usize) -> SourceArgument
-    ensures { Onward s.now at result.ok result.at }
+pub fn read_source(s: &[u8], at: usize) -> Option<Read<Option<SubmissionFeeSource>>>
+    ensures { IfSome result (λ r. Onward s.now at r.at) }
 {
-    let b = read_byte(s, at);
-    let n = b.value;
-    let value = source_of(n);
-    SourceArgument {
-        ok: b.ok,
-        fit: n <= 3,
-        value,
-        at: b.at,
+    let byte = read_byte(s, at)?;
+    Some(Read {
+        value: source_of(byte.value),
+        at: byte.at,
+    })
+}
+
+pub fn flag_of(n: u8) -> Option<bool> {
+    match n {
+        0 => Some(false),
+        1 => Some(true),
+        _ => None,
     }
 }
 
-pub fn read_flag(s: &[u8], at: usize) -> FlagArgument
-    ensures { Onward s.now at result.ok result.at }
+pub fn read_flag(s: &[u8], at: usize) -> Option<Read<Option<bool>>>
+    ensures { IfSome result (λ r. Onward s.now at r.at) }
 {
-    let b = read_byte(s, at);
-    let n = b.value;
-    FlagArgument {
-        ok: b.ok,
-        fit: n <= 1,
-        value: n == 1,
-        at: b.at,
-    }
+    let byte = read_byte(s, at)?;
+    Some(Read {
+        value: flag_of(byte.value),
+        at: byte.at,
+    })
 }
 
 // A mark of 0 leaves the number unused.
-fn optional_fits(mark: u8, n: u64) -> bool {
-    (mark == 1) | ((mark == 0) & (n == 0))
-}
-
-fn id_of(mark: u8, n: u64) -> OptionalId {
-    if mark == 1 {
-        return OptionalId::Of(SubmissionId(n));
+fn id_of(mark: u8, n: u64) -> Option<Option<SubmissionId>> {
+    match (mark, n) {
+        (0, 0) => Some(None),
+        (1, _) => Some(Some(SubmissionId(n))),
+        _ => None,
     }
-    OptionalId::NoId
 }
 
-pub fn read_id(s: &[u8], at: usize) -> IdArgument
-    ensures { Onward s.now at result.ok result.at }
+pub fn read_id(s: &[u8], at: usize) -> Option<Read<Option<Option<SubmissionId>>>>
+    ensures { IfSome result (λ r. Onward s.now at r.at) }
 {
-    let m = read_byte(s, at);
-    let n = read_number(s, m.at);
-    let fit = optional_fits(m.value, n.value);
-    let value = id_of(m.value, n.value);
-    IdArgument {
-        ok: m.ok & n.ok,
-        fit,
-        value,
+    let mark = read_byte(s, at)?;
+    let n = read_number(s, mark.at)?;
+    Some(Read {
+        value: id_of(mark.value, n.value),
         at: n.at,
+    })
+}
+
+fn height_of(mark: u8, n: u64) -> Option<Option<Height>> {
+    match (mark, n) {
+        (0, 0) => Some(None),
+        (1, _) => Some(Some(Height(n))),
+        _ => None,
     }
 }
 
-fn height_of(mark: u8, n: u64) -> OptionalHeight {
-    if mark == 1 {
-        return OptionalHeight::At(Height(n));
-    }
-    OptionalHeight::NoHeight
-}
-
-pub fn read_expiry(s: &[u8], at: usize) -> ExpiryArgument
-    ensures { Onward s.now at result.ok result.at }
+pub fn read_expiry(s: &[u8], at: usize) -> Option<Read<Option<Option<Height>>>>
+    ensures { IfSome result (λ r. Onward s.now at r.at) }
 {
-    let m = read_byte(s, at);
-    let n = read_number(s, m.at);
-    let fit = optional_fits(m.value, n.value);
-    let value = height_of(m.value, n.value);
-    ExpiryArgument {
-        ok: m.ok & n.ok,
-        fit,
-        value,
+    let mark = read_byte(s, at)?;
+    let n = read_number(s, mark.at)?;
+    Some(Read {
+        value: height_of(mark.value, n.value),
         at: n.at,
-    }
+    })
 }

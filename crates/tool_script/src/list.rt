@@ -1,93 +1,79 @@
 // Ids, byte runs and buffer lengths.
-ghost use Rattle.std.specs.Prelude.{◌≡◌, ◌<◌, length};
-ghost use Rattle.tool_script.specs.Onward.{Onward, IdsRead, LengthRead, BytesRead};
+ghost use Rattle.std.specs.Prelude.{IfSome, ◌≤◌};
+ghost use Rattle.tool_script.specs.Onward.{Onward};
 
+use crate::Read;
 use crate::kind::read_byte;
-use crate::{BytesArgument, IdsArgument, LengthArgument};
-use base_lists::at_most;
 use codec_bytes::read::has;
 use codec_cursor::read_number;
 
-fn wide(x: u8) -> usize
-    ensures { result < 256 }
-{
-    x as usize
+// The first 65 ids at most: a call refuses more than 64 whatever they are.
+#[derive(Clone, Copy)]
+pub struct Ids {
+    count: usize,
+    items: [u64; 65],
+}
+
+impl Ids {
+    pub fn as_slice(&self) -> &[u64] {
+        &self.items[..self.count.min(65)]
+    }
 }
 
 // The first n numbers from `at` on, at most 65.
-fn read_items(s: &[u8], at: usize, n: usize) -> [u64; 65]
-    ensures { 65 ≡ length result }
-{
-    let k = at_most(n, 65);
+fn ids_at(s: &[u8], at: usize, n: usize) -> Ids {
+    let count = n.min(65);
     let mut items = [0u64; 65];
-    let mut e = at;
-    let mut i: usize = 0;
-    while i < k {
-        let x = read_number(s, &mut e);
-        items[i] = x;
-        i += 1;
+    let mut end = at;
+    for item in &mut items[..count] {
+        *item = read_number(s, &mut end);
     }
-    items
+    Ids { count, items }
 }
 
-pub fn read_ids(s: &[u8], at: usize) -> IdsArgument
-    ensures { IdsRead s.now at result.ok result.count result.items result.at }
+pub fn read_ids(s: &[u8], at: usize) -> Option<Read<Ids>>
+    ensures { IfSome result (λ r. Onward s.now at r.at) }
 {
-    let high = read_byte(s, at);
-    let low = read_byte(s, high.at);
-    let from = low.at;
-    let n = wide(high.value) * 256 + wide(low.value);
-    let count = at_most(n, 65);
-    let items = read_items(s, from, count);
-    let there = high.ok & low.ok & has(s, from, n * 8);
-    if !there {
-        return IdsArgument {
-            ok: false,
-            count,
-            items,
-            at,
-        };
-    }
-    IdsArgument {
-        ok: true,
-        count,
-        items,
-        at: from + n * 8,
+    let high = read_byte(s, at)?;
+    let low = read_byte(s, high.at)?;
+    let n = usize::from(high.value) * 256 + usize::from(low.value);
+    if has(s, low.at, n * 8) {
+        Some(Read {
+            value: ids_at(s, low.at, n),
+            at: low.at + n * 8,
+        })
+    } else {
+        None
     }
 }
 
-pub fn read_length(s: &[u8], at: usize) -> LengthArgument
-    ensures { LengthRead s.now at result.ok result.value result.at }
+// The length of a byte run or of a buffer, at most 65,536: a longer one ends the run of the script, so it is not read.
+pub fn read_length(s: &[u8], at: usize) -> Option<Read<usize>>
+    ensures { IfSome result (λ r. Onward s.now at r.at × (r.value ≤ 65536)) }
 {
-    let a = read_byte(s, at);
-    let b = read_byte(s, a.at);
-    let c = read_byte(s, b.at);
-    let d = read_byte(s, c.at);
-    let n = ((wide(a.value) * 256 + wide(b.value)) * 256 + wide(c.value)) * 256 + wide(d.value);
-    let value = at_most(n, 65536);
-    LengthArgument {
-        ok: a.ok & b.ok & c.ok & d.ok & (n <= 65536),
-        value,
-        at: d.at,
+    let a = read_byte(s, at)?;
+    let b = read_byte(s, a.at)?;
+    let c = read_byte(s, b.at)?;
+    let d = read_byte(s, c.at)?;
+    let value = u32::from_be_bytes([a.value, b.value, c.value, d.value]) as usize;
+    if value <= 65536 {
+        Some(Read { value, at: d.at })
+    } else {
+        None
     }
 }
 
-pub fn read_bytes(s: &[u8], at: usize) -> BytesArgument
-    ensures { BytesRead s.now at result.ok result.from result.at }
+pub fn read_bytes<'a>(s: &'a [u8], at: usize) -> Option<Read<&'a [u8]>>
+    ensures { IfSome result (λ r. Onward s.now at r.at) }
 {
-    let n = read_length(s, at);
-    let from = n.at;
-    let there = n.ok & has(s, from, n.value);
-    if !there {
-        return BytesArgument {
-            ok: false,
-            from: 0,
-            at: 0,
-        };
-    }
-    BytesArgument {
-        ok: true,
-        from,
-        at: from + n.value,
+    let n = read_length(s, at)?;
+    if has(s, n.at, n.value) {
+        let end = n.at + n.value;
+        Some(Read {
+            value: &s[n.at..end],
+            at: end,
+        })
+    } else {
+        None
     }
 }

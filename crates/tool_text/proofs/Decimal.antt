@@ -5,10 +5,12 @@ use mathlib.Core.List.{List, [], ◌∷◌, ◌++◌, append_assoc, append-nil}
 use Prim.Native.Nat.{ℕ, zero, suc, ◌+◌, ◌-◌, ◌/◌, ◌%◌, ◌^◌, ◌≤◌, ◌<◌}
 use native.Mathlib.Omega.{arith}
 use native.Mathlib.Nat.{pow-suc, div-lt_iff_lt-mul, zero-lt-suc}
+use Rattle.std.proofs.Common.{add-one, div-one}
+use Rattle.std.proofs.Math.Nat.{div-div-eq-div-mul}
 use lib.ListN.{length, take, drop, set, length-set, length-drop, drop_of_length-le}
 use lib.Seq.{set_split, drop_at, length-take-le, take_all}
 use borrow.Author.Tests.{lt-ltb, le-ltb}
-use Rattle.tool_text.specs.Numbers.{decimal, decimal_in}
+use Rattle.tool_text.specs.Numbers.{decimal, decimal_in, padded}
 
 -- what is left of n, and the digits that are written
 pub record Spelt (n i rest : ℕ) (a : List ℕ) : Type 0 where
@@ -82,3 +84,39 @@ spelt_last n (suc j) rest a h s =
 -- the part of the array from r on is all that stands there
 pub rest_taken : (a : List ℕ) (r : ℕ) → length a ≡ 20 → take (20 - r) (drop r a) ≡ drop r a
 rest_taken a r l = take_all (20 - r) (drop r a) (omega (arith, length-drop r a))
+
+-- ---- the last k digits, of which i are written and `rest` is left
+pub record Padded (n i rest k : ℕ) (a : List ℕ) : Type 0 where
+  pub left : rest ≡ n / 10 ^ i
+  pub long : length a ≡ k
+  pub text : drop (k - i) a ≡ padded i n
+
+pub padded_start : (n k : ℕ) (a : List ℕ) → length a ≡ k → Padded n 0 n k a
+unfolding padded
+padded_start n k a l = record {
+  left = sym (div-one n);
+  long = l;
+  text = drop_of_length-le a {i = k - 0} (omega arith);
+}
+
+pub padded_next : (n i rest k : ℕ) (a : List ℕ) → i < k → Padded n i rest k a → Padded n (i + 1) (rest / 10) k (set a (k - 1 - i) (48 + rest % 10))
+unfolding padded
+padded_next n i rest k a h p =
+    let l : length a ≡ k = p.long in
+    let x = 48 + rest % 10 in
+    let j = k - 1 - i in
+    let next : suc j ≡ k - i = omega arith in
+    let here : k - suc i ≡ j = omega arith in
+    subst (λ (m : ℕ). Padded n m (rest / 10) k (set a j x)) (sym (add-one i)) (record {
+      left = ap (λ (y : ℕ). y / 10) p.left ∙ div-div-eq-div-mul n (10 ^ i) 10 ∙ ap (λ (y : ℕ). n / y) (sym (pow-suc 10 i));
+      long = length-set a j x ∙ l;
+      text =
+          ap (λ (m : ℕ). drop m (set a j x)) here
+          ∙ stored a j x (omega arith)
+          ∙ ap (λ (m : ℕ). x ∷ drop m a) next
+          ∙ ap (λ (t : List ℕ). x ∷ t) p.text
+          ∙ ap (λ (y : ℕ). (48 + y % 10) ∷ padded i n) p.left;
+    })
+
+pub padded_done : (n i rest k : ℕ) (a : List ℕ) → i ≡ k → Padded n i rest k a → a ≡ padded k n
+padded_done n i rest k a e p = ap (λ (m : ℕ). drop m a) (let z : 0 ≡ k - i = omega arith in z) ∙ p.text ∙ ap (λ (m : ℕ). padded m n) e

@@ -17,6 +17,11 @@ unfoldable pub decimal : ℕ → List ℕ
 unfolding decimal_in
 decimal n = decimal_in 20 n
 
+-- the last k digits of n
+unfoldable pub padded : ℕ → ℕ → List ℕ
+padded zero n = []
+padded (suc k) n = (48 + n / 10 ^ k % 10) ∷ padded k n
+
 -- a byte as two digits
 abbrev pub hex_byte : ℕ → List ℕ
 hex_byte b = digit (b / 16) ∷ digit (b % 16) ∷ []

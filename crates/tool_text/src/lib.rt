@@ -4,7 +4,8 @@
 
 ghost use Rattle.std.specs.Prelude.{◌≡◌, ◌≤◌, ◌<◌, ◌++◌, length, drop};
 ghost use Rattle.codec_append.specs.Fits.{Fits};
-ghost use Rattle.tool_text.specs.Numbers.{digit, decimal, hex_byte, hex, spaced_byte, spaced_hex, number_line, hex_line};
+ghost use Rattle.codec_forms.specs.Wire.{enc_many};
+ghost use Rattle.tool_text.specs.Numbers.{digit, decimal, padded, hex_byte, hex, spaced_hex, number_line, hex_line};
 
 use codec_append::append_bytes;
 
@@ -15,6 +16,7 @@ fn spell(n: u64, a: &mut [u8; 20]) -> usize
 {
     let mut i: usize = 20;
     let mut rest = n;
+    // How many digits there are shows only as they are divided off.
     while 10 <= rest {
         i -= 1;
         a[i] = (48 + rest % 10) as u8;
@@ -33,6 +35,20 @@ pub fn append_decimal(out: &mut [u8], at: usize, n: u64) -> usize
     append_bytes(out, at, &a[i..])
 }
 
+// The last K digits of n, with zeros in front.
+pub fn append_padded<const K: usize>(out: &mut [u8], at: usize, n: u64) -> usize
+    requires { K ≤ 20 }
+    ensures { Fits (padded K n) at out.old out.new result }
+{
+    let mut digits = [0u8; K];
+    let mut rest = n;
+    for i in 0..K {
+        digits[K - 1 - i] = (48 + rest % 10) as u8;
+        rest /= 10;
+    }
+    append_bytes(out, at, &digits)
+}
+
 fn digit_of(d: u8) -> u8
     requires { d < 16 }
     ensures { result ≡ digit d }
@@ -47,38 +63,31 @@ fn append_hex_byte(out: &mut [u8], at: usize, b: u8) -> usize
     append_bytes(out, at, &two)
 }
 
+// Each byte as two digits behind `gap`.
+fn append_digits(out: &mut [u8], at: usize, gap: &[u8], src: &[u8]) -> usize
+    ensures { Fits (enc_many (λ b. gap.now ++ hex_byte b) src.now) at out.old out.new result }
+{
+    let mut e = at;
+    for b in src {
+        let gap_end = append_bytes(&mut *out, e, gap);
+        e = append_hex_byte(&mut *out, gap_end, *b);
+    }
+    e
+}
+
+#[tactic(auto, unfolding(crate::specs::Numbers::hex))]
 pub fn append_hex(out: &mut [u8], at: usize, src: &[u8]) -> usize
     ensures { Fits (hex src.now) at out.old out.new result }
 {
-    let mut e = at;
-    let mut i: usize = 0;
-    while i < src.len() {
-        let b = src[i];
-        e = append_hex_byte(&mut *out, e, b);
-        i += 1;
-    }
-    e
-}
-
-fn append_spaced_byte(out: &mut [u8], at: usize, b: u8) -> usize
-    ensures { Fits (spaced_byte b) at out.old out.new result }
-{
-    let e = append_bytes(&mut *out, at, b" ");
-    append_hex_byte(out, e, b)
+    append_digits(out, at, b"", src)
 }
 
 // Each byte behind a space.
+#[tactic(auto, unfolding(crate::specs::Numbers::spaced_hex))]
 pub fn append_spaced_hex(out: &mut [u8], at: usize, src: &[u8]) -> usize
     ensures { Fits (spaced_hex src.now) at out.old out.new result }
 {
-    let mut e = at;
-    let mut i: usize = 0;
-    while i < src.len() {
-        let b = src[i];
-        e = append_spaced_byte(&mut *out, e, b);
-        i += 1;
-    }
-    e
+    append_digits(out, at, b" ", src)
 }
 
 pub fn append_number_line(out: &mut [u8], at: usize, label: &[u8], n: u64) -> usize

@@ -1,11 +1,10 @@
--- By the kind: an attached fee is the kind byte, 32 bytes of target and 8 of amount, any other kind the kind byte alone.
-use mathlib.Core.Path.{sym, ◌∙◌}
+-- The kind alone, or with the target and the amount of `Attach`.
+use Rattle.std.proofs.Common.{rules}
 use Rattle.archive_bundle_size.specs.Lengths.{attach_size, plain_size}
-use borrow.Author.Rules.{rules}
 use Rattle.archive_bundle_size.proofs.size_fee_intent.Goals as goal
 
-pub returns-then-is_attach : goal.returns-then-is_attach
-returns-then-is_attach c = attach_size c.args.f (sym c.is_attach.ensures ∙ c.if-is_attach.true) (search rules)
+pub returns-then-eq : goal.returns-then-eq
+returns-then-eq c = attach_size c.args.f (search rules) (search rules)
 
-pub returns : goal.returns
-returns c = plain_size c.args.f (sym c.is_attach.ensures ∙ c.if-is_attach.false)
+pub returns-else-eq : goal.returns-else-eq
+returns-else-eq c = plain_size c.args.f (search rules)

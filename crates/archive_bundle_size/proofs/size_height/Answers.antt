@@ -1,10 +1,10 @@
--- By the case of the height: no height is one mark byte, and a height is the mark with eight bytes of number.
-use mathlib.Core.Path.{sym, ◌∙◌}
+-- One byte where there is none, else the mark and the number.
+use Rattle.std.proofs.Common.{rules}
 use Rattle.archive_bundle_size.specs.Lengths.{no_height_size, height_size}
 use Rattle.archive_bundle_size.proofs.size_height.Goals as goal
 
 pub returns-then-is_none : goal.returns-then-is_none
-returns-then-is_none c = no_height_size c.args.h (sym c.is_none.ensures ∙ c.if-is_none.true)
+returns-then-is_none c = no_height_size c.args.h (search rules)
 
-pub returns : goal.returns
-returns c = height_size c.args.h (sym c.is_none.ensures ∙ c.if-is_none.false)
+pub returns-else-is_none : goal.returns-else-is_none
+returns-else-is_none c = height_size c.args.h (search rules)

@@ -5,12 +5,8 @@ use Rattle.archive_bundle_form.specs.Forms.{encode_bundle, variant_fingerprint}
 use Rattle.base_sha256.specs.Fips.{sha256_of}
 use Rattle.archive_fingerprints.specs.Laws.{room_at_start, front}
 use borrow.Author.Rules.{rules}
-use native.Mathlib.Omega.{arith}
 use mathlib.Core.Path.{ap, ◌∙◌}
 use Rattle.archive_fingerprints.proofs.variant_fingerprint.Goals as goal
-
-pub slice_bounds-sha256-end : goal.slice_bounds-sha256-end
-slice_bounds-sha256-end c = omega (arith, c.size_bundle-n.ensures.few)
 
 pub returns : goal.returns
 unfolding variant_fingerprint

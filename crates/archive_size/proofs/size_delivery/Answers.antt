@@ -4,5 +4,5 @@ use Rattle.archive_size.proofs.size_delivery.Goals as goal
 
 pub returns : goal.returns
 returns c =
-    delivery_size c.args.d (c.size_id).result (c.size_bundle).result c.size_height.result c.size_fee_intent.result (c.size_id).ensures
+    delivery_size c.args.d.now (c.size_id).result (c.size_bundle).result c.size_height.result c.size_fee_intent.result (c.size_id).ensures
     (c.size_bundle).ensures c.size_height.ensures c.size_fee_intent.ensures

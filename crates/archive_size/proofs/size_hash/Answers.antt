@@ -6,5 +6,5 @@ use Rattle.archive_size.proofs.size_hash.Goals as goal
 pub returns-then-h : goal.returns-then-h
 returns-then-h c = hash_there c.args.h c.if-h.true (search rules)
 
-pub returns : goal.returns
-returns c = hash_none c.args.h c.if-h.false
+pub returns-else-h : goal.returns-else-h
+returns-else-h c = hash_none c.args.h c.if-h.false

@@ -6,5 +6,5 @@ use Rattle.archive_size.proofs.size_slot.Goals as goal
 pub returns-then-a : goal.returns-then-a
 returns-then-a c = slot_there c.args.a c.size_hash.result c.if-a.true (search rules) c.size_hash.ensures
 
-pub returns : goal.returns
-returns c = slot_none c.args.a c.if-a.false
+pub returns-else-a : goal.returns-else-a
+returns-else-a c = slot_none c.args.a c.if-a.false

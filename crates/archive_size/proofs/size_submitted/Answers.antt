@@ -4,5 +4,5 @@ use Rattle.archive_size.proofs.size_submitted.Goals as goal
 
 pub returns : goal.returns
 returns c =
-    submitted_size c.args.t c.size_slot.result c.size_slot-2.result c.size_facts.result
+    submitted_size c.args.t.now c.size_slot.result c.size_slot-2.result c.size_facts.result
     c.size_slot.ensures c.size_slot-2.ensures c.size_facts.ensures

@@ -1,36 +1,16 @@
-use native.Mathlib.Omega.{arith}
-use mathlib.Core.Path.{refl, sym, ap, ◌∙◌}
-use mathlib.Core.List.{List}
-use Prim.Native.Nat.{ℕ}
-use lib.ListN.{drop}
-use Rattle.base_lists.specs.Bytes.{eqs, in_hit, in_turn, in_done}
-use Rattle.base_coin_string.specs.CoinIds.{ids_step, ids_end}
-use native.Mathlib.Omega.{arith}
-use mathlib.Core.Path.{refl, sym, ap, ◌∙◌}
-use mathlib.Core.List.{List}
-use Prim.Native.Nat.{ℕ}
-use lib.ListN.{drop}
+use mathlib.Core.Path.{sym, ap, ◌∙◌}
+use Rattle.base_lists.specs.Bytes.{eqs, in_hit, in_turn}
+use Rattle.base_coin_string.specs.CoinIds.{ids_next}
 use Rattle.base_coin_string.proofs.has_id.Goals as goal
 
-pub loop-left-init : goal.loop-left-init
-loop-left-init c = (omega arith, refl)
+pub returns-then-eq : goal.returns-then-eq
+returns-then-eq c =
+    let t = c.in-Some.ensures.steps in
+    in_hit c.args.id.now (ids_next _ _ t.1.0 (t.1.1 ∙ c.loop-x.invariant.0)) (sym c.if-eq.true ∙ c.eq.ensures ∙ ap (eqs c.in-Some.x.now) c.as_slice.ensures) c.loop-x.invariant.1
 
-pub overflow_add-to : goal.overflow_add-to
-overflow_add-to c = omega arith
-
-pub returns-then-same : goal.returns-then-same
-returns-then-same c =
-    in_hit c.args.id.now (ids_step c.args.s.now c.loop-left.at c.loop-left.left
-    c.loop-left-test.true) (sym c.if-same.true ∙ c.same.ensures ∙ ap (λ (l : List ℕ). eqs l c.args.id.now) c.part.ensures)
-    c.loop-left.invariant.1
-
-pub loop-left-preserved : goal.loop-left-preserved
-loop-left-preserved c = (
-  omega arith,
-  in_turn c.args.id.now
-      (ids_step c.args.s.now c.loop-left.at c.loop-left.left c.loop-left-test.true)
-      (sym c.if-same.false ∙ c.same.ensures ∙ ap (λ (l : List ℕ). eqs l c.args.id.now) c.part.ensures) c.loop-left.invariant.1,
-)
-
-pub returns : goal.returns
-returns c = in_done c.args.id.now (ids_end (drop c.loop-left.at c.args.s.now) c.loop-left.left c.loop-left-test.false) c.loop-left.invariant.1
+pub loop-x-preserved : goal.loop-x-preserved
+loop-x-preserved c =
+    let t = c.in-Some.ensures.steps in (
+      t.0 ∙ c.loop-x.invariant.0,
+      in_turn c.args.id.now (ids_next _ _ t.1.0 (t.1.1 ∙ c.loop-x.invariant.0)) (sym c.if-eq.false ∙ c.eq.ensures ∙ ap (eqs c.in-Some.x.now) c.as_slice.ensures) c.loop-x.invariant.1,
+    )

@@ -1,16 +1,9 @@
--- The loop keeps: the id is listed exactly if it is among the ids left, and from `at` on there are 32 bytes for each of them.
+-- The loop keeps: the id is listed exactly if it is among the ids left.
 use mathlib.Core.Path.{◌≡◌}
-use Prim.Native.Nat.{◌+◌, ◌*◌, ◌≤◌}
-use lib.ListN.{length, drop}
+use Rattle.std.specs.Slice.Iter.{chunks_exact_rest, chunks_exact_size}
 use Rattle.base_lists.specs.Bytes.{is_in}
-use Rattle.base_coin_string.specs.CoinIds.{ids_from, ids_in}
-use mathlib.Core.Path.{◌≡◌}
-use Prim.Native.Nat.{◌+◌, ◌*◌, ◌≤◌}
-use lib.ListN.{length, drop}
+use Rattle.base_coin_string.specs.CoinIds.{ids_in}
 use Rattle.base_coin_string.proofs.has_id.Given as goal
 
-abbrev pub invariant-loop-left : goal.invariant-loop-left
-invariant-loop-left l = (l.at + l.left * 32 ≤ length l.s) × (is_in (ids_in l.s) l.id ≡ is_in (ids_from l.left (drop l.at l.s)) l.id)
-
-abbrev pub decreases-loop-left : goal.decreases-loop-left
-decreases-loop-left l = l.left
+abbrev pub invariant-loop-x : goal.invariant-loop-x
+invariant-loop-x l = (chunks_exact_size l.x-iterator ≡ 32) × (is_in (ids_in l.s) l.id ≡ is_in (ids_in (chunks_exact_rest l.x-iterator)) l.id)

@@ -1,4 +1,4 @@
-use mathlib.Core.Path.{◌≡◌, refl}
+use mathlib.Core.Path.{refl}
 use native.Mathlib.Omega.{arith}
 use lib.ListN.{length-set}
 use Rattle.base_sha256.specs.Fips.{schedule}
@@ -7,10 +7,7 @@ use Rattle.base_sha256.proofs.first_words.Goals as goal
 
 pub loop-t-init : goal.loop-t-init
 unfolding schedule
-loop-t-init c = (omega arith, refl, refl)
+loop-t-init c = (refl, refl)
 
 pub loop-t-preserved : goal.loop-t-preserved
-loop-t-preserved c = (omega arith, simp length-set (omega arith), word_more _ _ _ _ (omega arith) c.loop-t.invariant.2 (omega arith) c.word_at.ensures)
-
-pub returns : goal.returns
-returns c = let e : c.loop-t.t ≡ 16 = omega arith in rw e at c.loop-t.invariant.2
+loop-t-preserved c = (simp length-set (omega arith), word_more _ _ _ _ (omega arith) c.loop-t.invariant.1 (omega arith) c.word_at.ensures)

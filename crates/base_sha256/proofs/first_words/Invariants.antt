@@ -1,12 +1,8 @@
 -- The loop keeps: the first `t` words of the array are the schedule up to `t`; a store at `t` adds the block's word `t`.
 use mathlib.Core.Path.{◌≡◌}
-use Prim.Native.Nat.{◌≤◌, ◌-◌}
 use lib.ListN.{length, take}
 use Rattle.base_sha256.specs.Fips.{schedule}
 use Rattle.base_sha256.proofs.first_words.Given as goal
 
 abbrev pub invariant-loop-t : goal.invariant-loop-t
-invariant-loop-t l = (l.t ≤ 16) × (length l.w ≡ 64) × (take l.t l.w ≡ schedule l.b l.t)
-
-abbrev pub decreases-loop-t : goal.decreases-loop-t
-decreases-loop-t l = 16 - l.t
+invariant-loop-t l = (length l.w ≡ 64) × (take l.t l.w ≡ schedule l.b l.t)

@@ -7,5 +7,5 @@ use Rattle.base_sha256.proofs.unmarked_block.Goals as goal
 pub returns-then-end-at-eq56 : goal.returns-then-end-at-eq56
 returns-then-end-at-eq56 c = length_at_end _ _ _ _ 56 refl refl (omega arith) c.length_block.ensures
 
-pub returns : goal.returns
-returns c = all_zero _ _ _ 64 refl (omega arith)
+pub returns-else-end-at-eq56 : goal.returns-else-end-at-eq56
+returns-else-end-at-eq56 c = all_zero _ _ _ 64 refl (omega arith)

@@ -1,38 +1,21 @@
--- Each of the three loops keeps: the answer of what is left (spends, outputs, listed coins) is the answer of the whole search.
-use Rattle.base_coin_string.specs.CoinList.{coins_from}
-use Rattle.book.specs.declared.CoinSpend.{CoinSpend}
-use Rattle.book_coins.specs.declared.Found.{Found}
-use Rattle.book_coins.specs.declared.Found.TheVariants.{At, Nothing}
-use Rattle.book_coins.specs.Found.{in_outputs, in_spends, InCoins, InOutputs, InSpends}
+-- All loops keep: nothing is found yet. The outer two: the answer of what is left (spends, outputs) is the answer of the whole search.
+-- The inner one: the coin is observed exactly if it is among the listed coins left, of which the whole one at `at` is the first.
+use Rattle.std.specs.Prelude.{None}
+use Rattle.base_lists.specs.Bytes.{is_in}
+use Rattle.base_coin_string.specs.Coin.{coin_bytes}
+use Rattle.base_coin_string.specs.CoinList.{coins_from, coins_in}
+use Rattle.book_coins.specs.Found.{found_of, in_spends, InOutputs, InSpends}
 use mathlib.Core.Path.{◌≡◌}
-use mathlib.Core.List.{List}
-use Prim.Native.Nat.{ℕ, ◌+◌, ◌-◌, ◌≤◌}
-use lib.ListN.{length, take, drop}
+use Prim.Native.Nat.{◌+◌, ◌-◌}
+use lib.ListN.{take, drop}
 use Rattle.book_coins.proofs.first_output_among.Given as goal
 
--- the coins observed, and the answer of the whole search
-abbrev pub seen : ℕ → List ℕ → List (List ℕ)
-seen n s = coins_from n (drop 2 s)
-
-abbrev pub answer : ℕ → List ℕ → ℕ → List CoinSpend → Found
-answer n s count spends = in_spends (seen n s) 0 (take count spends)
-
-abbrev pub invariant-loop-left : goal.invariant-loop-left
-invariant-loop-left l = (l.found ≡ Nothing) × InCoins (answer l.n l.observed l.count l.spends) (At l.i l.j)
-    (in_outputs (seen l.n l.observed) l.i (l.j + 1) l.s (drop (l.j + 1) (take l.outs l.s.outputs)) (in_spends (seen l.n l.observed) (l.i + 1) (drop (l.i + 1) (take l.count l.spends)))) (take l.c.len l.coin) (coins_from l.left (drop l.at l.observed))
-
-abbrev pub decreases-loop-left : goal.decreases-loop-left
-decreases-loop-left l = l.left
+abbrev pub invariant-search : goal.invariant-search
+invariant-search l = (l.found ≡ None) × InSpends (found_of (coins_in l.observed) l.b) (coins_in l.observed) l.i (drop l.i (take l.i-end l.b.spends))
 
 abbrev pub invariant-loop-j : goal.invariant-loop-j
-invariant-loop-j l = (l.j ≤ l.outs) × (l.found ≡ Nothing) × InOutputs (answer l.n l.observed l.count l.spends) (seen l.n l.observed) l.i l.j l.s (drop l.j (take l.outs l.s.outputs))
-    (in_spends (seen l.n l.observed) (l.i + 1) (drop (l.i + 1) (take l.count l.spends)))
+invariant-loop-j l = (l.found ≡ None) × InOutputs (found_of (coins_in l.observed) l.b) (coins_in l.observed) l.i l.j l.s (drop l.j (take l.j-end l.s.outputs))
+    (in_spends (coins_in l.observed) (l.i + 1) (drop (l.i + 1) (take l.i-end l.b.spends)))
 
-abbrev pub decreases-loop-j : goal.decreases-loop-j
-decreases-loop-j l = l.outs - l.j
-
-abbrev pub invariant-search : goal.invariant-search
-invariant-search l = (l.i ≤ l.count) × (l.count ≤ 4) × (length l.spends ≡ 4) × (l.found ≡ Nothing) × InSpends (answer l.n l.observed l.count l.spends) (seen l.n l.observed) l.i (drop l.i (take l.count l.spends))
-
-abbrev pub decreases-search : goal.decreases-search
-decreases-search l = l.count - l.i
+abbrev pub invariant-loop : goal.invariant-loop
+invariant-loop l = (l.found ≡ None) × is_in (coins_in l.observed) (coin_bytes l.c) ≡ is_in (coins_from (l.n - l.counter) (drop l.at l.observed)) (coin_bytes l.c)

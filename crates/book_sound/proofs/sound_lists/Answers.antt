@@ -1,21 +1,18 @@
 -- Each answer is one of the eight conjuncts, once the gathered ids and tokens are read as lists made of the submissions.
-use lib.Dec.{ltb}
-use Rattle.base_lists.specs.Lists.{allb, elemb, distinctb}
+use Rattle.std.proofs.Common.{◌≡◌, ap, ◌∙◌, List, ℕ, ◌&&◌, map, take, ltb}
+use Rattle.std.specs.List.{list_all}
+use Rattle.base_lists.specs.Lists.{elemb, distinctb}
 use Rattle.base_lists.specs.Laws.{take_cells}
+use Rattle.book.specs.Model.{view, id_list}
 use Rattle.book.specs.Sound.{sound_lists, id_of}
-use Rattle.book.specs.Model.{view, list16}
-use mathlib.Core.Path.{◌≡◌, ap, ◌∙◌}
-use mathlib.Core.Bool.{◌&&◌}
-use mathlib.Core.List.{List, map}
-use Prim.Native.Nat.{ℕ}
-use lib.ListN.{take}
 use Rattle.book_sound.proofs.sound_lists.Goals as goal
 
 pub returns : goal.returns
 unfolding sound_lists view
 returns c =
-    let ids : list16 c.gather-g.result.ids ≡ map id_of (take c.args.b.submitted_count c.args.b.submitted) = ap list16 c.gather-g.ensures.1 ∙ take_cells 16 0 (map id_of (take c.args.b.submitted_count c.args.b.submitted)) in
-    λ j. c.gather-g.ensures.0 j && (c.distinct16-i.ensures ∙ ap distinctb ids) j && (c.distinct_tokens-t.ensures ∙ ap distinctb c.gather-g.ensures.2) j
-    && (c.tokens_below-l.ensures ∙ ap (allb (λ t. ltb t c.args.b.next_delivery_attempt_token.0)) c.gather-g.ensures.2) j && c.sound_deliveries-p.ensures j
-    && c.distinct64-d.ensures j && c.rising16-u.ensures j
-    && (c.among16-k.ensures ∙ ap (λ (l : List ℕ). allb (λ i. elemb i l) (list16 c.args.b.replay_epoch.replayed_submission_ids)) ids) j
+    let ids : id_list c.submitted_ids-ids.result ≡ map id_of (take c.args.b.now.submitted_count c.args.b.now.submitted) = ap id_list c.submitted_ids-ids.ensures ∙ take_cells 16 0 (map id_of (take c.args.b.now.submitted_count c.args.b.now.submitted)) in
+    λ j. c.sound_submissions-submissions.ensures j && (c.distinct_ids-distinct_submissions.ensures ∙ ap distinctb ids) j
+    && (c.distinct_tokens-distinct_attempts.ensures ∙ ap distinctb c.submitted_tokens-tokens.ensures) j
+    && (c.tokens_below-issued.ensures ∙ ap (list_all (λ t. ltb t c.args.b.now.next_delivery_attempt_token.0)) c.submitted_tokens-tokens.ensures) j
+    && c.sound_deliveries-deliveries.ensures j && c.distinct_ids-distinct_retired.ensures j && c.rising_ids-rising.ensures j
+    && (c.among-retained.ensures ∙ ap (λ (l : List ℕ). list_all (λ i. elemb i l) (id_list c.args.b.now.replay_epoch.replayed_submission_ids)) ids) j

@@ -2,6 +2,7 @@
 use Rattle.c_boundary.specs.Settle.{gives_as, finish}
 use Rattle.c_boundary.specs.Forms.{told, told_end, encode_drain}
 use Rattle.c_drain.specs.Fit.{drain_fits}
+use borrow.Author.Rules.{rules}
 use native.Mathlib.Omega.{arith}
 use mathlib.Core.Path.{ap}
 use mathlib.Core.List.{List}
@@ -19,8 +20,6 @@ returns c =
     record {
       left = gives_as (ap (λ (l : List ℕ). finish c.args.r.answer c.args.r.book l c.args.book.now c.args.answer.now)
           (told (encode_drain c.args.r) _ _ c.append_failures-n.result w.fits w.few)) c.settle.ensures;
-      submissions =
-          c.submissions_length.ensures;
-      failures =
-          c.failures_length.ensures;
+      submissions = search rules;
+      failures = search rules;
     }

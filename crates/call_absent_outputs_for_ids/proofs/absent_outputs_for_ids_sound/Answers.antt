@@ -5,7 +5,6 @@ use Rattle.part_lookup.specs.Normal.{sound_normal}
 use Rattle.part_written_answers.specs.Answers.{answers_as, refused_is, front}
 use Rattle.call_absent_outputs_for_ids.specs.Outputs.{many_ids, outputs_bad, outputs_good}
 use borrow.Author.Rules.{rules}
-use native.Mathlib.Omega.{arith}
 use mathlib.Core.Path.{sym, ◌∙◌}
 use lib.ListN.{length}
 use Rattle.book.specs.Refusals as refusals
@@ -19,9 +18,6 @@ returns-then-not-whole c = refused_is c.args.b c.args.out.now refusals.bad_list 
 
 pub put_all_absent-p-requires : goal.put_all_absent-p-requires
 put_all_absent-p-requires c = record { normal = sound_normal c.args.b c.requires; in_bounds = search rules }
-
-pub slice_bounds-write_list-end : goal.slice_bounds-write_list-end
-slice_bounds-write_list-end c = omega (arith, c.put_all_absent-p.ensures.few, c.put_all_absent-p.ensures.listed.count, c.put_all_absent-p.ensures.listed.put.short, c.put_all_absent-p.ensures.listed.put.long)
 
 pub write_list-requires : goal.write_list-requires
 write_list-requires c = record { b_value = c.requires; coins_len_bound = search rules }

@@ -21,11 +21,11 @@ returns-in_default c =
     (with_inactive c.args.t.0 (view c.args.b) c.find_attempt-place.ensures c.live_place-live.ensures Stale acknowledge_live c.in_default.is)
 
 pub acknowledge_live-requires : goal.acknowledge_live-requires
-acknowledge_live-requires c = (c.requires, live_within c.args.t.0 (view c.args.b) c.find_attempt-place.ensures c.live_place-live.ensures c.in-At.is)
+acknowledge_live-requires c = (c.requires, live_within c.args.t.0 (view c.args.b) c.find_attempt-place.ensures c.live_place-live.ensures c.in-Some.is)
 
 pub returns : goal.returns
 unfolding acknowledge_attempt
 returns c =
     c.acknowledge_live.ensures ∙ ap (status_reply c.args.b)
     (with_live_lem c.args.t.0 (view c.args.b) c.find_attempt-place.ensures c.live_place-live.ensures Stale acknowledge_live
-    c.in-At.is)
+    c.in-Some.is)

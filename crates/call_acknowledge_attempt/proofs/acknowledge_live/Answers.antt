@@ -8,6 +8,13 @@ use Rattle.part_attempt_answers.specs.Answers.{compared}
 use Rattle.part_attempt_answers.specs.Stored.{read_at, within_16, stored_normal}
 use Rattle.call_acknowledge_attempt.specs.Acknowledging.{acknowledge_unfinalised, acknowledge_other, acknowledge_answer}
 use Rattle.call_acknowledge_attempt.proofs.acknowledge_live.Goals as goal
+use Rattle.base_lists.specs.Bytes.{eqs}
+use Rattle.std.specs.Prelude.{Bool, List, ℕ, ◌≡◌, eqb}
+use lib.Pointwise.{pointwise}
+
+-- what `==` answers of two digests is the rules' test
+tested : (x y : List ℕ) {t : Bool} → t ≡ pointwise eqb x y → t ≡ eqs x y
+tested x y h = h
 
 pub offset_bounds-b-k : goal.offset_bounds-b-k
 offset_bounds-b-k c = search (rules, within_16 c.args.b (sound_normal c.args.b c.requires.0) c.args.k c.requires.1)
@@ -23,7 +30,7 @@ returns-then-not-same c =
     c.status_refused-then-not-same.ensures
     ∙ acknowledge_other c.args.b c.requires.0 c.args.k c.requires.1 (read_at c.args.b (sound_normal c.args.b c.requires.0) c.args.k c.requires.1 _)
     (not-false _ c.if-not-a.false)
-    (compared c.same32-same.ensures c.current_variant_fingerprint-current.ensures c.resolved_variant_fingerprint-f.ensures
+    (compared (tested c.current_variant_fingerprint-current.result c.resolved_variant_fingerprint-f.result c.eq-same.ensures) c.current_variant_fingerprint-current.ensures c.resolved_variant_fingerprint-f.ensures
     (not-true _ c.if-not-same.true-raw))
 
 pub offset_bounds-b-k-2 : goal.offset_bounds-b-k-2
@@ -40,6 +47,6 @@ returns c =
     c.status_done.ensures
     ∙ acknowledge_answer c.args.b c.requires.0 c.args.k c.requires.1 (read_at c.args.b (sound_normal c.args.b c.requires.0) c.args.k c.requires.1 _)
     (not-false _ c.if-not-a.false)
-    (compared c.same32-same.ensures c.current_variant_fingerprint-current.ensures c.resolved_variant_fingerprint-f.ensures
+    (compared (tested c.current_variant_fingerprint-current.result c.resolved_variant_fingerprint-f.result c.eq-same.ensures) c.current_variant_fingerprint-current.ensures c.resolved_variant_fingerprint-f.ensures
     (not-false _ c.if-not-same.false-raw))
     c.resolved_variant_fingerprint-f.ensures c.acknowledged_aside-next.ensures (store_is c.args.b (sound_normal c.args.b c.requires.0) c.args.k c.acknowledged_aside-next.result c.requires.1) c.unqueue-left.ensures

@@ -1,5 +1,5 @@
 -- By whether the token's place is live: none, or the attempt in the live slot of the submission there; the book stays as it is.
-use mathlib.Core.Option.{none, some}
+use Rattle.std.specs.Prelude.{None, Some}
 use mathlib.Core.Path.{ap, ◌∙◌}
 use Rattle.book.specs.Model.{view}
 use Rattle.book.specs.declared.SubmittedTx.{SubmittedTx}
@@ -14,15 +14,15 @@ find_attempt-place-requires c = sound_normal c.args.b c.requires
 
 pub returns-in_default : goal.returns-in_default
 returns-in_default c =
-    attempt_ended c.args.b (sound_normal c.args.b c.requires) none c.zero.ensures
+    attempt_ended c.args.b (sound_normal c.args.b c.requires) None c.zero.ensures
     (attempt_none c.args.t.0 (view c.args.b) c.find_attempt-place.ensures c.live_place-live.ensures c.in_default.is)
 
 pub submitted_at-s-requires : goal.submitted_at-s-requires
-submitted_at-s-requires c = (sound_normal c.args.b c.requires, live_within c.args.t.0 (view c.args.b) c.find_attempt-place.ensures c.live_place-live.ensures c.in-At.is)
+submitted_at-s-requires c = (sound_normal c.args.b c.requires, live_within c.args.t.0 (view c.args.b) c.find_attempt-place.ensures c.live_place-live.ensures c.in-Some.is)
 
 pub returns : goal.returns
 returns c =
-    attempt_ended c.args.b (sound_normal c.args.b c.requires) (some (at (view c.args.b) c.in-At.k).slots.active_attempt.attempt)
+    attempt_ended c.args.b (sound_normal c.args.b c.requires) (Some (at (view c.args.b) c.in-Some.k).slots.active_attempt.attempt)
     (c.filled.ensures ∙ ap (λ (s : SubmittedTx). present s.slots.active_attempt.attempt) c.submitted_at-s.ensures)
     (attempt_live c.args.t.0 (view c.args.b) c.find_attempt-place.ensures c.live_place-live.ensures
-    c.in-At.is)
+    c.in-Some.is)

@@ -1,4 +1,4 @@
--- The cells hold the list of the retained ids, so `rising16` of them is `rising` of it; a book that fits has at most 16.
+-- The cells hold the list of the retained ids, so `rising` of them is `rising` of it; a book that fits has at most 16.
 use mathlib.Core.List.{map}
 use Rattle.part_ids.specs.IdLaws.{count_is}
 use Rattle.book.specs.Model.{view}
@@ -6,10 +6,10 @@ use Rattle.book.specs.Sound.{id_of}
 use Rattle.part_withdraw.specs.IdLaws.{ids_fit, rising_is}
 use Rattle.call_clear_local_artifacts.proofs.all_to_remove.Goals as goal
 
-pub rising16-requires : goal.rising16-requires
-rising16-requires c =
+pub rising-requires : goal.rising-requires
+rising-requires c =
     let m = view c.args.b in
-    count_is (map id_of m.submitted) c.submitted_ids-held.ensures (ids_fit m c.requires.fits)
+    count_is (map id_of m.submitted) c.submitted_ids.ensures (ids_fit m c.requires.fits)
 
 pub returns : goal.returns
-returns c = rising_is (map id_of (view c.args.b).submitted) c.submitted_ids-held.ensures c.rising16.ensures
+returns c = rising_is (map id_of (view c.args.b).submitted) c.submitted_ids.ensures c.rising.ensures

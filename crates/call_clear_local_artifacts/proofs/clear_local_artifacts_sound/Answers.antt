@@ -12,25 +12,24 @@ use Rattle.call_clear_local_artifacts.proofs.clear_local_artifacts_sound.Goals a
 pub all_to_remove-gone-requires : goal.all_to_remove-gone-requires
 all_to_remove-gone-requires c = sound_normal c.args.b c.requires
 
-pub withdraw_each-left-requires : goal.withdraw_each-left-requires
-withdraw_each-left-requires c = (c.requires, count_is (rising (map id_of (view c.args.b).submitted)) c.all_to_remove-gone.ensures (all_fit (view c.args.b) (sound_normal c.args.b c.requires).fits))
+pub withdraw_each-requires : goal.withdraw_each-requires
+withdraw_each-requires c = (c.requires, count_is (rising (map id_of (view c.args.b).submitted)) c.all_to_remove-gone.ensures (all_fit (view c.args.b) (sound_normal c.args.b c.requires).fits))
 
-pub returns-then-left : goal.returns-then-left
-returns-then-left c =
+pub returns-in_default : goal.returns-in_default
+returns-in_default c =
     c.refused_done.ensures
-    ∙ clear_full c.args.b c.all_to_remove-gone.ensures c.withdraw_each-left.ensures c.if-left.true
+    ∙ clear_full c.args.b c.all_to_remove-gone.ensures c.in_default.ensures
 
 pub clear_pending-unqueued-requires : goal.clear_pending-unqueued-requires
-clear_pending-unqueued-requires c = sound_normal c.withdraw_each-left.result.book (c.withdraw_each-left.ensures.sound c.if-left.false)
+clear_pending-unqueued-requires c = sound_normal c.in-Some.kept c.in-Some.ensures.sound
 
 pub set_epoch-cleared-requires : goal.set_epoch-cleared-requires
 set_epoch-cleared-requires c = (
-  unqueued_normal c.args.b c.all_to_remove-gone.ensures c.withdraw_each-left.ensures
-      c.if-left.false c.clear_pending-unqueued.ensures,
-  none_normal c.clear-none.ensures,
+  unqueued_normal c.args.b c.all_to_remove-gone.ensures c.in-Some.ensures c.clear_pending-unqueued.ensures,
+  none_normal c.clear.ensures,
 )
 
 pub returns : goal.returns
 returns c =
     clear_is c.args.b c.all_to_remove-gone.ensures
-    c.withdraw_each-left.ensures c.if-left.false c.clear_pending-unqueued.ensures c.clear-none.ensures c.set_epoch-cleared.ensures
+    c.in-Some.ensures c.clear_pending-unqueued.ensures c.clear.ensures c.set_epoch-cleared.ensures

@@ -1,17 +1,17 @@
 -- The cells hold the list of the retained ids, at most 16 in a sound book, so filtering them is filtering that list.
 use mathlib.Core.List.{map}
-use Rattle.part_ids.specs.IdLaws.{cells_are, count_is}
+use Rattle.part_ids.specs.IdLaws.{count_is}
 use Rattle.book.specs.Model.{view}
 use Rattle.book.specs.Sound.{id_of}
 use Rattle.part_lookup.specs.Normal.{sound_normal}
 use Rattle.call_collect_rollback_replay_ids.specs.Collecting.{ids_fit, named_is}
 use Rattle.call_collect_rollback_replay_ids.proofs.named_ids.Goals as goal
 
-pub submitted_ids-held-requires : goal.submitted_ids-held-requires
-submitted_ids-held-requires c = sound_normal c.args.b c.requires
+pub submitted_ids-requires : goal.submitted_ids-requires
+submitted_ids-requires c = sound_normal c.args.b c.requires
 
-pub among16-requires : goal.among16-requires
-among16-requires c = (count_is (map id_of (view c.args.b).submitted) c.submitted_ids-held.ensures (ids_fit c.args.b c.requires), cells_are (map id_of (view c.args.b).submitted) c.submitted_ids-held.ensures)
+pub among-requires : goal.among-requires
+among-requires c = count_is (map id_of (view c.args.b).submitted) c.submitted_ids.ensures (ids_fit c.args.b c.requires)
 
 pub returns : goal.returns
-returns c = named_is c.args.b c.requires c.submitted_ids-held.ensures c.args.ids.now c.among16.ensures
+returns c = named_is c.args.b c.requires c.submitted_ids.ensures c.args.ids.now c.among.ensures

@@ -12,16 +12,16 @@ pub returns-in_default : goal.returns-in_default
 returns-in_default c = replay_none c.args.b c.requires c.args.id.0 (sym c.position_of-place.ensures ∙ c.in_default.is)
 
 pub mark_replayed-marked-requires : goal.mark_replayed-marked-requires
-mark_replayed-marked-requires c = (epoch_normal c.args.b (sound_normal c.args.b c.requires), mark_room c.args.b c.requires c.args.id.0 (sym c.position_of-place.ensures ∙ c.in-At.is))
+mark_replayed-marked-requires c = (epoch_normal c.args.b (sound_normal c.args.b c.requires), mark_room c.args.b c.requires c.args.id.0 (sym c.position_of-place.ensures ∙ c.in-Some.is))
 
 pub set_epoch-requires : goal.set_epoch-requires
 set_epoch-requires c = (
   sound_normal c.args.b c.requires,
   epoch_marked c.args.b c.requires c.args.id.0
-      (sym c.position_of-place.ensures ∙ c.in-At.is) c.mark_replayed-marked.ensures,
+      (sym c.position_of-place.ensures ∙ c.in-Some.is) c.mark_replayed-marked.ensures,
 )
 
 pub returns : goal.returns
 returns c =
-    replay_some c.args.b c.requires c.args.id.0 (sym c.position_of-place.ensures ∙ c.in-At.is)
+    replay_some c.args.b c.requires c.args.id.0 (sym c.position_of-place.ensures ∙ c.in-Some.is)
     c.mark_replayed-marked.ensures c.set_epoch.ensures

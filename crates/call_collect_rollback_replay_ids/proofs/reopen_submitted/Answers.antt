@@ -11,12 +11,12 @@ pub returns-in_default : goal.returns-in_default
 returns-in_default c = revise_none c.args.b c.requires c.args.id.0 (sym c.position_of-place.ensures ∙ c.in_default.is)
 
 pub submitted_at-t-requires : goal.submitted_at-t-requires
-submitted_at-t-requires c = (sound_normal c.args.b c.requires, revise_within c.args.b c.requires c.args.id.0 (sym c.position_of-place.ensures ∙ c.in-At.is))
+submitted_at-t-requires c = (sound_normal c.args.b c.requires, revise_within c.args.b c.requires c.args.id.0 (sym c.position_of-place.ensures ∙ c.in-Some.is))
 
 pub store_submitted-requires : goal.store_submitted-requires
-store_submitted-requires c = (sound_normal c.args.b c.requires, revise_within c.args.b c.requires c.args.id.0 (sym c.position_of-place.ensures ∙ c.in-At.is))
+store_submitted-requires c = (sound_normal c.args.b c.requires, revise_within c.args.b c.requires c.args.id.0 (sym c.position_of-place.ensures ∙ c.in-Some.is))
 
 pub returns : goal.returns
 returns c =
-    revise_some c.args.b c.requires c.args.id.0 (sym c.position_of-place.ensures ∙ c.in-At.is)
+    revise_some c.args.b c.requires c.args.id.0 (sym c.position_of-place.ensures ∙ c.in-Some.is)
     c.submitted_at-t.ensures c.reopen-entry.ensures c.store_submitted.ensures

@@ -1,13 +1,13 @@
 -- A normal book's count and retired cells are those of its lists, so the callee's plan on cells is the plan on the lists.
-use Rattle.book.specs.Model.{view, list16, list64}
-use Rattle.part_ids.specs.IdLaws.{ids64_of}
+use Rattle.book.specs.Model.{view, id_list}
+use Rattle.part_ids.specs.IdLaws.{ids_counted}
 use Rattle.part_lookup.specs.Normal.{sizes, retired_are}
 use Rattle.call_drain.specs.PlannedLaws.{known_on}
 use Rattle.call_drain.proofs.plan_known.Goals as goal
 
 pub known-requires : goal.known-requires
 unfolding view
-known-requires c = (c.requires.1, (sizes c.args.b c.requires.0).retired, ids64_of c.args.b.retired_submission_ids (list64 c.args.b.retired_submission_ids) (retired_are c.args.b c.requires.0))
+known-requires c = (c.requires.1, (sizes c.args.b c.requires.0).retired, ids_counted c.args.b.retired_submission_ids (id_list c.args.b.retired_submission_ids) (retired_are c.args.b c.requires.0))
 
 pub returns : goal.returns
-returns c = known_on c.args.b c.requires.0 (list16 c.args.emitted) c.args.n c.args.c c.args.f c.args.k c.submitted_at-t.ensures c.known.ensures
+returns c = known_on c.args.b c.requires.0 (id_list c.args.emitted) c.args.n c.args.c c.args.f c.args.k c.submitted_at-t.ensures c.known.ensures

@@ -1,5 +1,5 @@
 -- By the place found: a live token gives the open fee intent of the submission there, any other what the rules give an inactive one.
-use mathlib.Core.Option.{none, some}
+use Rattle.std.specs.Prelude.{None, Some}
 use mathlib.Core.Path.{ap, ◌∙◌}
 use Rattle.book.specs.Model.{view}
 use Rattle.book.specs.declared.SubmittedTx.{SubmittedTx}
@@ -22,16 +22,16 @@ pub returns-in_default : goal.returns-in_default
 unfolding fee_intent_for_attempt
 returns-in_default c =
     c.fee_intent_inactive.ensures ∙ ap (fee_intent_reply c.args.b)
-    (with_inactive c.args.t.0 (view c.args.b) c.find_attempt-place.ensures c.live_place-live.ensures none (λ s. done (some (open_fee_intent s.entry)))
+    (with_inactive c.args.t.0 (view c.args.b) c.find_attempt-place.ensures c.live_place-live.ensures None (λ s. done (Some (open_fee_intent s.entry)))
     c.in_default.is)
 
 pub submitted_at-s-requires : goal.submitted_at-s-requires
-submitted_at-s-requires c = (sound_normal c.args.b c.requires, live_within c.args.t.0 (view c.args.b) c.find_attempt-place.ensures c.live_place-live.ensures c.in-At.is)
+submitted_at-s-requires c = (sound_normal c.args.b c.requires, live_within c.args.t.0 (view c.args.b) c.find_attempt-place.ensures c.live_place-live.ensures c.in-Some.is)
 
 pub returns : goal.returns
 unfolding fee_intent_for_attempt run
 returns c =
-    fee_intent_ended c.args.b (sound_normal c.args.b c.requires) (some (open_fee_intent (at (view c.args.b) c.in-At.k).entry))
+    fee_intent_ended c.args.b (sound_normal c.args.b c.requires) (Some (open_fee_intent (at (view c.args.b) c.in-Some.k).entry))
     (c.open_fee_intent-f.ensures ∙ ap (λ (s : SubmittedTx). open_fee_intent s.entry) c.submitted_at-s.ensures)
-    (with_live_lem c.args.t.0 (view c.args.b) c.find_attempt-place.ensures c.live_place-live.ensures none
-    (λ s. done (some (open_fee_intent s.entry))) c.in-At.is)
+    (with_live_lem c.args.t.0 (view c.args.b) c.find_attempt-place.ensures c.live_place-live.ensures None
+    (λ s. done (Some (open_fee_intent s.entry))) c.in-Some.is)

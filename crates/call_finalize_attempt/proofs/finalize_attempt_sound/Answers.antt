@@ -1,5 +1,5 @@
 -- Three ways of the rules: an unsound source is refusal 3, a token not live is inactive, and a live one has its place inside.
-use mathlib.Core.Option.{none}
+use Rattle.std.specs.Prelude.{None}
 use mathlib.Core.Path.{sym, ap, ◌∙◌}
 use borrow.Author.Tests.{not-true, not-false}
 use Rattle.book.specs.Model.{view}
@@ -24,14 +24,14 @@ finalize_inactive-requires c = sound_normal c.args.b c.requires
 pub returns-in_default : goal.returns-in_default
 returns-in_default c =
     c.finalize_inactive.ensures ∙ ap (finalize_reply c.args.b)
-    (with_inactive c.args.t.0 (view c.args.b) c.find_attempt-place.ensures c.live_place-live.ensures none
+    (with_inactive c.args.t.0 (view c.args.b) c.find_attempt-place.ensures c.live_place-live.ensures None
     (finalize_live c.args.source c.args.joined) c.in_default.is ∙ source_sound c.args.source c.args.joined c.args.t.0 (view c.args.b)
     (sym c.is_sound_source-sound.ensures ∙ not-false _ c.if-not-sound.false-raw))
 
 pub finalize_live-requires : goal.finalize_live-requires
 finalize_live-requires c = (
   c.requires,
-  live_within c.args.t.0 (view c.args.b) c.find_attempt-place.ensures c.live_place-live.ensures c.in-At.is,
+  live_within c.args.t.0 (view c.args.b) c.find_attempt-place.ensures c.live_place-live.ensures c.in-Some.is,
   sym
       c.is_sound_source-sound.ensures ∙ not-false _ c.if-not-sound.false-raw,
 )
@@ -39,6 +39,6 @@ finalize_live-requires c = (
 pub returns : goal.returns
 returns c =
     c.finalize_live.ensures ∙ ap (finalize_reply c.args.b)
-    (with_live_lem c.args.t.0 (view c.args.b) c.find_attempt-place.ensures c.live_place-live.ensures none
-    (finalize_live c.args.source c.args.joined) c.in-At.is ∙ source_sound c.args.source c.args.joined c.args.t.0 (view c.args.b)
+    (with_live_lem c.args.t.0 (view c.args.b) c.find_attempt-place.ensures c.live_place-live.ensures None
+    (finalize_live c.args.source c.args.joined) c.in-Some.is ∙ source_sound c.args.source c.args.joined c.args.t.0 (view c.args.b)
     (sym c.is_sound_source-sound.ensures ∙ not-false _ c.if-not-sound.false-raw))

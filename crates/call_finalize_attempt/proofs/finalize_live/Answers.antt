@@ -46,9 +46,6 @@ returns-then-not-same c =
     (sym c.validate-valid.ensures ∙ not-false _ c.if-not-valid.false-raw)
     (compared c.same32-same.ensures c.current_variant_fingerprint-f.ensures refl (not-true _ c.if-not-same.true-raw))))
 
-pub decide-d-requires : goal.decide-d-requires
-decide-d-requires c = (c.current_variant_fingerprint-f.ensures, c.requires.2)
-
 pub returns-then-d : goal.returns-then-d
 returns-then-d c =
     c.finalize_refused-then-d.ensures

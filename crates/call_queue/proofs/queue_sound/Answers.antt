@@ -20,5 +20,5 @@ enqueue-requires c = (c.requires, sym c.is_sound_delivery-sound.ensures ∙ not-
 pub returns : goal.returns
 returns c =
     c.settled.ensures
-    ∙ settled_is c.args.b c.enqueue.result.full c.enqueue.result.book (run_book (rules.queue c.args.d) (view c.args.b))
-    (queue_taken c.args.d (view c.args.b) c.enqueue.result.full c.enqueue.result.book (sym c.is_sound_delivery-sound.ensures ∙ not-false c.is_sound_delivery-sound.result c.if-not-sound.false-raw) c.enqueue.ensures)
+    ∙ settled_is c.args.b c.enqueue.result (run_book (rules.queue c.args.d) (view c.args.b))
+    (queue_taken c.args.d (view c.args.b) c.enqueue.result (sym c.is_sound_delivery-sound.ensures ∙ not-false c.is_sound_delivery-sound.result c.if-not-sound.false-raw) c.enqueue.ensures)

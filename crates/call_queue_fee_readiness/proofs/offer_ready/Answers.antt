@@ -17,7 +17,7 @@ offer-requires c = c.requires
 pub returns-then-active-unresolved : goal.returns-then-active-unresolved
 returns-then-active-unresolved c =
     let r : is_ready c.args.t ≡ true = cc in
-    ends_as tt c.offer.result.book (run_book (offer (id_of c.args.t) ProviderReadiness c.goal_for.result) (view c.args.b)) c.offer.result.full
+    ends_as tt c.offer.result (run_book (offer (id_of c.args.t) ProviderReadiness c.goal_for.result) (view c.args.b))
     (ready_offered c.args.t (view c.args.b) r ∙ ap (λ (g : SubmissionDeliveryGoal). run_book (offer (id_of c.args.t) ProviderReadiness g) (view c.args.b)) (sym c.goal_for.ensures))
     c.offer.ensures
 

@@ -10,4 +10,4 @@ pub offer_all_ready-requires : goal.offer_all_ready-requires
 offer_all_ready-requires c = c.requires
 
 pub returns : goal.returns
-returns c = c.settled.ensures ∙ settled_is c.args.b c.offer_all_ready.result.full c.offer_all_ready.result.book (run_book queue_fee_readiness (view c.args.b)) c.offer_all_ready.ensures
+returns c = c.settled.ensures ∙ settled_is c.args.b c.offer_all_ready.result (run_book queue_fee_readiness (view c.args.b)) c.offer_all_ready.ensures

@@ -18,6 +18,6 @@ rebroadcast-requires c = c.requires
 
 pub returns : goal.returns
 returns c =
-    c.settled.ensures ∙ settled_is c.args.b c.rebroadcast.result.full c.rebroadcast.result.book (run_book (rules.queue_rebroadcast_epoch c.args.ids.now c.args.trigger) (view c.args.b))
-    (ends_as tt c.rebroadcast.result.book (run_book (rules.rebroadcast c.args.trigger c.args.ids.now) (view c.args.b)) c.rebroadcast.result.full
+    c.settled.ensures ∙ settled_is c.args.b c.rebroadcast.result (run_book (rules.queue_rebroadcast_epoch c.args.ids.now c.args.trigger) (view c.args.b))
+    (ends_as tt c.rebroadcast.result (run_book (rules.rebroadcast c.args.trigger c.args.ids.now) (view c.args.b))
     (epoch_taken c.args.ids.now c.args.trigger (view c.args.b) c.if-ids-gt64.false) c.rebroadcast.ensures)

@@ -21,15 +21,15 @@ returns-in_default c =
     (rebroadcast_absent c.args.b c.args.trigger c.args.id.0 (sym c.position_of-place.ensures ∙ c.in_default.is))
 
 pub submitted_at-t-requires : goal.submitted_at-t-requires
-submitted_at-t-requires c = (sound_normal c.args.b c.requires, (at_first (has_id c.args.id.0) (view c.args.b).submitted (sym c.position_of-place.ensures ∙ c.in-At.is)).within)
+submitted_at-t-requires c = (sound_normal c.args.b c.requires, (at_first (has_id c.args.id.0) (view c.args.b).submitted (sym c.position_of-place.ensures ∙ c.in-Some.is)).within)
 
 pub offer-requires : goal.offer-requires
 offer-requires c = c.requires
 
 pub returns : goal.returns
 returns c =
-    ends_as tt c.offer.result.book (run_book (offer c.args.id.0 c.args.trigger c.goal_for.result) (view c.args.b)) c.offer.result.full
-    (rebroadcast_at c.args.b c.args.trigger c.args.id.0 _ (sym c.position_of-place.ensures ∙ c.in-At.is)
+    ends_as tt c.offer.result (run_book (offer c.args.id.0 c.args.trigger c.goal_for.result) (view c.args.b))
+    (rebroadcast_at c.args.b c.args.trigger c.args.id.0 _ (sym c.position_of-place.ensures ∙ c.in-Some.is)
     ∙ ap (λ (g : SubmissionDeliveryGoal). run_book (offer c.args.id.0 c.args.trigger g) (view c.args.b))
     (ap (λ (t : SubmittedTx). goal_for t.entry) (sym c.submitted_at-t.ensures) ∙ sym c.goal_for.ensures))
     c.offer.ensures

@@ -11,5 +11,5 @@ pub returns : goal.returns
 unfolding queue_retained_delivery
 returns c =
     c.settled.ensures
-    ∙ settled_is c.args.b c.offer.result.full c.offer.result.book (run_book (queue_retained_delivery c.args.id.0 c.args.trigger c.args.goal) (view c.args.b))
-    (ends_then tt tt c.offer.result.full c.offer.result.book (rules.offer c.args.id.0 c.args.trigger c.args.goal) (view c.args.b) c.offer.ensures)
+    ∙ settled_is c.args.b c.offer.result (run_book (queue_retained_delivery c.args.id.0 c.args.trigger c.args.goal) (view c.args.b))
+    (ends_then tt tt c.offer.result (rules.offer c.args.id.0 c.args.trigger c.args.goal) (view c.args.b) c.offer.ensures)

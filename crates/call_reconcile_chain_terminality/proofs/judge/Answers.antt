@@ -38,7 +38,7 @@ returns-then-contains c =
     as_active (coins_in c.args.observed.now) (ids_in c.args.spent.now) c.args.reorg c.args.rolled_back.now (get_or (view c.args.b).submitted c.args.k zero_submitted) c.args.k c.args.b c.reactivate.result
     (test_of (λ t. output_observed (coins_in c.args.observed.now) t.entry.intent) c.submitted_at-t.ensures c.output_observed.ensures c.if-output_observed.false)
     (test_of (λ t. input_spent (ids_in c.args.spent.now) t.entry.intent) c.submitted_at-t.ensures c.input_spent.ensures c.if-input_spent.false)
-    (test_of (λ t. elemb (id_of t) c.args.rolled_back.now) c.submitted_at-t.ensures c.contains.ensures c.if-contains.true)
+    (test_of (λ t. elemb (id_of t) c.args.rolled_back.now) c.submitted_at-t.ensures c.contains.ensures.value c.if-contains.true)
     c.reactivate.ensures
 
 pub returns : goal.returns
@@ -46,5 +46,5 @@ returns c =
     as_before (coins_in c.args.observed.now) (ids_in c.args.spent.now) c.args.reorg c.args.rolled_back.now (get_or (view c.args.b).submitted c.args.k zero_submitted) c.args.k c.args.b _
     (test_of (λ t. output_observed (coins_in c.args.observed.now) t.entry.intent) c.submitted_at-t.ensures c.output_observed.ensures c.if-output_observed.false)
     (test_of (λ t. input_spent (ids_in c.args.spent.now) t.entry.intent) c.submitted_at-t.ensures c.input_spent.ensures c.if-input_spent.false)
-    (test_of (λ t. elemb (id_of t) c.args.rolled_back.now) c.submitted_at-t.ensures c.contains.ensures c.if-contains.false)
+    (test_of (λ t. elemb (id_of t) c.args.rolled_back.now) c.submitted_at-t.ensures c.contains.ensures.value c.if-contains.false)
     (unchanged_by c.args.b c.requires.0 c.args.k)

@@ -8,13 +8,9 @@ use Rattle.rules.specs.Steps.{run_book}
 use Rattle.rules.specs.Calls.ReconcileChainTerminality.{judge_each}
 use Rattle.call_reconcile_chain_terminality.specs.Judge.{Left}
 use mathlib.Core.Path.{◌≡◌}
-use Prim.Native.Nat.{◌-◌, ◌≤◌}
 use lib.ListN.{length}
 use Rattle.call_reconcile_chain_terminality.proofs.judge_each.Given as goal
 
 abbrev pub invariant-loop-k : goal.invariant-loop-k
-invariant-loop-k l = (l.k ≤ l.b.submitted_count) × (l.b.submitted_count ≡ length (view l.next.book).submitted) × (soundb l.next.book ≡ true)
-    × Left (coins_in l.observed) (ids_in l.spent) l.reorg l.rolled_back (run_book (judge_each (coins_in l.observed) (ids_in l.spent) l.reorg l.rolled_back (view l.b).submitted) (view l.b)) l.k l.next.book
-
-abbrev pub decreases-loop-k : goal.decreases-loop-k
-decreases-loop-k l = l.b.submitted_count - l.k
+invariant-loop-k l = (l.k-end ≡ length (view l.out).submitted) × (soundb l.out ≡ true)
+    × Left (coins_in l.observed) (ids_in l.spent) l.reorg l.rolled_back (run_book (judge_each (coins_in l.observed) (ids_in l.spent) l.reorg l.rolled_back (view l.b).submitted) (view l.b)) l.k l.out

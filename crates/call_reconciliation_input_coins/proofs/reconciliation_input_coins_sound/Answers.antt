@@ -7,7 +7,6 @@ use Rattle.rules.specs.CoinLists.{encode_coin}
 use Rattle.part_written_answers.specs.Answers.{answers_as, refused_is, front}
 use Rattle.call_reconciliation_input_coins.specs.Inputs.{inputs_bad, inputs_good}
 use borrow.Author.Rules.{rules}
-use native.Mathlib.Omega.{arith}
 use mathlib.Core.Path.{sym, ap, ◌∙◌}
 use lib.ListN.{length}
 use Rattle.book.specs.Refusals as refusals
@@ -21,9 +20,6 @@ input_coins_to_reconcile-coins-requires c = sound_normal c.args.b c.requires
 
 pub put_coins-p-requires : goal.put_coins-p-requires
 put_coins-p-requires c = (c.input_coins_to_reconcile-coins.ensures.few, search rules)
-
-pub slice_bounds-write_list-end : goal.slice_bounds-write_list-end
-slice_bounds-write_list-end c = omega (arith, c.put_coins-p.ensures.1, c.put_coins-p.ensures.0.put.long)
 
 pub write_list-requires : goal.write_list-requires
 write_list-requires c = record { b_value = c.requires; coins_len_bound = search rules }

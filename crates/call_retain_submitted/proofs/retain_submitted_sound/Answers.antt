@@ -14,16 +14,16 @@ returns-then-ids-gt64 c = c.refused_ids.ensures ∙ retain_many c.args.b c.args.
 pub to_remove-gone-requires : goal.to_remove-gone-requires
 to_remove-gone-requires c = sound_normal c.args.b c.requires
 
-pub withdraw_each-left-requires : goal.withdraw_each-left-requires
-withdraw_each-left-requires c = (c.requires, count_is (to_remove c.args.ids.now (view c.args.b)) c.to_remove-gone.ensures (removed_fit (view c.args.b) (sound_normal c.args.b c.requires).fits c.args.ids.now))
+pub withdraw_each-requires : goal.withdraw_each-requires
+withdraw_each-requires c = (c.requires, count_is (to_remove c.args.ids.now (view c.args.b)) c.to_remove-gone.ensures (removed_fit (view c.args.b) (sound_normal c.args.b c.requires).fits c.args.ids.now))
 
-pub returns-then-left : goal.returns-then-left
-returns-then-left c =
-    c.refused_ids-then-left.ensures
-    ∙ retain_full c.args.b c.args.ids.now c.if-ids-gt64.false c.to_remove-gone.ensures c.withdraw_each-left.ensures c.if-left.true
+pub returns-in_default : goal.returns-in_default
+returns-in_default c =
+    c.refused_ids-in_default.ensures
+    ∙ retain_full c.args.b c.args.ids.now c.if-ids-gt64.false c.to_remove-gone.ensures c.in_default.ensures
 
-pub widened-answered-requires : goal.widened-answered-requires
-widened-answered-requires c = count_is (to_remove c.args.ids.now (view c.args.b)) c.to_remove-gone.ensures (removed_fit (view c.args.b) (sound_normal c.args.b c.requires).fits c.args.ids.now)
+pub widened-requires : goal.widened-requires
+widened-requires c = count_is (to_remove c.args.ids.now (view c.args.b)) c.to_remove-gone.ensures (removed_fit (view c.args.b) (sound_normal c.args.b c.requires).fits c.args.ids.now)
 
 pub returns : goal.returns
-returns c = retain_is c.args.b c.args.ids.now c.if-ids-gt64.false c.to_remove-gone.ensures c.withdraw_each-left.ensures c.if-left.false c.widened-answered.ensures
+returns c = retain_is c.args.b c.args.ids.now c.if-ids-gt64.false c.to_remove-gone.ensures c.in-Some.ensures c.widened.ensures

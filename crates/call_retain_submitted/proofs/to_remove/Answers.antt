@@ -3,22 +3,23 @@ use mathlib.Core.List.{map}
 use mathlib.Core.Path.{ap, ◌∙◌}
 use Prim.Native.Nat.{ℕ}
 use Rattle.part_ids.specs.IdLaws.{cells_are, count_is}
-use Rattle.base_lists.specs.Lists.{filterb, elemb}
-use Rattle.book.specs.Model.{view, ids16}
+use Rattle.base_lists.specs.Lists.{elemb}
+use Rattle.std.specs.List.{filter}
+use Rattle.book.specs.Model.{view, id_cells}
 use Rattle.book.specs.Sound.{id_of}
 use Rattle.part_withdraw.specs.IdLaws.{ids_fit, rising_is}
 use Rattle.call_retain_submitted.specs.Removed.{some_fit, chosen_is, remove_is}
 use Rattle.call_retain_submitted.proofs.to_remove.Goals as goal
 
-pub among16-gone-requires : goal.among16-gone-requires
-among16-gone-requires c =
+pub among-requires : goal.among-requires
+among-requires c =
     let m = view c.args.b in
-    (count_is (map id_of m.submitted) c.submitted_ids-held.ensures (ids_fit m c.requires.fits), cells_are (map id_of m.submitted) c.submitted_ids-held.ensures)
+    count_is (map id_of m.submitted) c.submitted_ids.ensures (ids_fit m c.requires.fits)
 
-pub rising16-requires : goal.rising16-requires
-rising16-requires c = let m = view c.args.b in count_is (filterb (λ (i : ℕ). elemb i c.args.ids.now) (map id_of m.submitted)) (chosen_is (map id_of m.submitted) c.submitted_ids-held.ensures c.args.ids.now c.among16-gone.ensures) (some_fit m c.requires.fits c.args.ids.now)
+pub rising-requires : goal.rising-requires
+rising-requires c = let m = view c.args.b in count_is (filter (λ (i : ℕ). elemb i c.args.ids.now) (map id_of m.submitted)) (chosen_is (map id_of m.submitted) c.submitted_ids.ensures c.args.ids.now c.among.ensures) (some_fit m c.requires.fits c.args.ids.now)
 
 pub returns : goal.returns
 returns c =
-    let m = view c.args.b in rising_is (filterb (λ (i : ℕ). elemb i c.args.ids.now) (map id_of m.submitted)) (chosen_is (map id_of m.submitted) c.submitted_ids-held.ensures c.args.ids.now c.among16-gone.ensures) c.rising16.ensures
-    ∙ ap ids16 (remove_is c.args.ids.now m)
+    let m = view c.args.b in rising_is (filter (λ (i : ℕ). elemb i c.args.ids.now) (map id_of m.submitted)) (chosen_is (map id_of m.submitted) c.submitted_ids.ensures c.args.ids.now c.among.ensures) c.rising.ensures
+    ∙ ap (id_cells 16) (remove_is c.args.ids.now m)

@@ -1,34 +1,15 @@
-use Rattle.codec_cursor.proofs.Bytes.{digit_read, digit_bound, digit_fits, digit_first, digit_last}
+-- The eight bytes from `at` on, read as std reads them (`number_is`).
+use mathlib.Core.Path.{◌≡◌, ap, ◌∙◌}
+use Prim.Native.Nat.{ℕ, ◌+◌, ◌-◌}
 use native.Mathlib.Omega.{arith}
-use mathlib.Core.Path.{◌≡◌}
-use Prim.Native.Nat.{◌+◌, ◌<◌}
-use lib.ListN.{get_or}
+use borrow.Author.Rules.{rules}
+use lib.ListN.{take, drop}
+use Rattle.codec_cursor.proofs.Bytes.{number_is, part_bytes}
 use Rattle.codec_cursor.proofs.number_at.Goals as goal
 
-pub loop-i-init : goal.loop-i-init
-loop-i-init c = (omega arith, omega arith, digit_first c.args.s.now c.args.at)
-
-pub overflow_mul-v : goal.overflow_mul-v
-overflow_mul-v c = omega (arith, digit_fits c.loop-i.i c.loop-i.v c.loop-i.invariant.1 c.loop-i-test.true)
-
-pub overflow_add-v : goal.overflow_add-v
-overflow_add-v c =
-    omega (
-      arith,
-      c.wide.ensures,
-      c.shared_slice_known-in-loop-i-1.given (c.args.at + c.loop-i.i),
-      digit_fits c.loop-i.i c.loop-i.v c.loop-i.invariant.1 c.loop-i-test.true,
-    )
-
-pub loop-i-preserved : goal.loop-i-preserved
-loop-i-preserved c =
-    let x : c.wide.result ≡ get_or c.args.s.now (c.args.at + c.loop-i.i) 0 = c.wide.ensures
-    in
-    let k : c.wide.result < 256 = omega (arith, x, c.shared_slice_known-in-loop-i-1.given (c.args.at + c.loop-i.i)) in (
-      omega arith,
-      digit_bound c.loop-i.i c.loop-i.v c.wide.result c.loop-i.invariant.1 k,
-      rw x (digit_read c.args.s.now c.args.at c.loop-i.i c.loop-i.v _ c.loop-i-test.true c.requires c.loop-i.invariant.2),
-    )
-
 pub returns : goal.returns
-returns c = digit_last _ _ _ _ _ c.loop-i.invariant.0 c.loop-i-test.false c.loop-i.invariant.2
+returns c =
+    let d = drop c.args.at c.args.s.now in
+    let e : c.args.at + 8 - c.args.at ≡ 8 = omega arith in
+    let w : c.copy_from_slice.new.self ≡ take 8 d = c.copy_from_slice.ensures.after ∙ ap (λ (n : ℕ). take n d) e in
+    rw w at (number_is c.from_be_bytes.result c.copy_from_slice.new.self c.copy_from_slice.ensures.len (rw w (part_bytes c.args.s.now c.args.at 8 (λ i. search (rules, c.type_inv.s i)))) c.from_be_bytes.type_inv c.from_be_bytes.ensures)

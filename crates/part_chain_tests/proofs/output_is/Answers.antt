@@ -7,6 +7,4 @@ use Rattle.base_coin_string.specs.Coin.{coin_id_of, from_parts_bytes}
 use Rattle.part_chain_tests.proofs.output_is.Goals as goal
 
 pub returns : goal.returns
-returns c =
-    c.same32.ensures ∙ ap (λ (l : List ℕ). eqs l c.args.id)
-    (c.to_coin_id-made.ensures ∙ ap coin_id_of (from_parts_bytes c.output_coin-c.ensures))
+returns c = c.eq.ensures ∙ ap (λ (l : List ℕ). eqs l c.args.id) (c.to_coin_id.ensures ∙ ap coin_id_of (from_parts_bytes c.from_parts-c.ensures))

@@ -3,4 +3,4 @@ use Rattle.part_change.specs.ChangeLaws.{unretire_is}
 use Rattle.part_change.proofs.clear_retired.Goals as goal
 
 pub returns : goal.returns
-returns c = unretire_is c.args.b c.requires c.empty64-none.ensures
+returns c = unretire_is c.args.b c.requires c.empty-out.ensures

@@ -10,8 +10,5 @@ use Rattle.part_change.specs.ChangeLaws.{not_is}
 use Rattle.part_change.proofs.drop_submitted.Given as goal
 
 abbrev pub invariant-loop-i : goal.invariant-loop-i
-invariant-loop-i l = (l.i ≤ l.n) × (l.n ≤ 16) × (l.w ≤ l.i) × (l.z ≡ zero_submitted) × (length l.out.submitted ≡ 16) × (l.n ≡ length (view l.initial.out).submitted) × (l.out ≡ put_cells l.out.submitted_count l.out.submitted l.initial.out) ×
+invariant-loop-i l = (l.n ≤ 16) × (l.w ≤ l.i) × (l.z ≡ zero_submitted) × (length l.out.submitted ≡ 16) × (l.n ≡ length (view l.initial.out).submitted) × (l.out ≡ put_cells l.out.submitted_count l.out.submitted l.initial.out) ×
     Moving 16 zero_submitted (not_is l.id.0) (view l.initial.out).submitted l.out.submitted l.w l.i
-
-abbrev pub decreases-loop-i : goal.decreases-loop-i
-decreases-loop-i l = l.n - l.i

@@ -8,7 +8,4 @@ use Rattle.part_change.specs.ChangeLaws.{not_for}
 use Rattle.part_change.proofs.keep_others.Given as goal
 
 abbrev pub invariant-loop-i : goal.invariant-loop-i
-invariant-loop-i l = (l.i ≤ l.n) × (l.n ≤ 16) × (l.w ≤ l.i) × (l.z ≡ zero_delivery) × (length l.out ≡ 16) × (l.n ≡ length (take l.n l.initial.out)) × Moving 16 zero_delivery (not_for l.id.0) (take l.n l.initial.out) l.out l.w l.i
-
-abbrev pub decreases-loop-i : goal.decreases-loop-i
-decreases-loop-i l = l.n - l.i
+invariant-loop-i l = (l.n ≤ 16) × (l.w ≤ l.i) × (l.z ≡ zero_delivery) × (length l.out ≡ 16) × (l.n ≡ length (take l.n l.initial.out)) × Moving 16 zero_delivery (not_for l.id.0) (take l.n l.initial.out) l.out l.w l.i

@@ -6,8 +6,8 @@ use Rattle.part_offer.proofs.enqueue.Goals as goal
 pub returns-then-b-eq16 : goal.returns-then-b-eq16
 returns-then-b-eq16 c = enqueue_full c.args.b c.requires.0 c.args.d c.requires.1 c.if-b-eq16.true
 
-pub push_pending-out-requires : goal.push_pending-out-requires
-push_pending-out-requires c = (sound_normal c.args.b c.requires.0, room c.args.b c.requires.0 c.args.d c.requires.1 c.if-b-eq16.false, c.requires.1)
+pub push_pending-requires : goal.push_pending-requires
+push_pending-requires c = (sound_normal c.args.b c.requires.0, room c.args.b c.requires.0 c.args.d c.requires.1 c.if-b-eq16.false, c.requires.1)
 
 pub returns : goal.returns
-returns c = enqueue_on c.args.b c.requires.0 c.args.d c.requires.1 c.if-b-eq16.false c.push_pending-out.ensures
+returns c = enqueue_on c.args.b c.requires.0 c.args.d c.requires.1 c.if-b-eq16.false c.push_pending.ensures

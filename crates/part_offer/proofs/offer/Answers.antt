@@ -24,22 +24,22 @@ pub submitted_at-t-requires : goal.submitted_at-t-requires
 submitted_at-t-requires c = (
   sound_normal c.args.b c.requires,
   within c.args.b c.requires c.args.id.0 c.args.trigger c.args.goal _
-      (sym c.position_of-place.ensures ∙ c.in-At.is),
+      (sym c.position_of-place.ensures ∙ c.in-Some.is),
 )
 
 pub enqueue-requires : goal.enqueue-requires
 enqueue-requires c = (
   c.requires,
   due_sound c.args.b c.requires c.args.id.0 c.args.trigger c.args.goal _
-      (sym c.position_of-place.ensures ∙ c.in-At.is)
+      (sym c.position_of-place.ensures ∙ c.in-Some.is)
       c.submitted_at-t.ensures c.redelivery.ensures,
 )
 
 pub returns-then-queued-due : goal.returns-then-queued-due
 returns-then-queued-due c =
-    ends_as tt c.enqueue.result.book (run_book (step (note (enqueue c.redelivery.result))) (view c.args.b)) c.enqueue.result.full
+    ends_as tt c.enqueue.result (run_book (step (note (enqueue c.redelivery.result))) (view c.args.b))
     (offer_due c.args.b c.requires c.args.id.0 c.args.trigger c.args.goal _
-    (sym c.position_of-place.ensures ∙ c.in-At.is)
+    (sym c.position_of-place.ensures ∙ c.in-Some.is)
     c.submitted_at-t.ensures c.redelivery.ensures c.is_queued-queued.ensures
     c.deliverable-due.ensures c.if-queued-due.true)
     c.enqueue.ensures
@@ -48,5 +48,5 @@ pub returns : goal.returns
 returns c =
     stays tt c.args.b (run_book (rules.offer c.args.id.0 c.args.trigger c.args.goal) (view c.args.b)) c.requires
     (offer_idle c.args.b c.requires c.args.id.0 c.args.trigger c.args.goal _
-    (sym c.position_of-place.ensures ∙ c.in-At.is) c.submitted_at-t.ensures
+    (sym c.position_of-place.ensures ∙ c.in-Some.is) c.submitted_at-t.ensures
     c.is_queued-queued.ensures c.deliverable-due.ensures c.if-queued-due.false)

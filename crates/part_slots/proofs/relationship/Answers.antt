@@ -1,34 +1,18 @@
--- The code asks the rule's tests in the rule's order, so on each path the rule comes to the answer: present, goal, fingerprint.
+-- The code asks the rule's tests in the rule's order: present, goal, fingerprint. A test `==` is the rule's `eqs`.
+use Rattle.std.specs.Prelude.{◌≡◌, true, false}
+use Rattle.std.proofs.Common.{sym}
+use Rattle.base_lists.specs.Bytes.{eqs}
 use Rattle.rules.specs.Steps.Slots.{relationship_to}
-use mathlib.Core.Path.{sym, ◌∙◌}
 use Rattle.part_slots.proofs.relationship.Goals as goal
 
-pub returns-then-same32 : goal.returns-then-same32
+pub returns-then-eq : goal.returns-then-eq
 unfolding relationship_to
-returns-then-same32 c =
-    rw (
-      c.if-p.true,
-      sym c.is_ensure_broadcast.ensures ∙ c.if-is_ensure_broadcast.true,
-      ← c.resolved_variant_fingerprint-before.ensures,
-      ← c.same32.ensures,
-      c.if-same32.true,
-    )
+returns-then-eq c =
+    let e : eqs c.resolved_variant_fingerprint.result c.args.fingerprint ≡ true = sym c.if-eq.ensures in
+    rw (c.if-p.true, c.in-EnsureBroadcast.is, ← c.resolved_variant_fingerprint.ensures, e)
 
-pub returns-then-is_ensure_broadcast : goal.returns-then-is_ensure_broadcast
+pub returns-else-eq : goal.returns-else-eq
 unfolding relationship_to
-returns-then-is_ensure_broadcast c =
-    rw (
-      c.if-p.true,
-      sym c.is_ensure_broadcast.ensures ∙ c.if-is_ensure_broadcast.true,
-      ← c.resolved_variant_fingerprint-before.ensures,
-      ← c.same32.ensures,
-      c.if-same32.false,
-    )
-
-pub returns-then-p : goal.returns-then-p
-unfolding relationship_to
-returns-then-p c = cc
-
-pub returns : goal.returns
-unfolding relationship_to
-returns c = cc
+returns-else-eq c =
+    let e : eqs c.resolved_variant_fingerprint.result c.args.fingerprint ≡ false = sym c.if-eq.ensures in
+    rw (c.if-p.true, c.in-EnsureBroadcast.is, ← c.resolved_variant_fingerprint.ensures, e)

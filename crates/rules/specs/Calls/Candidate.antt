@@ -1,12 +1,12 @@
 -- Paper 01, "Drain and its plan": one candidate. `plan_pending_submission` and what `drain` makes of it.
 use Rattle.std.specs.Prelude.{ℕ, cond, not, List, [], ◌∷◌, map, eqb}
-use Rattle.std.proofs.Math.Option.{Option, none, some}
+use Rattle.std.specs.Prelude.{Option, None, Some}
 use Rattle.base_lists.specs.Bytes.{eqs}
-use Rattle.base_lists.specs.Lists.{filterb, elemb}
+use Rattle.base_lists.specs.Lists.{elemb}
+use Rattle.std.specs.List.{filter}
 use Rattle.book.specs.declared.SubmittedTx.{SubmittedTx}
 use Rattle.book.specs.declared.PendingDelivery.{PendingDelivery}
-use Rattle.book.specs.declared.OptionalId.{OptionalId}
-use Rattle.book.specs.declared.OptionalId.TheVariants.{NoId, Of}
+use Rattle.book.specs.declared.SubmissionId.{SubmissionId}
 use Rattle.book.specs.declared.SubmissionDeliveryGoal.{SubmissionDeliveryGoal}
 use Rattle.book.specs.Model.{Book}
 use Rattle.book.specs.Sound.{readable_bundle, id_of}
@@ -36,8 +36,8 @@ met c t a = do
 
 -- plan 2, a miss: "that submission is removed with its queue entries, here and in the remaining candidates, and retired"
 abbrev pub known_by : ℕ → PendingDelivery → List ℕ → SubmittedTx → Memory → Option DrainFailureCause → Rule Memory
-known_by n c f t a none = met c t a
-known_by n c f t a (some m) = do
+known_by n c f t a None = met c t a
+known_by n c f t a (Some m) = do
   withdraw (id_of t)
   done (with_failure n m (id_of t) f (with_removed (id_of t) a))
 
@@ -66,9 +66,9 @@ abbrev pub unnamed : ℕ → PendingDelivery → List ℕ → Book → Memory �
 unnamed n c f b a [] = unknown n c f b a
 unnamed n c f b a (t ∷ ts) = known n c f t a
 
-abbrev pub planned_by : ℕ → PendingDelivery → List ℕ → Book → Memory → OptionalId → Rule Memory
-planned_by n c f b a NoId = unnamed n c f b a (filterb (λ t. eqs t.entry.intent.intent_fingerprint f) b.submitted)
-planned_by n c f b a (Of i) = named n c f i.0 a (pick id_of i.0 b.submitted)
+abbrev pub planned_by : ℕ → PendingDelivery → List ℕ → Book → Memory → Option SubmissionId → Rule Memory
+planned_by n c f b a None = unnamed n c f b a (filter (λ t. eqs t.entry.intent.intent_fingerprint f) b.submitted)
+planned_by n c f b a (Some i) = named n c f i.0 a (pick id_of i.0 b.submitted)
 
 unfoldable pub candidate : ℕ → PendingDelivery → Memory → Rule Memory
 unfolding intent_of pick known unknown

@@ -1,6 +1,7 @@
 -- `collect_rollback_replay_ids`: the newly marked ids are Active and unacknowledged again; all named ones are offered.
 use Rattle.std.specs.Prelude.{ℕ, cond, List, [], ◌∷◌, map}
-use Rattle.base_lists.specs.Lists.{filterb, elemb}
+use Rattle.base_lists.specs.Lists.{elemb}
+use Rattle.std.specs.List.{filter}
 use Rattle.book.specs.declared.SubmissionDeliveryGoal.TheVariants.{EnsureBroadcast}
 use Rattle.book.specs.declared.DeliveryTrigger.TheVariants.{Rollback}
 use Rattle.book.specs.Model.{Book}
@@ -31,6 +32,6 @@ unfolding ids_ok mark_each offer_again
 collect_rollback_replay_ids is = cond (ids_ok is)
     (do
       b ← book
-      mark_each b (filterb (λ i. elemb i is) (map id_of b.submitted))
-      offer_again (filterb (λ i. elemb i is) (map id_of b.submitted)))
+      mark_each b (filter (λ i. elemb i is) (map id_of b.submitted))
+      offer_again (filter (λ i. elemb i is) (map id_of b.submitted)))
     (undo refusals.bad_list)

@@ -1,6 +1,6 @@
 -- Parts of the rules that several calls share.
 use Rattle.std.specs.Prelude.{ℕ, Bool, true, false, cond, ◌&&◌, List, [], ◌∷◌, eqb, ltb, leb, length, set}
-use Rattle.base_lists.specs.Lists.{anyb, filterb}
+use Rattle.std.specs.List.{list_any, filter}
 use Rattle.book.specs.declared.OptionalAttempt.{OptionalAttempt}
 use Rattle.book.specs.declared.SubmittedTx.{SubmittedTx}
 use Rattle.book.specs.Model.{Book}
@@ -17,10 +17,10 @@ has_token t a = a.present && eqb a.attempt.token.0 t
 
 -- the submissions whose live attempt has the token: at most one in a sound book
 unfoldable pub live_at : ℕ → Book → List SubmittedTx
-live_at t b = filterb (λ s. has_token t s.slots.active_attempt) b.submitted
+live_at t b = filter (λ s. has_token t s.slots.active_attempt) b.submitted
 
 unfoldable pub is_aside : ℕ → Book → Bool
-is_aside t b = anyb (λ s. has_token t s.slots.completed_attempt) b.submitted
+is_aside t b = list_any (λ s. has_token t s.slots.completed_attempt) b.submitted
 
 abbrev pub found_by : Bool → Bool → List SubmittedTx → Found
 found_by below set (s ∷ ss) = live s

@@ -2,16 +2,17 @@
 use Rattle.std.specs.Prelude.{ℕ, suc, Bool, false, cond, List, [], ◌∷◌}
 use Rattle.base_lists.specs.Lists.{elemb}
 use Rattle.book.specs.declared.PendingDelivery.{PendingDelivery}
-use Rattle.book.specs.declared.OptionalId.{OptionalId}
-use Rattle.book.specs.declared.OptionalId.TheVariants.{NoId, Of}
+use Rattle.std.specs.Prelude.{Option}
+use Rattle.book.specs.declared.SubmissionId.{SubmissionId}
+use Rattle.std.specs.Prelude.{None, Some}
 use Rattle.book_answers.specs.declared.SubmissionDrainFailure.{SubmissionDrainFailure}
 use Rattle.rules.specs.Calls.Candidate.{candidate}
 use Rattle.rules.specs.Calls.Plan.{Memory, blank}
 use Rattle.rules.specs.Rule.{done, unqueue_all, note, Rule, ◌>>=◌, ◌>>◌, book, step, end_turn}
 
-abbrev pub is_one_of : OptionalId → List ℕ → Bool
-is_one_of NoId is = false
-is_one_of (Of i) is = elemb i.0 is
+abbrev pub is_one_of : Option SubmissionId → List ℕ → Bool
+is_one_of None is = false
+is_one_of (Some i) is = elemb i.0 is
 
 -- a queue entry of a submission that was removed earlier in this drain is gone, and still counts for the indices
 unfoldable pub one_candidate : ℕ → PendingDelivery → Memory → Rule Memory

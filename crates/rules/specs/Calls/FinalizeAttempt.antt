@@ -1,6 +1,6 @@
 -- `finalize_attempt`. Refusals 3 (the joined bundle), 4, 5, 7, 8, 9 in this order.
 use Rattle.std.specs.Prelude.{ℕ, Bool, true, false, cond, not}
-use Rattle.std.proofs.Math.Option.{Option, none, some}
+use Rattle.std.specs.Prelude.{Option, None, Some}
 use Rattle.base_lists.specs.Bytes.{eqs}
 use Rattle.book.specs.declared.SpendBundle.{SpendBundle}
 use Rattle.book.specs.declared.SubmittedTx.{SubmittedTx}
@@ -30,7 +30,7 @@ is_not_requested Failed = false
 unfoldable pub finalize_as : ℕ → FinalizedSubmission → Rule (Option FinalizedSubmission)
 finalize_as i r = do
   step (finalise i r.variant_fingerprint)
-  done (some r)
+  done (Some r)
 
 unfoldable pub finalize_with : SubmissionFeeSource → SpendBundle → SubmittedTx → Rule (Option FinalizedSubmission)
 unfolding finalize_as unused_fee current_final attached_final
@@ -57,4 +57,4 @@ sound_source source j = cond (is_joined source) (sound_bundle j) (is_zero_bundle
 
 unfoldable pub finalize_attempt : ℕ → SubmissionFeeSource → SpendBundle → Rule (Option FinalizedSubmission)
 unfolding sound_source with_live finalize_live
-finalize_attempt t source j = cond (sound_source source j) (with_live t none (finalize_live source j)) (undo refusals.bad_value)
+finalize_attempt t source j = cond (sound_source source j) (with_live t None (finalize_live source j)) (undo refusals.bad_value)

@@ -1,19 +1,18 @@
 -- `look`, a query of ours: what the retained submission of an id holds, or none; nothing changes.
 use Rattle.std.specs.Prelude.{ℕ, cond, List, [], ◌∷◌}
-use Rattle.std.proofs.Math.Option.{Option, none, some}
+use Rattle.std.specs.Prelude.{Option, None, Some}
 use Rattle.book.specs.declared.OptionalAttempt.{OptionalAttempt}
 use Rattle.book.specs.declared.SubmittedTx.{SubmittedTx}
 use Rattle.book.specs.Sound.{id_of}
-use Rattle.book_answers.specs.declared.OptionalToken.{OptionalToken}
-use Rattle.book_answers.specs.declared.OptionalToken.TheVariants.{NoToken, Of}
+use Rattle.book.specs.declared.Token.{Token}
 use Rattle.book_answers.specs.declared.SubmissionLook.{SubmissionLook}
 use Rattle.rules.specs.Keyed.{pick}
 use Rattle.rules.specs.Parts.{current_acknowledged, current_applied_fee}
 use Rattle.rules.specs.Rule.{done, Rule, ◌>>=◌, book}
 
 -- the token in a slot
-abbrev pub token_in : OptionalAttempt → OptionalToken
-token_in a = cond a.present (Of a.attempt.token) NoToken
+abbrev pub token_in : OptionalAttempt → Option Token
+token_in a = cond a.present (Some a.attempt.token) None
 
 unfoldable pub look_of : SubmittedTx → SubmissionLook
 unfolding current_acknowledged current_applied_fee
@@ -28,8 +27,8 @@ look_of s = record {
 }
 
 abbrev pub look_by : List SubmittedTx → Option SubmissionLook
-look_by [] = none
-look_by (s ∷ ss) = some (look_of s)
+look_by [] = None
+look_by (s ∷ ss) = Some (look_of s)
 
 unfoldable pub look_at : ℕ → Rule (Option SubmissionLook)
 unfolding look_of pick

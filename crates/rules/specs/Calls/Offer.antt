@@ -1,10 +1,10 @@
 -- `queue_retained_delivery`: a retained submission is offered again, under the conditions that the Rust lists.
 use Rattle.std.specs.Prelude.{ℕ, Bool, true, false, cond, not, ◌&&◌, ◌||◌, List, [], ◌∷◌}
-use Rattle.base_lists.specs.Lists.{anyb}
+use Rattle.std.specs.List.{list_any}
 use Rattle.book.specs.declared.SubmittedEntry.{SubmittedEntry}
 use Rattle.book.specs.declared.SubmittedTx.{SubmittedTx}
 use Rattle.book.specs.declared.PendingDelivery.{PendingDelivery}
-use Rattle.book.specs.declared.OptionalId.TheVariants.{Of}
+use Rattle.std.specs.Prelude.{Some}
 use Rattle.book.specs.declared.SubmissionDeliveryGoal.{SubmissionDeliveryGoal}
 use Rattle.book.specs.declared.SubmissionDeliveryGoal.TheVariants.{EnsureBroadcast, FeeUpgrade}
 use Rattle.book.specs.declared.DeliveryTrigger.{DeliveryTrigger}
@@ -19,7 +19,7 @@ use Rattle.rules.specs.Steps.Notes.{is_id}
 
 -- the queue has an entry of this id
 unfoldable pub is_queued : ℕ → Book → Bool
-is_queued i b = anyb (λ d. is_id i d.intent.id) b.pending
+is_queued i b = list_any (λ d. is_id i d.intent.id) b.pending
 
 -- `FreshChain` or `ProviderReadiness`
 abbrev pub is_news : DeliveryTrigger → Bool
@@ -43,7 +43,7 @@ deliverable trigger g t =
 -- the queue entry of a retained submission's own intent
 unfoldable pub redelivery : DeliveryTrigger → SubmissionDeliveryGoal → SubmittedEntry → PendingDelivery
 redelivery trigger g e = record {
-  intent = record { id = Of e.id; bundle = e.intent.base_bundle; expiry = e.state.status.expiry; fee_intent = e.intent.fee_intent };
+  intent = record { id = Some e.id; bundle = e.intent.base_bundle; expiry = e.state.status.expiry; fee_intent = e.intent.fee_intent };
   trigger = trigger;
   goal = g;
 }

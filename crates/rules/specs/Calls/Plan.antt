@@ -1,6 +1,6 @@
 -- Paper 01, "Drain and its plan": what a drain remembers, and the tests of `plan_pending_submission` on a retained submission.
 use Rattle.std.specs.Prelude.{ℕ, Bool, cond, not, ◌&&◌, List, [], ◌∷◌, ◌++◌}
-use Rattle.std.proofs.Math.Option.{Option, none, some}
+use Rattle.std.specs.Prelude.{Option, None, Some}
 use Rattle.base_lists.specs.Bytes.{eqs}
 use Rattle.book.specs.declared.SubmittedEntry.{SubmittedEntry}
 use Rattle.book.specs.declared.PendingSubmissionIntent.{PendingSubmissionIntent}
@@ -42,8 +42,8 @@ unfoldable pub miss_of : PendingSubmissionIntent → List ℕ → SubmittedEntry
 unfolding same_fee_intent validate
 miss_of p f e =
     cond (same_fee_intent p.fee_intent e.intent.fee_intent)
-    (cond (validate e) (cond (eqs e.intent.intent_fingerprint f) none (some IntentDiffers)) (some InvalidRetainedState))
-    (some FeeIntentDiffers)
+    (cond (validate e) (cond (eqs e.intent.intent_fingerprint f) None (Some IntentDiffers)) (Some InvalidRetainedState))
+    (Some FeeIntentDiffers)
 
 -- "emit if Active and, by goal, current variant unacknowledged (EnsureBroadcast) or fee unresolved (FeeUpgrade)"
 unfoldable pub wanted : SubmissionDeliveryGoal → SubmittedEntry → Bool

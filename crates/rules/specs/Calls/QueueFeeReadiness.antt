@@ -1,6 +1,6 @@
 -- `queue_fee_readiness`: every Active submission with an unresolved fee is offered, in retained order.
 use Rattle.std.specs.Prelude.{◌&&◌, List, [], ◌∷◌}
-use Rattle.base_lists.specs.Lists.{filterb}
+use Rattle.std.specs.List.{filter}
 use Rattle.book.specs.declared.SubmittedTx.{SubmittedTx}
 use Rattle.book.specs.declared.DeliveryTrigger.{DeliveryTrigger}
 use Rattle.book.specs.declared.DeliveryTrigger.TheVariants.{ProviderReadiness}
@@ -21,4 +21,4 @@ unfoldable pub queue_fee_readiness : Rule (Unit {0})
 unfolding offer_each
 queue_fee_readiness = do
   b ← book
-  offer_each ProviderReadiness (filterb (λ t. active_entry t.entry && fee_unresolved t.entry) b.submitted)
+  offer_each ProviderReadiness (filter (λ t. active_entry t.entry && fee_unresolved t.entry) b.submitted)

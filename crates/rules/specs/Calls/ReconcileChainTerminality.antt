@@ -1,6 +1,7 @@
 -- `reconcile_chain_terminality`: paper 01, "Chain".
 use Rattle.std.specs.Prelude.{ℕ, Bool, cond, not, ◌&&◌, List, [], ◌∷◌}
-use Rattle.base_lists.specs.Lists.{anyb, elemb}
+use Rattle.base_lists.specs.Lists.{elemb}
+use Rattle.std.specs.List.{list_any}
 use Rattle.base_coin_string.specs.CoinIds.{id_listb, ids_in}
 use Rattle.base_coin_string.specs.CoinList.{coins_in, coin_listb}
 use Rattle.book.specs.declared.RetainedIntent.{RetainedIntent}
@@ -17,11 +18,11 @@ use Rattle.book.specs.Refusals as refusals
 
 unfoldable pub output_observed : List (List ℕ) → RetainedIntent → Bool
 unfolding among expected_output_coins
-output_observed observed p = anyb (among observed) (expected_output_coins p.base_bundle)
+output_observed observed p = list_any (among observed) (expected_output_coins p.base_bundle)
 
 unfoldable pub input_spent : List (List ℕ) → RetainedIntent → Bool
 unfolding among input_coin_ids
-input_spent spent p = anyb (among spent) (input_coin_ids p.base_bundle)
+input_spent spent p = list_any (among spent) (input_coin_ids p.base_bundle)
 
 -- "InputSpent, except that Landed stays if not a reorg"
 abbrev pub spent_as : Bool → SubmissionChainTerminality → SubmissionChainTerminality

@@ -1,7 +1,7 @@
 -- `reconciliation_input_coins`: the input coins of every submission that has not landed, or an output of which is to be retained;
 -- "rising by bytes, without repeats".
 use Rattle.std.specs.Prelude.{ℕ, Bool, cond, not, ◌||◌, List}
-use Rattle.base_lists.specs.Lists.{anyb, filterb, flat_map}
+use Rattle.std.specs.List.{list_any, filter, flat_map}
 use Rattle.base_coin_string.specs.CoinList.{coins_in, coin_listb}
 use Rattle.book.specs.declared.SubmittedEntry.{SubmittedEntry}
 use Rattle.book.specs.Model.{Book}
@@ -15,11 +15,11 @@ use Rattle.book.specs.Refusals as refusals
 
 unfoldable pub is_reconciled : List (List ℕ) → SubmittedEntry → Bool
 unfolding among expected_output_coins
-is_reconciled outputs e = not (is_landed e.state.status.chain_terminality) || anyb (among outputs) (expected_output_coins e.intent.base_bundle)
+is_reconciled outputs e = not (is_landed e.state.status.chain_terminality) || list_any (among outputs) (expected_output_coins e.intent.base_bundle)
 
 unfoldable pub input_coins_to_reconcile : List (List ℕ) → Book → List (List ℕ)
 unfolding is_reconciled rising_coins
-input_coins_to_reconcile outputs b = rising_coins (flat_map (λ t. input_coins t.entry.intent.base_bundle) (filterb (λ t. is_reconciled outputs t.entry) b.submitted))
+input_coins_to_reconcile outputs b = rising_coins (flat_map (λ t. input_coins t.entry.intent.base_bundle) (filter (λ t. is_reconciled outputs t.entry) b.submitted))
 
 unfoldable pub reconciliation_input_coins : List ℕ → ℕ → Rule (List ℕ)
 unfolding input_coins_to_reconcile encode_coins writing

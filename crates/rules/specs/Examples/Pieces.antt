@@ -1,6 +1,6 @@
 -- Small books, deliveries and answers that the specimens are made of.
 use Rattle.std.specs.Prelude.{ℕ, zero, suc, true, false, List, [], ◌∷◌, replicate}
-use Rattle.std.proofs.Math.Option.{Option, none, some}
+use Rattle.std.specs.Prelude.{Option, None, Some}
 use Rattle.book.specs.declared.Height.{Height}
 use Rattle.book.specs.declared.SubmissionFeeIntent.{SubmissionFeeIntent}
 use Rattle.book.specs.declared.AttemptSlots.{AttemptSlots}
@@ -8,10 +8,7 @@ use Rattle.book.specs.declared.SubmittedEntry.{SubmittedEntry}
 use Rattle.book.specs.declared.SubmittedTx.{SubmittedTx}
 use Rattle.book.specs.declared.PendingSubmissionIntent.{PendingSubmissionIntent}
 use Rattle.book.specs.declared.PendingDelivery.{PendingDelivery}
-use Rattle.book.specs.declared.OptionalHeight.{OptionalHeight}
-use Rattle.book.specs.declared.OptionalHeight.TheVariants.{NoHeight, At}
-use Rattle.book.specs.declared.OptionalId.{OptionalId}
-use Rattle.book.specs.declared.OptionalId.TheVariants.{NoId, Of}
+use Rattle.book.specs.declared.SubmissionId.{SubmissionId}
 use Rattle.book.specs.declared.FeeIntentKind.TheVariants.{AlreadyPaid, NoFeeConfigured, Attach}
 use Rattle.book.specs.declared.SubmissionDeliveryGoal.TheVariants.{EnsureBroadcast}
 use Rattle.book.specs.declared.DeliveryTrigger.TheVariants.{Protocol}
@@ -26,8 +23,7 @@ use Rattle.book_answers.specs.declared.DrainedSubmission.{DrainedSubmission}
 use Rattle.book_answers.specs.declared.BookSummary.{BookSummary}
 use Rattle.book_answers.specs.declared.FeeSourceDisposition.TheVariants as disposition
 use Rattle.book_answers.specs.declared.FinalizedSubmission.{FinalizedSubmission}
-use Rattle.book_answers.specs.declared.OptionalToken.{OptionalToken}
-use Rattle.book_answers.specs.declared.OptionalToken.TheVariants as token
+use Rattle.book.specs.declared.Token.{Token}
 use Rattle.book_answers.specs.declared.SubmissionAttemptRelationship.{SubmissionAttemptRelationship}
 use Rattle.book_answers.specs.declared.SubmissionDrainFailure.{SubmissionDrainFailure}
 use Rattle.rules.specs.Call.{Call, Value, no_value}
@@ -40,24 +36,24 @@ no_archive b = []
 unfoldable pub height : ℕ → Height
 height n = record { 0 = n }
 
-unfoldable pub by_id : ℕ → OptionalId
-by_id i = Of (record { 0 = i })
+unfoldable pub by_id : ℕ → Option SubmissionId
+by_id i = Some (record { 0 = i })
 
 -- 0 for none
-abbrev pub height_number : OptionalHeight → ℕ
-height_number NoHeight = 0
-height_number (At h) = h.0
+abbrev pub height_number : Option Height → ℕ
+height_number None = 0
+height_number (Some h) = h.0
 
-abbrev pub queued_id : OptionalId → ℕ
-queued_id NoId = 0
-queued_id (Of i) = i.0
+abbrev pub queued_id : Option SubmissionId → ℕ
+queued_id None = 0
+queued_id (Some i) = i.0
 
 -- intents of an empty bundle that differ by expiry alone
-unfoldable pub intent_by : OptionalId → ℕ → PendingSubmissionIntent
+unfoldable pub intent_by : Option SubmissionId → ℕ → PendingSubmissionIntent
 unfolding zero_bundle zero_fee_intent height
-intent_by i x = record { id = i; bundle = zero_bundle; expiry = At (height x); fee_intent = zero_fee_intent }
+intent_by i x = record { id = i; bundle = zero_bundle; expiry = Some (height x); fee_intent = zero_fee_intent }
 
-unfoldable pub delivery : OptionalId → ℕ → PendingDelivery
+unfoldable pub delivery : Option SubmissionId → ℕ → PendingDelivery
 unfolding intent_by
 delivery i x = record { intent = intent_by i x; trigger = Protocol; goal = EnsureBroadcast }
 
@@ -65,22 +61,22 @@ delivery i x = record { intent = intent_by i x; trigger = Protocol; goal = Ensur
 unfoldable pub damaged : PendingDelivery
 unfolding zero_bundle zero_fee_intent
 damaged = record {
-  intent = record { id = NoId; bundle = zero_bundle; expiry = NoHeight; fee_intent = record { kind = AlreadyPaid; target = zeros 32; amount = 1 } };
+  intent = record { id = None; bundle = zero_bundle; expiry = None; fee_intent = record { kind = AlreadyPaid; target = zeros 32; amount = 1 } };
   trigger = Protocol;
   goal = EnsureBroadcast;
 }
 
-abbrev pub token_by : Option ℕ → OptionalToken
-token_by none = token.NoToken
-token_by (some t) = token.Of (record { 0 = t })
+abbrev pub token_by : Option ℕ → Option Token
+token_by None = None
+token_by (Some t) = Some (record { 0 = t })
 
 unfoldable pub drained : ℕ → ℕ → Option ℕ → SubmissionAttemptRelationship → ℕ → DrainedSubmission
 unfolding zero_bundle zero_fee_intent height
-drained i t p r x = record { id = record { 0 = i }; attempt_token = record { 0 = t }; predecessor_attempt_token = token_by p; relationship = r; bundle = zero_bundle; expiry = At (height x); fee_intent = zero_fee_intent }
+drained i t p r x = record { id = record { 0 = i }; attempt_token = record { 0 = t }; predecessor_attempt_token = token_by p; relationship = r; bundle = zero_bundle; expiry = Some (height x); fee_intent = zero_fee_intent }
 
 unfoldable pub failing : ℕ → DrainFailureCause → ℕ → ℕ → SubmissionDrainFailure
 unfolding intent_by
-failing n c i x = record { candidate_index = n; cause = c; candidate_id = record { 0 = i }; intent_fingerprint = intent_of (intent_by NoId x) }
+failing n c i x = record { candidate_index = n; cause = c; candidate_id = record { 0 = i }; intent_fingerprint = intent_of (intent_by None x) }
 
 unfoldable pub no_fee : SubmissionFeeIntent
 no_fee = record { kind = NoFeeConfigured; target = zeros 32; amount = 0 }
@@ -94,7 +90,7 @@ entry_of f c = record {
   state = record {
     current_variant = base_variant;
     wallet_acknowledged_variant = zero_hash;
-    status = record { fee_resolution = NotRequested; chain_terminality = c; expiry = NoHeight };
+    status = record { fee_resolution = NotRequested; chain_terminality = c; expiry = None };
   };
 }
 
@@ -114,7 +110,7 @@ spending c = record {
   state = record {
     current_variant = base_variant;
     wallet_acknowledged_variant = zero_hash;
-    status = record { fee_resolution = NotRequested; chain_terminality = c; expiry = NoHeight };
+    status = record { fee_resolution = NotRequested; chain_terminality = c; expiry = None };
   };
 }
 
@@ -148,7 +144,7 @@ seventh c = record {
   state = record {
     current_variant = base_variant;
     wallet_acknowledged_variant = zero_hash;
-    status = record { fee_resolution = NotRequested; chain_terminality = c; expiry = At (record { 0 = 9 }) };
+    status = record { fee_resolution = NotRequested; chain_terminality = c; expiry = Some (record { 0 = 9 }) };
   };
 }
 
@@ -164,7 +160,7 @@ fee_open = record {
   state = record {
     current_variant = base_variant;
     wallet_acknowledged_variant = zero_hash;
-    status = record { fee_resolution = Unresolved; chain_terminality = Active; expiry = NoHeight };
+    status = record { fee_resolution = Unresolved; chain_terminality = Active; expiry = None };
   };
 }
 
@@ -177,7 +173,7 @@ fee_attached = record {
   state = record {
     current_variant = record { fee_bearing = true; bundle = zero_bundle; applied_fee = 3 };
     wallet_acknowledged_variant = record { present = true; hash = empty_variant };
-    status = record { fee_resolution = Attached; chain_terminality = InputSpent; expiry = At (record { 0 = 9 }) };
+    status = record { fee_resolution = Attached; chain_terminality = InputSpent; expiry = Some (record { 0 = 9 }) };
   };
 }
 
@@ -201,7 +197,7 @@ holding e s is = record {
   submitted = record { slots = s; entry = e } ∷ [];
   pending = [];
   retired = [];
-  rollback = NoHeight;
+  rollback = None;
   replayed = is;
 }
 
@@ -214,7 +210,7 @@ counted n = record {
   pending_count = 0;
   retired_count = n;
   replayed_count = 1;
-  rollback_height = NoHeight;
+  rollback_height = None;
 }
 
 abbrev numbered : ℕ → SubmittedTx → SubmittedTx
@@ -233,7 +229,7 @@ fifteen = record {
   submitted = up_to 15 [];
   pending = [];
   retired = [];
-  rollback = NoHeight;
+  rollback = None;
   replayed = [];
 }
 
@@ -241,7 +237,7 @@ fifteen = record {
 unfoldable pub queueing : ℕ → List Call
 unfolding delivery
 queueing zero = []
-queueing (suc n) = Call.Queue (delivery NoId 9) ∷ queueing n
+queueing (suc n) = Call.Queue (delivery None 9) ∷ queueing n
 
 unfoldable pub accepted : ℕ → List (Answer Value) → List (Answer Value)
 accepted zero rest = rest

@@ -3,7 +3,8 @@ use Rattle.std.specs.Prelude.{true, cond}
 use Rattle.book.specs.Zero.{zero_hash, base_variant}
 use Rattle.book.specs.Sound.{sound_bundle, is_attach}
 use Rattle.book.specs.declared.SubmissionId.{SubmissionId}
-use Rattle.book.specs.declared.OptionalHeight.{OptionalHeight}
+use Rattle.std.specs.Prelude.{Option}
+use Rattle.book.specs.declared.Height.{Height}
 use Rattle.book.specs.declared.SpendBundle.{SpendBundle}
 use Rattle.book.specs.declared.SubmissionChainTerminality.{SubmissionChainTerminality}
 use Rattle.book.specs.declared.SubmissionChainTerminality.TheVariants.{Active}
@@ -28,7 +29,7 @@ with_acknowledged h s = record { current_variant = s.current_variant; wallet_ack
 abbrev pub with_variant : SubmissionBroadcastVariant → SubmissionState → SubmissionState
 with_variant v s = record { current_variant = v; wallet_acknowledged_variant = s.wallet_acknowledged_variant; status = s.status }
 
-abbrev pub with_expiry : OptionalHeight → SubmissionStatus → SubmissionStatus
+abbrev pub with_expiry : Option Height → SubmissionStatus → SubmissionStatus
 with_expiry x s = record { fee_resolution = s.fee_resolution; chain_terminality = s.chain_terminality; expiry = x }
 
 abbrev pub with_terminality : SubmissionChainTerminality → SubmissionStatus → SubmissionStatus

@@ -1,23 +1,24 @@
 -- What no attempt depends on: queue, retirements, rollback height and replayed ids, and the notes on them.
 use Rattle.std.specs.Prelude.{ℕ, Bool, false, cond, not, ◌&&◌, List, [], ◌∷◌, ◌++◌, eqb}
-use Rattle.base_lists.specs.Lists.{filterb, elemb, insert_up, push_new}
+use Rattle.base_lists.specs.Lists.{elemb, insert_up, push_new}
+use Rattle.std.specs.List.{filter}
 use Rattle.book.specs.Sound.{sound_delivery}
-use Rattle.book.specs.declared.OptionalId.{OptionalId}
-use Rattle.book.specs.declared.OptionalId.TheVariants.{NoId, Of}
-use Rattle.book.specs.declared.OptionalHeight.{OptionalHeight}
-use Rattle.book.specs.declared.OptionalHeight.TheVariants.{NoHeight, At}
+use Rattle.std.specs.Prelude.{Option}
+use Rattle.book.specs.declared.SubmissionId.{SubmissionId}
+use Rattle.std.specs.Prelude.{None, Some}
+use Rattle.book.specs.declared.Height.{Height}
 use Rattle.book.specs.declared.PendingDelivery.{PendingDelivery}
 use Rattle.rules.specs.Rule.{Note, enqueue, unqueue, retire, unreplay, unqueue_all, unretire_all, begin_epoch, end_epoch}
 
 pub record Rest : Type 0 where
   pub pending : List PendingDelivery
   pub retired : List ℕ
-  pub rollback : OptionalHeight
+  pub rollback : Option Height
   pub replayed : List ℕ
 
-abbrev pub is_id : ℕ → OptionalId → Bool
-is_id i NoId = false
-is_id i (Of j) = eqb j.0 i
+abbrev pub is_id : ℕ → Option SubmissionId → Bool
+is_id i None = false
+is_id i (Some j) = eqb j.0 i
 
 abbrev pub with_pending : List PendingDelivery → Rest → Rest
 with_pending ds s = record { pending = ds; retired = s.retired; rollback = s.rollback; replayed = s.replayed }
@@ -25,16 +26,16 @@ with_pending ds s = record { pending = ds; retired = s.retired; rollback = s.rol
 abbrev pub with_retired : List ℕ → Rest → Rest
 with_retired is s = record { pending = s.pending; retired = is; rollback = s.rollback; replayed = s.replayed }
 
-abbrev pub with_epoch : OptionalHeight → List ℕ → Rest → Rest
+abbrev pub with_epoch : Option Height → List ℕ → Rest → Rest
 with_epoch h is s = record { pending = s.pending; retired = s.retired; rollback = h; replayed = is }
 
 -- the queue without the entries of the submission i
 unfoldable pub unqueued : ℕ → List PendingDelivery → List PendingDelivery
-unqueued i ds = filterb (λ d. not (is_id i d.intent.id)) ds
+unqueued i ds = filter (λ d. not (is_id i d.intent.id)) ds
 
 -- `ReplayEpoch::remove`
 unfoldable pub unreplayed : ℕ → List ℕ → List ℕ
-unreplayed i is = filterb (λ j. not (eqb j i)) is
+unreplayed i is = filter (λ j. not (eqb j i)) is
 
 unfoldable pub noted : Note → Rest → Rest
 unfolding sound_delivery unqueued unreplayed
@@ -44,8 +45,8 @@ noted (retire i) s = with_retired (push_new s.retired i) s
 noted (unreplay i) s = with_epoch s.rollback (unreplayed i s.replayed) s
 noted unqueue_all s = with_pending [] s
 noted unretire_all s = with_retired [] s
-noted (begin_epoch h) s = with_epoch (At h) [] s
-noted end_epoch s = with_epoch NoHeight [] s
+noted (begin_epoch h) s = with_epoch (Some h) [] s
+noted end_epoch s = with_epoch None [] s
 
 -- a submission that is gone has no queue entry and no replay mark
 unfoldable pub forgotten : ℕ → Rest → Rest

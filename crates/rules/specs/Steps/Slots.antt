@@ -9,8 +9,9 @@ use Rattle.book.specs.declared.AttemptSlots.{AttemptSlots}
 use Rattle.book.specs.declared.SubmittedEntry.{SubmittedEntry}
 use Rattle.rules.specs.Parts.{current_bundle, current_fingerprint, open_fee_intent}
 use Rattle.book_answers.specs.declared.DrainedSubmission.{DrainedSubmission}
-use Rattle.book_answers.specs.declared.OptionalToken.{OptionalToken}
-use Rattle.book_answers.specs.declared.OptionalToken.TheVariants.{NoToken, Of}
+use Rattle.std.specs.Prelude.{Option}
+use Rattle.book.specs.declared.Token.{Token}
+use Rattle.std.specs.Prelude.{None, Some}
 use Rattle.book_answers.specs.declared.SubmissionAttemptRelationship.{SubmissionAttemptRelationship}
 use Rattle.book_answers.specs.declared.SubmissionAttemptRelationship.TheVariants.{Initial, Exact, NewerFeeBearing, Other}
 
@@ -58,8 +59,8 @@ unfoldable pub relationship_to : OptionalAttempt → SubmissionDeliveryGoal → 
 unfolding resolved
 relationship_to p g v = cond p.present (cond (is_ensure_broadcast g) (cond (eqs (resolved p.attempt) v) Exact Other) NewerFeeBearing) Initial
 
-abbrev pub token_in : OptionalAttempt → OptionalToken
-token_in p = cond p.present (Of p.attempt.token) NoToken
+abbrev pub token_in : OptionalAttempt → Option Token
+token_in p = cond p.present (Some p.attempt.token) None
 
 -- what a drain hands out for a submission that gets a token
 unfoldable pub handed : ℕ → SubmissionDeliveryGoal → SubmittedEntry → OptionalAttempt → DrainedSubmission

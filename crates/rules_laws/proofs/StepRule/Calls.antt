@@ -5,7 +5,7 @@ use Rattle.std.proofs.Common.{true≢false, ap, sym, ◌∙◌, arith, eqb-true}
 use mathlib.Core.List.{List}
 use Rattle.std.proofs.Math.Path.{refl}
 use Rattle.base_lists.specs.Laws.{and_split}
-use Rattle.base_lists.specs.Lists.{anyb}
+use Rattle.std.specs.List.{list_any}
 use Rattle.book.specs.Model.{Book}
 use Rattle.rules.specs.Books.{call_book, answer_book}
 use Rattle.book_answers.specs.declared.DrainedSubmission.{DrainedSubmission}
@@ -23,7 +23,7 @@ use Rattle.rules_laws.specs.StepRule.Calls.{paced, Numbered, refused_by}
 -- "A call is refused as full exactly if, after some step of the unlimited rules, retained, queue or retirements exceed their limit":
 -- otherwise it comes to what the unlimited rules come to
 pub full_by_steps : (encode : Book → List ℕ) (c : Call) (b : Book) → SoundBook b
-    → run_book (rules encode c) b ≡ guarded (anyb full (books_after (rules encode c) b)) (run_free (rules encode c) b)
+    → run_book (rules encode c) b ≡ guarded (list_any full (books_after (rules encode c) b)) (run_free (rules encode c) b)
 full_by_steps encode c b s = step_rule false (rules encode c) b (paced encode c) (short_of b s.fits)
 
 numbered_logged : {A : Type 0} (ok : ℕ → Bool) (xs : List DrainedSubmission) (k : Outcome Book A) → Numbered ok k → Numbered ok (logged xs k)
@@ -75,10 +75,10 @@ numbered_free P g (turn r) b p = numbered_free P false r b p
 -- "A call is refused as full exactly if, after some step of the unlimited rules, retained, queue or retirements exceed their limit": for
 -- no other reason, since its rules do not say 10 themselves
 pub refused_full : (encode : Book → List ℕ) (c : Call) (b : Book) → SoundBook b
-    → refused_by refusals.full (answer_book encode c b) ≡ anyb full (books_after (rules encode c) b)
+    → refused_by refusals.full (answer_book encode c b) ≡ list_any full (books_after (rules encode c) b)
 unfolding answer_book
 refused_full encode c b s = ap (λ (k : Outcome Book Value). refused_by refusals.full (answered k)) (full_by_steps encode c b s)
-    ∙ go (anyb full (books_after (rules encode c) b)) (run_free (rules encode c) b) (numbered_free Settled false (rules encode c) b (paced encode c))
+    ∙ go (list_any full (books_after (rules encode c) b)) (run_free (rules encode c) b) (numbered_free Settled false (rules encode c) b (paced encode c))
   where
     go : (t : Bool) (k : Outcome Book Value) → Numbered turns_away k → refused_by refusals.full (answered (guarded t k)) ≡ t
     go true k h = refl

@@ -3,18 +3,18 @@ use Rattle.std.specs.Prelude.{ℕ, suc, Bool, true, false, cond, ◌&&◌, ◌�
 use Rattle.std.proofs.Math.Bool.{not}
 use Rattle.std.proofs.Common.{ap, sym, ◌∙◌}
 use mathlib.Core.List.{List, [], ◌∷◌, map}
-use Rattle.std.proofs.Math.Option.{Option, none, some}
+use Rattle.std.specs.Prelude.{Option, None, Some}
 use borrow.Author.Tests.{eqb-true, not-false}
 use Rattle.base_lists.specs.Bytes.{eqs}
-use Rattle.base_lists.specs.Lists.{filterb, flat_map, elemb, rising, allb}
+use Rattle.base_lists.specs.Lists.{elemb, rising}
+use Rattle.std.specs.List.{filter, flat_map, list_all}
 use Rattle.base_coin_string.specs.CoinIds.{id_listb, ids_in}
 use Rattle.base_coin_string.specs.CoinList.{coins_in, coin_listb}
 use Rattle.book.specs.declared.Height.{Height}
 use Rattle.book.specs.declared.SpendBundle.{SpendBundle}
 use Rattle.book.specs.declared.SubmittedTx.{SubmittedTx}
 use Rattle.book.specs.declared.PendingDelivery.{PendingDelivery}
-use Rattle.book.specs.declared.OptionalId.{OptionalId}
-use Rattle.book.specs.declared.OptionalId.TheVariants.{NoId, Of}
+use Rattle.book.specs.declared.SubmissionId.{SubmissionId}
 use Rattle.book.specs.declared.SubmissionDeliveryGoal.{SubmissionDeliveryGoal}
 use Rattle.book.specs.declared.SubmissionDeliveryGoal.TheVariants.{EnsureBroadcast}
 use Rattle.book.specs.declared.DeliveryTrigger.{DeliveryTrigger}
@@ -105,10 +105,10 @@ pub redelivery_sound : (trigger : DeliveryTrigger) (g : SubmissionDeliveryGoal) 
 unfolding sound_delivery sound_intent redelivery
 redelivery_sound trigger g e h = let s = (sound_entry_lem e h).intent in and_both s.base s.fee_intent
 
-taken_offer_to : (P : Unit {0} → Type 0) → P tt → (w : DeliveryTrigger) (g : SubmissionDeliveryGoal) (q : Bool) (ts : List SubmittedTx) → allb sound_submitted ts ≡ true → (b : Book) → TakenTo P b (offer_to w g q ts)
+taken_offer_to : (P : Unit {0} → Type 0) → P tt → (w : DeliveryTrigger) (g : SubmissionDeliveryGoal) (q : Bool) (ts : List SubmittedTx) → list_all sound_submitted ts ≡ true → (b : Book) → TakenTo P b (offer_to w g q ts)
 taken_offer_to P h w g q [] k b = h
 taken_offer_to P h w g q (t ∷ ts) k b =
-    let u = and_split (sound_submitted t) (allb sound_submitted ts) k in
+    let u = and_split (sound_submitted t) (list_all sound_submitted ts) k in
     taken_cond P b (not q && deliverable w g t) _ _ (λ e. (redelivery_sound w g t.entry (sound_submitted_lem t u.0).entry, λ c x. h)) (λ e. h)
 
 -- the rules behind an offer
@@ -161,7 +161,7 @@ taken_offers w (t ∷ ts) b s = taken_offered (id_of t) w (goal_for t.entry) (λ
 
 taken_readiness : AllTaken queue_fee_readiness
 unfolding queue_fee_readiness
-taken_readiness b s = taken_offers ProviderReadiness (filterb (λ t. active_entry t.entry && fee_unresolved t.entry) b.submitted) b s
+taken_readiness b s = taken_offers ProviderReadiness (filter (λ t. active_entry t.entry && fee_unresolved t.entry) b.submitted) b s
 
 -- ---- drain
 module _ (P : Memory → Type 0) (h : (a : Memory) → P a) where
@@ -173,8 +173,8 @@ module _ (P : Memory → Type 0) (h : (a : Memory) → P a) where
   module _ (n : ℕ) (c : PendingDelivery) (k : sound_delivery c ≡ true) where
     taken_known_by : (f : List ℕ) (t : SubmittedTx) (a : Memory) (m : Option DrainFailureCause) (b : Book) → TakenTo P b (known_by n c f t a m)
     unfolding met withdraw
-    taken_known_by f t a none b = (refl, λ d x. taken_cond P d (wanted c.goal t.entry) _ _ (λ e. taken_deliver (id_of t) c.goal a d) (λ e. h a))
-    taken_known_by f t a (some m) b = (refl, λ d x. (refl, λ e y. h _))
+    taken_known_by f t a None b = (refl, λ d x. taken_cond P d (wanted c.goal t.entry) _ _ (λ e. taken_deliver (id_of t) c.goal a d) (λ e. h a))
+    taken_known_by f t a (Some m) b = (refl, λ d x. (refl, λ e y. h _))
 
     -- plan 3 retains what is sound and readable, under an id that is not retained
     taken_unknown : (f : List ℕ) (a : Memory) (b : Book) → TakenTo P b (unknown n c f b a)
@@ -195,19 +195,19 @@ module _ (P : Memory → Type 0) (h : (a : Memory) → P a) where
     taken_unnamed f a [] b = taken_unknown f a b
     taken_unnamed f a (t ∷ ts) b = taken_known_by f t a (miss_of c.intent f t.entry) b
 
-    taken_planned : (f : List ℕ) (a : Memory) (i : OptionalId) (b : Book) → TakenTo P b (planned_by n c f b a i)
-    taken_planned f a NoId b = taken_unnamed f a (filterb (λ t. eqs t.entry.intent.intent_fingerprint f) b.submitted) b
-    taken_planned f a (Of i) b = taken_named f i.0 a (pick id_of i.0 b.submitted) b
+    taken_planned : (f : List ℕ) (a : Memory) (i : Option SubmissionId) (b : Book) → TakenTo P b (planned_by n c f b a i)
+    taken_planned f a None b = taken_unnamed f a (filter (λ t. eqs t.entry.intent.intent_fingerprint f) b.submitted) b
+    taken_planned f a (Some i) b = taken_named f i.0 a (pick id_of i.0 b.submitted) b
 
     taken_one : (a : Memory) (b : Book) → TakenTo P b (one_candidate n c a)
     unfolding one_candidate candidate
     taken_one a b = taken_cond P b (is_one_of c.intent.id a.removed) _ _ (λ e. h a) (λ e. taken_planned (intent_of c.intent) a c.intent.id b)
 
-taken_candidates : (n : ℕ) (cs : List PendingDelivery) → allb sound_delivery cs ≡ true → (a : Memory) → AllTaken (candidates n cs a)
+taken_candidates : (n : ℕ) (cs : List PendingDelivery) → list_all sound_delivery cs ≡ true → (a : Memory) → AllTaken (candidates n cs a)
 unfolding candidates
 taken_candidates n [] k a b s = tt
 taken_candidates n (c ∷ cs) k a b s =
-    let u = and_split (sound_delivery c) (allb sound_delivery cs) k in
+    let u = and_split (sound_delivery c) (list_all sound_delivery cs) k in
     taken_bind Ends (one_candidate n c a) (λ m. turn (candidates (suc n) cs m)) b s
     (taken_one (After Ends (λ m. turn (candidates (suc n) cs m))) (λ m. taken_candidates (suc n) cs u.1 m) n c u.0 a b)
 
@@ -312,7 +312,7 @@ taken_marks b0 r h (i ∷ is) b s = go (elemb i b0.replayed) (taken_marks b0 r h
 taken_collect : (is : List ℕ) → AllTaken (collect_rollback_replay_ids is)
 unfolding collect_rollback_replay_ids
 taken_collect is b s = taken_cond Ends b (ids_ok is) _ _
-    (λ e. taken_marks b _ (taken_offer_again (filterb (λ i. elemb i is) (map id_of b.submitted))) (filterb (λ i. elemb i is) (map id_of b.submitted)) b s) (λ e. tt)
+    (λ e. taken_marks b _ (taken_offer_again (filter (λ i. elemb i is) (map id_of b.submitted))) (filter (λ i. elemb i is) (map id_of b.submitted)) b s) (λ e. tt)
 
 taken_set_asides : (is : List ℕ) → AllTaken (set_aside_each is)
 unfolding set_aside_each
@@ -356,7 +356,7 @@ all_taken encode (Call.CausallyRolledBackIds absent inputs) = taken_map ids_are 
 all_taken encode (Call.AbsentOutputsForIds is absent room) =
     taken_map written (absent_outputs_for_ids is absent room)
     (λ b s. taken_cond Ends b (ids_ok is && coin_listb absent) _ _
-    (λ e. taken_writing room (encode_coins (flat_map (λ t. absent_outputs (coins_in absent) t.entry.intent) (filterb (λ t. elemb (id_of t) is) b.submitted))) b s) (λ e. tt))
+    (λ e. taken_writing room (encode_coins (flat_map (λ t. absent_outputs (coins_in absent) t.entry.intent) (filter (λ t. elemb (id_of t) is) b.submitted))) b s) (λ e. tt))
 all_taken encode (Call.CollectRollbackReplayIds is) = taken_map nothing (collect_rollback_replay_ids is) (taken_collect is)
 all_taken encode Call.ClearLocalArtifacts = taken_map nothing clear_local_artifacts taken_clear
 all_taken encode Call.RestoreRuntime = taken_map nothing restore_runtime (λ b s. taken_set_asides (map id_of b.submitted) b s)

@@ -5,7 +5,8 @@ use mathlib.Core.List.{List, [], ◌∷◌, ◌++◌, map, append-nil, cons≢ni
 use Rattle.std.proofs.Math.Path.{refl, ap}
 use Rattle.std.proofs.Common.{sym, ◌∙◌, subst, arith, eqb-true, lt-ltb, ltb-true}
 use Rattle.base_lists.specs.Laws.{and_split, or-false, all_snoc, flat_append, elem_append}
-use Rattle.base_lists.specs.Lists.{allb, filterb, flat_map, elemb, distinctb, insert_up, risingb}
+use Rattle.base_lists.specs.Lists.{elemb, distinctb, insert_up, risingb}
+use Rattle.std.specs.List.{list_all, filter, flat_map}
 use Rattle.base_lists.specs.Sub.{Sub, sub_all, sub_append, filter_sub, all_sub, map_sub, flat_sub, distinct_sub, push_new_distinct, distinct_snoc}
 use Rattle.book.specs.declared.AttemptSlots.{AttemptSlots}
 use Rattle.book.specs.declared.SubmittedTx.{SubmittedTx}
@@ -39,7 +40,7 @@ sound_note (enqueue d) b s = record {
   pending = go (sound_delivery d) refl;
 }
   where
-    go : (t : Bool) → sound_delivery d ≡ t → allb sound_delivery (cond t (b.pending ++ d ∷ []) b.pending) ≡ true
+    go : (t : Bool) → sound_delivery d ≡ t → list_all sound_delivery (cond t (b.pending ++ d ∷ []) b.pending) ≡ true
     go true q = all_snoc sound_delivery b.pending d s.pending q
     go false q = s.pending
 sound_note (unqueue i) b s = record {
@@ -131,7 +132,7 @@ sound_replay i b s = record {
     rises true true q = s.rising
     rises true false q = rising_insert i b.replayed s.rising q
 
-    knows : (x : Bool) → elemb i (map id_of b.submitted) ≡ x → (y : Bool) → allb (λ j. elemb j (map id_of b.submitted)) (cond (x && not y) (insert_up i b.replayed) b.replayed) ≡ true
+    knows : (x : Bool) → elemb i (map id_of b.submitted) ≡ x → (y : Bool) → list_all (λ j. elemb j (map id_of b.submitted)) (cond (x && not y) (insert_up i b.replayed) b.replayed) ≡ true
     knows false q y = s.replayed
     knows true q true = s.replayed
     knows true q false = all_insert (λ j. elemb j (map id_of b.submitted)) i b.replayed q s.replayed
@@ -156,11 +157,11 @@ sound_revise i r b s = record {
   submitted = all_change sound_submitted id_of i (with_entry (revised r)) (sound_entry_lem r) b.submitted s.submitted;
   ids = ap distinctb (ids_entry r i b.submitted) ∙ s.ids;
   tokens = ap distinctb (tokens_entry r i b.submitted) ∙ s.tokens;
-  below = ap (allb (λ t. ltb t b.next_token.0)) (tokens_entry r i b.submitted) ∙ s.below;
+  below = ap (list_all (λ t. ltb t b.next_token.0)) (tokens_entry r i b.submitted) ∙ s.below;
   pending = s.pending;
   retired = s.retired;
   rising = s.rising;
-  replayed = ap (λ (is : List ℕ). allb (λ j. elemb j is) b.replayed) (ids_entry r i b.submitted) ∙ s.replayed;
+  replayed = ap (λ (is : List ℕ). list_all (λ j. elemb j is) b.replayed) (ids_entry r i b.submitted) ∙ s.replayed;
 }
 
 ids_slots : (g : AttemptSlots → AttemptSlots) (i : ℕ) (ts : List SubmittedTx) → map id_of (change id_of i (with_slots g) ts) ≡ map id_of ts
@@ -177,7 +178,7 @@ sound_mark g keeps fewer i b s = record {
   pending = s.pending;
   retired = s.retired;
   rising = s.rising;
-  replayed = ap (λ (is : List ℕ). allb (λ j. elemb j is) b.replayed) (ids_slots g i b.submitted) ∙ s.replayed;
+  replayed = ap (λ (is : List ℕ). list_all (λ j. elemb j is) b.replayed) (ids_slots g i b.submitted) ∙ s.replayed;
 }
 
 -- ---- a new submission
@@ -188,11 +189,11 @@ sound_retained p b s h r n = record {
   submitted = all_snoc sound_submitted b.submitted new s.submitted (sound_new b.next_id p h r);
   ids = ap distinctb ids_are_lem ∙ distinct_snoc (map id_of b.submitted) b.next_id.0 s.ids n;
   tokens = ap distinctb tokens_are ∙ s.tokens;
-  below = ap (allb (λ t. ltb t b.next_token.0)) tokens_are ∙ s.below;
+  below = ap (list_all (λ t. ltb t b.next_token.0)) tokens_are ∙ s.below;
   pending = s.pending;
   retired = s.retired;
   rising = s.rising;
-  replayed = ap (λ (is : List ℕ). allb (λ j. elemb j is) b.replayed) ids_are_lem
+  replayed = ap (λ (is : List ℕ). list_all (λ j. elemb j is) b.replayed) ids_are_lem
       ∙ all_weaken (λ j. elemb j (map id_of b.submitted)) (λ j. elemb j (map id_of b.submitted ++ b.next_id.0 ∷ [])) (λ j k. elem_append j (map id_of b.submitted) (b.next_id.0 ∷ []) ∙ ap (λ (t : Bool). t || elemb j (b.next_id.0 ∷ [])) k) b.replayed s.replayed;
 }
   where
@@ -233,7 +234,7 @@ sound_remove i b s = record {
   replayed = all_elem_without id_of i b.submitted b.replayed s.replayed;
 }
   where
-    less : Sub (filterb (λ t. not (eqb (id_of t) i)) b.submitted) b.submitted
+    less : Sub (filter (λ t. not (eqb (id_of t) i)) b.submitted) b.submitted
     less = filter_sub (λ t. not (eqb (id_of t) i)) b.submitted
 
 -- ---- issuing
@@ -279,7 +280,7 @@ sound_issue i g v b h s = record {
   pending = s.pending;
   retired = s.retired;
   rising = s.rising;
-  replayed = ap (λ (is : List ℕ). allb (λ j. elemb j is) b.replayed) (ids_slots new i b.submitted) ∙ s.replayed;
+  replayed = ap (λ (is : List ℕ). list_all (λ j. elemb j is) b.replayed) (ids_slots new i b.submitted) ∙ s.replayed;
 }
   where
     n : ℕ

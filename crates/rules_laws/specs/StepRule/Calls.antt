@@ -2,18 +2,18 @@
 use Rattle.std.specs.Prelude.{ℕ, suc, Bool, cond, not, ◌&&◌, ◌||◌, ◌≡◌, eqb, leb, length}
 use Rattle.std.proofs.Math.Bool.{true, false}
 use mathlib.Core.List.{List, [], ◌∷◌, map}
-use Rattle.std.proofs.Math.Option.{Option, none, some}
+use Rattle.std.specs.Prelude.{Option, None, Some}
 use Rattle.std.proofs.Math.Path.{refl}
 use Rattle.base_lists.specs.Bytes.{eqs}
-use Rattle.base_lists.specs.Lists.{filterb, flat_map, elemb, rising}
+use Rattle.base_lists.specs.Lists.{elemb, rising}
+use Rattle.std.specs.List.{filter, flat_map}
 use Rattle.base_coin_string.specs.CoinIds.{id_listb, ids_in}
 use Rattle.base_coin_string.specs.CoinList.{coins_in, coin_listb}
 use Rattle.book.specs.declared.Height.{Height}
 use Rattle.book.specs.declared.SpendBundle.{SpendBundle}
 use Rattle.book.specs.declared.SubmittedTx.{SubmittedTx}
 use Rattle.book.specs.declared.PendingDelivery.{PendingDelivery}
-use Rattle.book.specs.declared.OptionalId.{OptionalId}
-use Rattle.book.specs.declared.OptionalId.TheVariants.{NoId, Of}
+use Rattle.book.specs.declared.SubmissionId.{SubmissionId}
 use Rattle.book.specs.declared.SubmissionDeliveryGoal.{SubmissionDeliveryGoal}
 use Rattle.book.specs.declared.SubmissionDeliveryGoal.TheVariants.{EnsureBroadcast}
 use Rattle.book.specs.declared.DeliveryTrigger.{DeliveryTrigger}
@@ -150,7 +150,7 @@ paced_offers w (t ∷ ts) = paced_bind Settled false (offer (id_of t) w (goal_fo
 
 paced_readiness : Paced queue_fee_readiness
 unfolding queue_fee_readiness
-paced_readiness = λ b. paced_offers ProviderReadiness (filterb (λ t. active_entry t.entry && fee_unresolved t.entry) b.submitted)
+paced_readiness = λ b. paced_offers ProviderReadiness (filter (λ t. active_entry t.entry && fee_unresolved t.entry) b.submitted)
 
 -- ---- drain
 module _ (P : Bool → Memory → Type 0) (h : (g : Bool) (a : Memory) → P g a) where
@@ -164,8 +164,8 @@ module _ (P : Bool → Memory → Type 0) (h : (g : Bool) (a : Memory) → P g a
   paced_met c t a = (refl, paced_cond P false (wanted c.goal t.entry) _ _ (paced_deliver false (id_of t) c.goal a) (h false a))
 
   paced_known : (n : ℕ) (c : PendingDelivery) (f : List ℕ) (t : SubmittedTx) (a : Memory) (m : Option DrainFailureCause) → PacedTo P false (known_by n c f t a m)
-  paced_known n c f t a none = paced_met c t a
-  paced_known n c f t a (some m) = paced_bind P false (withdraw (id_of t)) _ (paced_withdraw _ (λ g. h g _) (id_of t))
+  paced_known n c f t a None = paced_met c t a
+  paced_known n c f t a (Some m) = paced_bind P false (withdraw (id_of t)) _ (paced_withdraw _ (λ g. h g _) (id_of t))
 
   paced_unknown : (n : ℕ) (c : PendingDelivery) (f : List ℕ) (b : Book) (a : Memory) → PacedTo P false (unknown n c f b a)
   unfolding unknown
@@ -185,9 +185,9 @@ module _ (P : Bool → Memory → Type 0) (h : (g : Bool) (a : Memory) → P g a
   paced_unnamed n c f b a [] = paced_unknown n c f b a
   paced_unnamed n c f b a (t ∷ ts) = paced_known n c f t a (miss_of c.intent f t.entry)
 
-  paced_planned : (n : ℕ) (c : PendingDelivery) (f : List ℕ) (b : Book) (a : Memory) (i : OptionalId) → PacedTo P false (planned_by n c f b a i)
-  paced_planned n c f b a NoId = paced_unnamed n c f b a (filterb (λ t. eqs t.entry.intent.intent_fingerprint f) b.submitted)
-  paced_planned n c f b a (Of i) = paced_named n c f i.0 a (pick id_of i.0 b.submitted)
+  paced_planned : (n : ℕ) (c : PendingDelivery) (f : List ℕ) (b : Book) (a : Memory) (i : Option SubmissionId) → PacedTo P false (planned_by n c f b a i)
+  paced_planned n c f b a None = paced_unnamed n c f b a (filter (λ t. eqs t.entry.intent.intent_fingerprint f) b.submitted)
+  paced_planned n c f b a (Some i) = paced_named n c f i.0 a (pick id_of i.0 b.submitted)
 
   paced_one : (n : ℕ) (c : PendingDelivery) (a : Memory) → PacedTo P false (one_candidate n c a)
   unfolding one_candidate candidate
@@ -301,7 +301,7 @@ paced_marks b r h (i ∷ is) = go (elemb i b.replayed) (paced_marks b r h is)
 paced_collect : (is : List ℕ) → Paced (collect_rollback_replay_ids is)
 unfolding collect_rollback_replay_ids
 paced_collect is = paced_cond Settled false (ids_ok is) _ _
-    (λ b. paced_marks b _ (paced_offer_again (filterb (λ i. elemb i is) (map id_of b.submitted))) (filterb (λ i. elemb i is) (map id_of b.submitted))) (refl, refl)
+    (λ b. paced_marks b _ (paced_offer_again (filter (λ i. elemb i is) (map id_of b.submitted))) (filter (λ i. elemb i is) (map id_of b.submitted))) (refl, refl)
 
 paced_set_asides : (is : List ℕ) → Paced (set_aside_each is)
 unfolding set_aside_each
@@ -346,7 +346,7 @@ paced encode (Call.CausallyRolledBackIds absent inputs) =
 paced encode (Call.AbsentOutputsForIds is absent room) =
     paced_map written (absent_outputs_for_ids is absent room)
     (paced_cond Settled false (ids_ok is && coin_listb absent) _ _
-    (λ b. paced_writing room (encode_coins (flat_map (λ t. absent_outputs (coins_in absent) t.entry.intent) (filterb (λ t. elemb (id_of t) is) b.submitted)))) (refl, refl))
+    (λ b. paced_writing room (encode_coins (flat_map (λ t. absent_outputs (coins_in absent) t.entry.intent) (filter (λ t. elemb (id_of t) is) b.submitted)))) (refl, refl))
 paced encode (Call.CollectRollbackReplayIds is) = paced_map nothing (collect_rollback_replay_ids is) (paced_collect is)
 paced encode Call.ClearLocalArtifacts = paced_map nothing clear_local_artifacts paced_clear
 paced encode Call.RestoreRuntime = paced_map nothing restore_runtime (λ b. paced_set_asides (map id_of b.submitted))

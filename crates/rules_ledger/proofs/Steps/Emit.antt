@@ -2,7 +2,7 @@
 use Rattle.std.specs.Prelude.{ℕ, suc, Bool, true, false, cond, ◌≡◌, eqb}
 use Rattle.std.proofs.lemmas.Bool.{false≢true}
 use mathlib.Core.List.{List, [], ◌∷◌, map, cons≢nil}
-use Rattle.std.proofs.Math.Option.{some}
+use Rattle.std.specs.Prelude.{Some}
 use Rattle.std.proofs.Math.Path.{refl}
 use Rattle.std.proofs.Common.{sym, ap}
 use Rattle.book.specs.declared.DeliveryAttempt.{DeliveryAttempt}
@@ -65,7 +65,7 @@ last_to_lem i [] = refl
 last_to_lem i (r ∷ rows) = go (eqb r.id i) (last_to_lem i rows)
   where
     go : (t : Bool) → token_of (token_in (last_of (pick row_id i rows))) ≡ last_to i (map issue_of rows)
-        → token_of (token_in (last_of (cond t (r ∷ pick row_id i rows) (pick row_id i rows)))) ≡ cond t (some (row_token r)) (last_to i (map issue_of rows))
+        → token_of (token_in (last_of (cond t (r ∷ pick row_id i rows) (pick row_id i rows)))) ≡ cond t (Some (row_token r)) (last_to i (map issue_of rows))
     go true ih = refl
     go false ih = ih
 

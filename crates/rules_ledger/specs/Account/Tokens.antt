@@ -2,7 +2,9 @@
 use Rattle.std.specs.Prelude.{ℕ, zero, suc, ◌+◌, ◌-◌, Bool, true, false, cond, ◌≡◌, refl, eqb, length}
 use mathlib.Core.List.Memᴰ
 use mathlib.Core.List.{List, [], ◌∷◌, map, Memᴰ}
-use Rattle.std.proofs.Math.Option.{none, some, none-ne-some, some-injective}
+use Rattle.std.specs.Prelude.{None, Some}
+use Rattle.std.proofs.lemmas.Option.{none-some}
+use Rattle.std.specs.Prelude.{unwrap_or}
 use Rattle.std.proofs.Common.{sym, ap, ap₂, ◌∙◌, arith, eqb-true, eq-eqb}
 use Rattle.rules_ledger.specs.Ledger.{Row, Ledger, row_token}
 use Rattle.rules_ledger.specs.Tidy.{Issue, issue_of, Down, Tidy, last_to}
@@ -32,21 +34,21 @@ module _ {o : ℕ} (l : Ledger) (t : Tidy o l) where
       size = let e = next_token_lem in omega arith
 
 -- no token is the last one issued to i exactly where none was issued to it
-pub none_issued : (i : ℕ) (h : List Issue) → last_to i h ≡ none → (x : Issue) → Memᴰ x h → x.id ≡ i → ⊥
+pub none_issued : (i : ℕ) (h : List Issue) → last_to i h ≡ None → (x : Issue) → Memᴰ x h → x.id ≡ i → ⊥
 unfolding last_to
 none_issued i [] e x m k = Memᴰ.not-nil m
-none_issued i (y ∷ h) e x (Memᴰ.head p) k = none-ne-some y.token (sym (rw (eq-eqb y.id i (ap (λ z. z.id) (sym p) ∙ k)) at e))
+none_issued i (y ∷ h) e x (Memᴰ.head p) k = none-some y.token (sym (rw (eq-eqb y.id i (ap (λ z. z.id) (sym p) ∙ k)) at e))
 none_issued i (y ∷ h) e x (Memᴰ.tail m) k = go (eqb y.id i) e (λ q. none_issued i h q x m k)
   where
-    go : (t : Bool) → cond t (some y.token) (last_to i h) ≡ none → (last_to i h ≡ none → ⊥) → ⊥
-    go true q ih = none-ne-some y.token (sym q)
+    go : (t : Bool) → cond t (Some y.token) (last_to i h) ≡ None → (last_to i h ≡ None → ⊥) → ⊥
+    go true q ih = none-some y.token (sym q)
     go false q ih = ih q
 
-pub some_issued : (i t : ℕ) (h : List Issue) → last_to i h ≡ some t → Memᴰ (record { token = t; id = i }) h
+pub some_issued : (i t : ℕ) (h : List Issue) → last_to i h ≡ Some t → Memᴰ (record { token = t; id = i }) h
 unfolding last_to
-some_issued i t [] e = absurd (none-ne-some t e)
+some_issued i t [] e = absurd (none-some t e)
 some_issued i t (y ∷ h) e = go (eqb y.id i) refl e (λ q. some_issued i t h q)
   where
-    go : (b : Bool) → eqb y.id i ≡ b → cond b (some y.token) (last_to i h) ≡ some t → (last_to i h ≡ some t → Memᴰ (record { token = t; id = i }) h) → Memᴰ (record { token = t; id = i }) (y ∷ h)
-    go true k q ih = Memᴰ.head (λ j. record { token = sym (some-injective y.token t q) j; id = sym (eqb-true y.id i k) j })
+    go : (b : Bool) → eqb y.id i ≡ b → cond b (Some y.token) (last_to i h) ≡ Some t → (last_to i h ≡ Some t → Memᴰ (record { token = t; id = i }) h) → Memᴰ (record { token = t; id = i }) (y ∷ h)
+    go true k q ih = Memᴰ.head (λ j. record { token = sym (ap (λ o. unwrap_or o y.token) q) j; id = sym (eqb-true y.id i k) j })
     go false k q ih = Memᴰ.tail (ih q)

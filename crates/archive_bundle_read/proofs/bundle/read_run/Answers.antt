@@ -3,7 +3,7 @@ use Rattle.archive_bundle_read.specs.Runs.{run_unreadable, run_readable}
 use Rattle.archive_bundle_read.proofs.bundle.read_run.Goals as goal
 
 pub returns-then-mark-eq0 : goal.returns-then-mark-eq0
-returns-then-mark-eq0 c = rw (c.pass.ensures, c.zero-z.ensures) (run_unreadable c.args.base c.read_count-mark.ensures c.if-mark-eq0.true)
+returns-then-mark-eq0 c = rw (c.pass.ensures, c.zero-outputs.ensures) (run_unreadable c.args.base c.read_count-mark.ensures c.if-mark-eq0.true)
 
 pub returns : goal.returns
-returns c = run_readable c.args.base c.read_count-mark.ensures c.if-mark-eq0.false c.read_outputs-o.ensures
+returns c = run_readable c.args.base c.read_count-mark.ensures c.if-mark-eq0.false c.read_list-count.ensures

@@ -1,8 +1,22 @@
--- A kind is a count in another form.
+-- A kind is a count in another form; the last kind stands for every number from its own on.
+use Rattle.std.proofs.Common.{arith, refl, sym, ap}
 use Rattle.archive_form.specs.Parse.{trigger_of, parse_trigger}
 use Rattle.codec_cursor.specs.Cursor.{reads_mapped}
+use Rattle.archive_bundle_read.specs.Parts.{after_three}
 use Rattle.archive_bundle_read.proofs.kind.read_trigger.Goals as goal
 
-pub returns : goal.returns
+pub returns-in-0 : goal.returns-in-0
 unfolding parse_trigger
-returns c = reads_mapped trigger_of c.read_count-n.ensures.reads c.trigger_of.ensures
+returns-in-0 c = reads_mapped trigger_of c.read_count.ensures.reads (ap trigger_of (sym c.in-0.is))
+
+pub returns-in-1 : goal.returns-in-1
+unfolding parse_trigger
+returns-in-1 c = reads_mapped trigger_of c.read_count.ensures.reads (ap trigger_of (sym c.in-1.is))
+
+pub returns-in-2 : goal.returns-in-2
+unfolding parse_trigger
+returns-in-2 c = reads_mapped trigger_of c.read_count.ensures.reads (ap trigger_of (sym c.in-2.is))
+
+pub returns-in_default : goal.returns-in_default
+unfolding parse_trigger
+returns-in_default c = reads_mapped trigger_of c.read_count.ensures.reads (after_three trigger_of (λ k. refl) c.read_count.result (λ e. omega arith) (λ e. omega arith) (λ e. omega arith))

@@ -1,12 +1,13 @@
 -- One law for each kind.
+use Rattle.std.proofs.Common.{arith}
 use Rattle.archive_bundle_read.specs.Parts.{fee_paid, fee_none, fee_attach}
 use Rattle.archive_bundle_read.proofs.part.read_fee_intent.Goals as goal
 
-pub returns-then-n-eq0 : goal.returns-then-n-eq0
-returns-then-n-eq0 c = fee_paid c.read_count-n.ensures.reads c.if-n-eq0.true
+pub returns-in-0 : goal.returns-in-0
+returns-in-0 c = fee_paid c.read_count.ensures.reads c.in-0.is
 
-pub returns-then-n-eq1 : goal.returns-then-n-eq1
-returns-then-n-eq1 c = fee_none c.read_count-n.ensures.reads c.if-n-eq1.true
+pub returns-in-1 : goal.returns-in-1
+returns-in-1 c = fee_none c.read_count.ensures.reads c.in-1.is
 
-pub returns : goal.returns
-returns c = fee_attach c.read_count-n.ensures.reads c.if-n-eq0.false c.if-n-eq1.false c.read_hash-target.ensures c.read_number-amount.ensures
+pub returns-in_default : goal.returns-in_default
+returns-in_default c = fee_attach c.read_count.ensures.reads (λ e. omega arith) (λ e. omega arith) c.read_hash-target.ensures c.read_number-amount.ensures

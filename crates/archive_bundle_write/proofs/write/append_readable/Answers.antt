@@ -1,14 +1,15 @@
 -- Each item follows the one before it (`fits_join`).
-use Rattle.base_lists.specs.Laws.{count_cut}
-use Rattle.codec_forms.specs.Wire.{be}
+use Rattle.std.proofs.Common.{rules, ◌≡◌, sym, append_assoc, length, take}
+use Rattle.codec_forms.specs.Wire.{be, enc_many, enc_list}
 use Rattle.codec_append.specs.Fits.{fits_join, fits_as}
-use borrow.Author.Rules.{rules}
-use mathlib.Core.Path.{◌≡◌, ap}
-use lib.ListN.{length}
+use Rattle.archive_bundle_form.specs.Forms.{encode_output}
+use Rattle.archive_bundle_write.specs.Laws.{list_cut}
 use Rattle.archive_bundle_write.proofs.write.append_readable.Goals as goal
 
 pub returns : goal.returns
+unfolding enc_list
 returns c =
-    let l : length c.args.a ≡ 4 = search rules in
-    let q = ap (be 1) (count_cut 4 c.args.n c.at_most-k.result c.args.a l c.at_most-k.ensures) in
-    fits_join (fits_join c.append_byte-mark.ensures (fits_as q c.append_byte-count.ensures)) c.append_outputs.ensures
+    let l : length c.args.a.now ≡ 4 = search rules in
+    let a = take c.args.n c.args.a.now in
+    fits_as (sym (append_assoc (be 1 1) (be 1 (length a)) (enc_many encode_output a)))
+    (fits_join c.append_byte-e.ensures (list_cut encode_output 4 c.args.n c.args.a.now l c.min-k.ensures c.append_list.ensures))

@@ -2,9 +2,9 @@
 use mathlib.Core.Bool.{Bool, not, ◌&&◌}
 use lib.Dec.{ltb}
 use Rattle.book.specs.Sound.{attempt_token}
-use Rattle.archive_entry_read.specs.Entries.{elem_both}
-use mathlib.Core.Path.{ap}
+use Rattle.archive_entry_read.specs.Entries.{elem_any, elem_both}
+use mathlib.Core.Path.{ap, ◌∙◌}
 use Rattle.archive_entry_read.proofs.attempt.fresh_token.Goals as goal
 
 pub returns : goal.returns
-returns c = ap (λ (b : Bool). ltb c.args.token.0 c.args.next.0 && not b) (elem_both c.args.token.0 c.args.held.now (attempt_token c.args.live) c.contains-before.ensures c.slot_holds-twin.ensures)
+returns c = ap (λ (b : Bool). ltb c.args.token.0 c.args.next.0 && not b) (elem_both c.args.token.0 c.args.held.now (attempt_token c.args.live) (c.contains-before.ensures.value ∙ elem_any c.args.token.0 c.args.held.now) c.slot_holds-twin.ensures)

@@ -3,11 +3,7 @@ use Rattle.archive_form.specs.Parse.{parse_submitted}
 use Rattle.book.specs.Zero.{zero_submitted}
 use Rattle.codec_cursor.specs.Cells.{Filled}
 use Rattle.archive_read.specs.Sections.{Seen}
-use Prim.Native.Nat.{◌-◌}
 use Rattle.archive_read.proofs.section.read_retained.Given as goal
 
 abbrev pub invariant-loop-i : goal.invariant-loop-i
 invariant-loop-i l = Filled 16 zero_submitted (parse_submitted l.next.0) l.s l.initial.at l.n l.items l.at l.i × Seen l.items l.ids l.tokens l.m l.i
-
-abbrev pub decreases-loop-i : goal.decreases-loop-i
-decreases-loop-i l = l.n - l.i

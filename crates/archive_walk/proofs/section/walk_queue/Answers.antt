@@ -5,12 +5,6 @@ use Rattle.archive_walk.proofs.section.walk_queue.Goals as goal
 pub loop-i-init : goal.loop-i-init
 loop-i-init c = queue_start c.args.s.now _ _
 
-pub bounds-starts-i : goal.bounds-starts-i
-bounds-starts-i c = omega (arith, c.loop-i.invariant.walking.long, c.read_count-n.ensures.few)
-
-pub loop-i-smaller : goal.loop-i-smaller
-loop-i-smaller c = omega (arith, c.loop-i.invariant.walking.filled.some)
-
 pub loop-i-preserved : goal.loop-i-preserved
 loop-i-preserved c = queue_more c.loop-i.invariant (λ j. omega (arith, c.shared_slice_known-1.given j)) c.read_count-n.ensures.few c.loop-i-test.true c.skip_delivery.ensures
 

@@ -7,4 +7,4 @@ pub returns-then-mark-eq0 : goal.returns-then-mark-eq0
 returns-then-mark-eq0 c = rw c.pass.ensures (skips (run_unreadable c.args.base c.read_count-mark.ensures c.if-mark-eq0.true).read)
 
 pub returns : goal.returns
-returns c = skips (run_readable c.args.base c.read_count-mark.ensures c.if-mark-eq0.false c.skip_outputs.ensures.reads).read
+returns c = skips (run_readable c.args.base c.read_count-mark.ensures c.if-mark-eq0.false c.skip_list.ensures.reads).read

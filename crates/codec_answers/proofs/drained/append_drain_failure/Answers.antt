@@ -2,9 +2,10 @@
 use Rattle.codec_append.specs.Fits.{within_as}
 use Rattle.codec_answers.specs.Drain.{stage_number, failed_parts}
 use mathlib.Core.Path.{ap, ◌∙◌}
+use Rattle.codec_answers.specs.Numbers.{stage_cast}
 use Rattle.codec_answers.proofs.drained.append_drain_failure.Goals as goal
 
 pub returns : goal.returns
 returns c =
-    within_as (failed_parts c.args.f c.retained_id-retained.result c.stage_number-n.result c.retained_id-retained.ensures
-    (c.stage_number-n.ensures ∙ ap stage_number c.stage_of-stage.ensures)) c.append_failure.ensures
+    within_as (failed_parts c.args.f.now c.retained_id-retained.result _ c.retained_id-retained.ensures
+    (stage_cast c.stage_of-stage.result ∙ ap stage_number c.stage_of-stage.ensures)) c.append_failure.ensures

@@ -4,4 +4,4 @@ use Rattle.part_submitted.proofs.drained.handed.Goals as goal
 
 pub returns : goal.returns
 unfolding handed
-returns c = rw (c.token_in-before.ensures, c.relationship-relation.ensures, c.requires, c.current_bundle-bundle.ensures, c.open_fee_intent-fee.ensures)
+returns c = rw (c.token_in.ensures, c.relationship.ensures, c.requires, c.current_bundle.ensures, c.open_fee_intent.ensures)

@@ -1,7 +1,8 @@
--- Straight code: the one field written is the one that `revised` sets for an acknowledgement, and `with_state` keeps the rest.
+-- The one field written is the one that `revised` sets.
+use Rattle.std.proofs.Common.{refl}
 use Rattle.rules.specs.Steps.Entry.{revised}
 use Rattle.part_submitted.proofs.revise.acknowledge.Goals as goal
 
 pub returns : goal.returns
 unfolding revised
-returns c = rw c.with_state.ensures
+returns c = refl

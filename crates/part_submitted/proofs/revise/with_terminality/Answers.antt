@@ -1,7 +1,8 @@
--- Straight code: the status is what `with_chain` promises, and no other field changes.
+-- The one field written is the one that `revised` sets.
+use Rattle.std.proofs.Common.{refl}
 use Rattle.rules.specs.Steps.Entry.{revised}
 use Rattle.part_submitted.proofs.revise.with_terminality.Goals as goal
 
 pub returns : goal.returns
 unfolding revised
-returns c = rw (c.with_state.ensures, c.with_chain-status.ensures)
+returns c = refl

@@ -10,4 +10,4 @@ pub returns : goal.returns
 unfolding output_text
 returns c =
     fits_join (fits_join (fits_join (fits_join c.append_bytes-word_end.ensures c.append_decimal-number_end.ensures) c.append_hex_line-hash_end.ensures)
-    c.append_number_line-amount_end.ensures) (fits_as (ap (hex_line (ascii "          coin id: ")) c.output_coin_id-id.ensures) c.append_hash_line.ensures)
+    c.append_number_line-amount_end.ensures) (fits_as (ap (hex_line (ascii "          coin id: ")) c.output_coin_id-id.ensures) c.append_hex_line.ensures)

@@ -1,24 +1,13 @@
 use Rattle.tool_bundle_text.specs.Bundles.{output_text}
 use Rattle.tool_text.specs.Each.{nth_start, nth_more, nth_done}
-use native.Mathlib.Omega.{arith}
-use mathlib.Core.Path.{◌≡◌, refl}
-use lib.ListN.{length}
-use borrow.Author.Rules.{rules}
+use Rattle.std.proofs.Common.{rules}
 use Rattle.tool_bundle_text.proofs.bundle.append_outputs.Goals as goal
 
 pub loop-i-init : goal.loop-i-init
-loop-i-init c = (nth_start (output_text c.args.parent) c.args.a c.args.at c.args.out.now, omega arith, omega (arith, c.at_most-k.ensures), refl)
-
-pub append_output-e-requires : goal.append_output-e-requires
-append_output-e-requires c = omega (arith, c.loop-i.invariant.2)
+loop-i-init c = nth_start (output_text c.args.parent) c.args.a c.args.at c.args.out.now
 
 pub loop-i-preserved : goal.loop-i-preserved
-loop-i-preserved c = let l : length c.args.a ≡ 4 = search rules in (nth_more _ (output_text c.args.parent) c.args.a c.loop-i.i (omega (arith, l, c.loop-i.invariant.2)) c.loop-i.invariant.0 c.append_output-e.ensures, omega arith, c.loop-i.invariant.2, search rules)
-
-pub shape_of-out : goal.shape_of-out
-shape_of-out c = c.loop-i.invariant.3
+loop-i-preserved c = nth_more _ (output_text c.args.parent) _ c.loop-i.i c.loop-i-test.true c.loop-i.invariant c.append_output-e.ensures
 
 pub returns : goal.returns
-returns c =
-    let l : length c.args.a ≡ 4 = search rules in nth_done (output_text c.args.parent) c.args.a 4 c.args.n c.at_most-k.result c.loop-i.i l c.at_most-k.ensures
-    c.loop-i.invariant.1 c.loop-i-test.false c.loop-i.invariant.0
+returns c = nth_done (output_text c.args.parent) c.args.a 4 c.args.n c.min.result c.loop-i.i (search rules) c.min.ensures c.loop-i-test.false c.loop-i.invariant

@@ -9,5 +9,5 @@ use Rattle.tool_bundle_text.proofs.bundle.append_spend.Goals as goal
 pub returns : goal.returns
 unfolding spend_text
 returns c =
-    fits_join (fits_join (fits_join c.append_number_line-heading_end.ensures c.append_cell-coin_end.ensures) c.append_hash_line-digest_end.ensures)
+    fits_join (fits_join (fits_join c.append_number_line-heading_end.ensures c.append_cell-coin_end.ensures) c.append_hex_line-digest_end.ensures)
     (fits_as (ap (λ (p : List ℕ). run_text p c.args.s.readable c.args.s.output_count c.args.s.outputs) c.to_coin_id-parent.ensures) c.append_run.ensures)

@@ -4,10 +4,10 @@ use Rattle.tool_bundle_text.specs.Words.{height_text}
 use mathlib.Core.Path.{sym, ap}
 use Rattle.tool_bundle_text.proofs.words.append_height.Goals as goal
 
-pub returns-in-NoHeight : goal.returns-in-NoHeight
+pub returns-in-None : goal.returns-in-None
 unfolding height_text
-returns-in-NoHeight c = fits_as (sym (ap (height_text c.args.label.now) c.in-NoHeight.is)) (fits_join c.append_bytes-label_end.ensures c.append_bytes.ensures)
+returns-in-None c = fits_as (sym (ap (height_text c.args.label.now) c.in-None.is)) (fits_join c.append_bytes-label_end.ensures c.append_bytes.ensures)
 
-pub returns-in-At : goal.returns-in-At
+pub returns-in-Some : goal.returns-in-Some
 unfolding height_text
-returns-in-At c = fits_as (sym (ap (height_text c.args.label.now) c.in-At.is)) c.append_number_line.ensures
+returns-in-Some c = fits_as (sym (ap (height_text c.args.label.now) c.in-Some.is)) c.append_number_line.ensures

@@ -4,10 +4,10 @@ use Rattle.tool_bundle_text.specs.Words.{id_text}
 use mathlib.Core.Path.{sym, ap}
 use Rattle.tool_bundle_text.proofs.words.append_id.Goals as goal
 
-pub returns-in-NoId : goal.returns-in-NoId
+pub returns-in-None : goal.returns-in-None
 unfolding id_text
-returns-in-NoId c = fits_as (sym (ap (id_text c.args.label.now) c.in-NoId.is)) (fits_join c.append_bytes-label_end.ensures c.append_bytes.ensures)
+returns-in-None c = fits_as (sym (ap (id_text c.args.label.now) c.in-None.is)) (fits_join c.append_bytes-label_end.ensures c.append_bytes.ensures)
 
-pub returns-in-Of : goal.returns-in-Of
+pub returns-in-Some : goal.returns-in-Some
 unfolding id_text
-returns-in-Of c = fits_as (sym (ap (id_text c.args.label.now) c.in-Of.is)) c.append_number_line.ensures
+returns-in-Some c = fits_as (sym (ap (id_text c.args.label.now) c.in-Some.is)) c.append_number_line.ensures

@@ -1,7 +1,7 @@
 -- By the test of the high part.
 use Rattle.codec_append.specs.Fits.{fits_join, fits_as}
-use Rattle.tool_payments.specs.Text.{padded, sum_text}
-use Rattle.tool_text.specs.Numbers.{decimal}
+use Rattle.tool_payments.specs.Text.{sum_text}
+use Rattle.tool_text.specs.Numbers.{decimal, padded}
 use borrow.Author.Tests.{eq-eqb, ne_eqb}
 use mathlib.Core.Bool.{Bool, cond}
 use mathlib.Core.List.{◌++◌}

@@ -1,8 +1,0 @@
--- The last kind stands for every number from its own on.
-use Rattle.archive_bundle_read.specs.Parts.{after_three}
-use Rattle.archive_form.specs.Parse.{trigger_of}
-use mathlib.Core.Path.{refl}
-use Rattle.archive_bundle_read.proofs.kind.trigger_of.Goals as goal
-
-pub returns : goal.returns
-returns c = after_three trigger_of (λ k. refl) c.args.n c.if-n-eq0.false c.if-n-eq1.false c.if-n-eq2.false

@@ -1,0 +1,5 @@
+use Rattle.archive_bundle_form.specs.Forms.{encode_output}
+use Rattle.archive_bundle_size.proofs.size_run.Given as goal
+
+abbrev pub ghost-size_first : goal.ghost-size_first
+ghost-size_first a = (encode_output, 40)

@@ -1,5 +1,0 @@
--- Straight code: the slice tested is the first `count` of the 16 cells, which is the list of the ids.
-use Rattle.book_sound.proofs.cells.distinct16.Goals as goal
-
-pub returns : goal.returns
-returns c = cc

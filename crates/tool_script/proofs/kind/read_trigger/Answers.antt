@@ -1,6 +1,0 @@
--- The byte tells where the argument ends, the trigger's reader what it stands for.
-use mathlib.Core.Path.{refl}
-use Rattle.tool_script.proofs.kind.read_trigger.Goals as goal
-
-pub returns : goal.returns
-returns c = record { on = c.read_byte-b.ensures; place = _; is = c.read_trigger-value.ensures; fits = refl }
