@@ -1,13 +1,12 @@
 -- The archive forms of a bundle, an optional expiry and a fee intent, and the two fingerprints. Paper 01, "Archive form": a bundle
 -- is a count, then per spend length byte, coin, digest, run; a run is 0 (unreadable), or 1, then output count and outputs; optional
 -- parts follow a count 0 or 1; a fee intent is 0 AlreadyPaid, 1 NoFeeConfigured, 2 Attach with target and amount.
-use Rattle.std.specs.Prelude.{Bool, true, false, cond, List, [], ◌∷◌, ◌++◌, ℕ, length, take}
-use Rattle.codec_forms.specs.Wire.{be, enc_many}
+use Rattle.std.specs.Prelude.{Bool, true, false, List, [], ◌++◌, ℕ, length, take}
+use Rattle.codec_forms.specs.Wire.{be, enc_many, enc_opt_number}
 use Rattle.base_sha256.specs.Fips.{sha256_of}
 use Rattle.book.specs.Sound.{spends_of, outputs_of}
 use Rattle.book.specs.declared.Height.{Height}
 use Rattle.std.specs.Prelude.{Option}
-use Rattle.std.specs.Prelude.{None, Some}
 use Rattle.book.specs.declared.Output.{Output}
 use Rattle.book.specs.declared.CoinSpend.{CoinSpend}
 use Rattle.book.specs.declared.SpendBundle.{SpendBundle}
@@ -33,9 +32,7 @@ unfolding be enc_many encode_spend
 encode_bundle b = be 1 b.count ++ enc_many encode_spend (spends_of b)
 
 unfoldable pub encode_height : Option Height → List ℕ
-unfolding be
-encode_height None = be 1 0
-encode_height (Some h) = be 1 1 ++ be 8 h.0
+encode_height = enc_opt_number (λ h. h.0)
 
 abbrev pub kind_number : FeeIntentKind → ℕ
 kind_number AlreadyPaid = 0

@@ -1,4 +1,4 @@
--- Fee intents and kinds as the code reads them.
+-- Fee intents as the code reads them, and kinds whose last one stands for every number from its own on.
 use Prim.Native.Nat.{ℕ, zero, suc}
 use Rattle.std.specs.Prelude.{◌≡◌, refl, List}
 use Rattle.std.proofs.Common.{ap, arith}

@@ -7,7 +7,7 @@ use crate::each::read_list;
 use book::{CoinSpend, Output, SpendBundle};
 use codec_cursor::{pass, read_cell, read_count, read_hash, read_number};
 
-// The run of a spend, its outputs in their cells.
+// The run of a spend, its outputs in their cells: a mark and a count beside an array, as `CoinSpend` has them, since there is no heap.
 #[derive(Clone, Copy)]
 pub struct RunCells {
     pub readable: bool,

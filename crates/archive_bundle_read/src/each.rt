@@ -8,6 +8,7 @@ use codec_cursor::read_count;
 
 // Reads the items of a list into lent cells and returns how many there are, at most as many as cells. The caller names the function
 // that reads one item with those before it in hand; the ghost value is an unused cell and the parser of an item.
+// The clause with `IsAlwaysCallable` is std's form for a function that is lent, and `reads` says what it does.
 pub fn read_list<T: Copy, F: Fn(&[u8], &mut usize, &[T]) -> T>(
     s: &[u8],
     at: &mut usize,

@@ -1,4 +1,4 @@
-// Reading of bundles, optional parts, fee intents and kinds at a cursor that the caller lends (crate cursor).
+// Reading of bundles, optional parts, fee intents and kinds at a cursor that the caller lends (crate codec_cursor).
 #![tactic(auto)]
 
 pub mod bundle;

@@ -1,32 +1,24 @@
-// An optional height, an optional id, an optional fingerprint, a fee intent.
+// An optional height, an optional id, an optional fingerprint, a fee intent. The first two are one call each, in the type that their
+// parser has.
 ghost use Rattle.codec_cursor.specs.Cursor.{Reads};
 ghost use Rattle.archive_form.specs.Parse.{parse_height, parse_id, parse_hash, parse_fee_intent};
 
 use book::{FeeIntentKind, Height, OptionalHash, SubmissionFeeIntent, SubmissionId};
-use codec_cursor::{read_count, read_hash, read_number};
+use codec_cursor::{read_count, read_hash, read_number, read_optional_number};
 
 pub fn read_height(s: &[u8], at: &mut usize) -> Option<Height>
     ensures { Reads parse_height s.now at.old result at.new }
 {
-    let mark = read_count(s, &mut *at, 1);
-    if mark == 0 {
-        return None;
-    }
-    let n = read_number(s, at);
-    Some(Height(n))
+    read_optional_number(s, at).map(|n| Height(n))
 }
 
 pub fn read_id(s: &[u8], at: &mut usize) -> Option<SubmissionId>
     ensures { Reads parse_id s.now at.old result at.new }
 {
-    let mark = read_count(s, &mut *at, 1);
-    if mark == 0 {
-        return None;
-    }
-    let n = read_number(s, at);
-    Some(SubmissionId(n))
+    read_optional_number(s, at).map(|n| SubmissionId(n))
 }
 
+// A test of the mark in each part of this kind: what stands behind is no `Option`, so a function told how to read it is no shorter.
 pub fn read_optional_hash(s: &[u8], at: &mut usize) -> OptionalHash
     ensures { Reads parse_hash s.now at.old result at.new }
 {

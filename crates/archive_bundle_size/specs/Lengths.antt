@@ -6,18 +6,14 @@ use Rattle.base_lists.specs.Laws.{count_cut}
 use Rattle.codec_forms.specs.Wire.{be, enc_many}
 use Rattle.codec_forms.specs.Number.{be_length}
 use Rattle.codec_forms.specs.Puts.{Size, size_as}
-use Rattle.std.specs.Prelude.{is_none}
 use Rattle.book.specs.Sound.{spends_of, outputs_of, is_attach}
 use Rattle.book.specs.declared.Output.{Output}
 use Rattle.book.specs.declared.CoinSpend.{CoinSpend}
 use Rattle.book.specs.declared.SpendBundle.{SpendBundle}
-use Rattle.std.specs.Prelude.{Option}
-use Rattle.book.specs.declared.Height.{Height}
-use Rattle.std.specs.Prelude.{None, Some}
 use Rattle.book.specs.declared.FeeIntentKind.{FeeIntentKind}
 use Rattle.book.specs.declared.FeeIntentKind.TheVariants.{AlreadyPaid, NoFeeConfigured, Attach}
 use Rattle.book.specs.declared.SubmissionFeeIntent.{SubmissionFeeIntent}
-use Rattle.archive_bundle_form.specs.Forms.{encode_output, encode_run, encode_spend, encode_bundle, encode_height, encode_fee_intent, kind_number, attached}
+use Rattle.archive_bundle_form.specs.Forms.{encode_output, encode_run, encode_spend, encode_bundle, encode_fee_intent, kind_number, attached}
 use Rattle.archive_bundle_write.specs.Laws.{run_no, run_yes}
 
 pub output_size : (o : Output) → length o.puzzle_hash ≡ 32 → Size (encode_output o) 40 40
@@ -46,16 +42,6 @@ spend_size s k r e h d z =
 pub bundle_size : (b : SpendBundle) (r : ℕ) → Size (enc_many encode_spend (spends_of b)) 1072 r → Size (encode_bundle b) 1073 (1 + r)
 unfolding encode_bundle
 bundle_size b r z = record { is = omega (arith, z.is, length-append (be 1 b.count) (enc_many encode_spend (spends_of b)), be_length 1 b.count); few = omega (arith, z.few) }
-
-pub no_height_size : (h : Option Height) → is_none h ≡ true → Size (encode_height h) 9 1
-unfolding encode_height
-no_height_size None e = record { is = sym (be_length 1 0); few = omega arith }
-no_height_size (Some x) e = absurd (false≢true e)
-
-pub height_size : (h : Option Height) → is_none h ≡ false → Size (encode_height h) 9 9
-unfolding encode_height
-height_size None e = absurd (false≢true (sym e))
-height_size (Some x) e = record { is = omega (arith, length-append (be 1 1) (be 8 x.0), be_length 1 1, be_length 8 x.0); few = omega arith }
 
 pub attach_size : (f : SubmissionFeeIntent) → is_attach f.kind ≡ true → length f.target ≡ 32 → Size (encode_fee_intent f) 41 41
 unfolding encode_fee_intent

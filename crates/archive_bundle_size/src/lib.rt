@@ -10,6 +10,7 @@ ghost use Rattle.archive_bundle_form.specs.Forms.{encode_output, encode_run, enc
 use book::{CoinSpend, FeeIntentKind, Height, Output, SpendBundle, SubmissionFeeIntent};
 
 // The bytes of the first n of N parts. The ghost value is the form of a part, and how long it is at most.
+// The clause with `IsAlwaysCallable` is std's form for a function that is lent.
 pub fn size_first<T, const N: usize, F: Fn(&T) -> usize>(parts: &[T; N], n: usize, size: F) -> usize
     ghost form: { (T → List ℕ) × ℕ }
     requires fits { N * form.1 < 2 ^ 64 }
@@ -56,6 +57,7 @@ pub fn size_bundle(b: SpendBundle) -> usize
     1 + size_first(&b.spends, b.count as usize, size_spend)
 }
 
+// One line, as `size_id` of archive_size is: a function for both would be told the form, and each would still say which it sizes.
 pub fn size_height(h: Option<Height>) -> usize
     ensures { Size (encode_height h) 9 result }
 {

@@ -5,12 +5,9 @@ use Rattle.base_lists.specs.Laws.{take_cut}
 use Rattle.codec_forms.specs.Wire.{be, enc_many, enc_list}
 use Rattle.codec_append.specs.Fits.{Fits, fits_as}
 use Rattle.book.specs.declared.Output.{Output}
-use Rattle.book.specs.declared.Height.{Height}
-use Rattle.std.specs.Prelude.{Option}
-use Rattle.std.specs.Prelude.{None, Some}
 use Rattle.book.specs.declared.FeeIntentKind.TheVariants.{AlreadyPaid, NoFeeConfigured, Attach}
 use Rattle.book.specs.declared.SubmissionFeeIntent.{SubmissionFeeIntent}
-use Rattle.archive_bundle_form.specs.Forms.{encode_output, encode_run, encode_height, encode_fee_intent, kind_number, attached}
+use Rattle.archive_bundle_form.specs.Forms.{encode_output, encode_run, encode_fee_intent, kind_number, attached}
 
 -- a count as its byte
 pub count_byte : (n : ℕ) → be 1 (n % 256) ≡ be 1 n
@@ -45,11 +42,3 @@ module _ (f : SubmissionFeeIntent) where
   pub fee_attach : f.kind ≡ Attach → be 1 2 ++ f.target ++ be 8 f.amount ≡ encode_fee_intent f
   unfolding encode_fee_intent
   fee_attach h = append_assoc (be 1 2) f.target (be 8 f.amount) ∙ ap (λ k. be 1 (kind_number k) ++ attached k f) (sym h)
-
-pub height_no : (h : Option Height) → h ≡ None → be 1 0 ≡ encode_height h
-unfolding encode_height
-height_no h e = sym (ap encode_height e)
-
-pub height_at : (h : Option Height) (x : Height) → h ≡ Some x → be 1 1 ++ be 8 x.0 ≡ encode_height h
-unfolding encode_height
-height_at h x e = sym (ap encode_height e)

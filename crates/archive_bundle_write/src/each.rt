@@ -5,6 +5,7 @@ ghost use Rattle.codec_append.specs.Fits.{Fits};
 
 use codec_append::append_byte;
 
+// The clause with `IsAlwaysCallable` is std's form for a function that is lent, here and in `append_list`.
 pub fn append_each<T, F: Fn(&mut [u8], usize, &T) -> usize>(
     out: &mut [u8],
     at: usize,

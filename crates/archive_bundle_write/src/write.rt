@@ -8,7 +8,7 @@ ghost use Rattle.archive_bundle_form.specs.Forms.{encode_output, encode_run, enc
 
 use crate::each::{append_each, append_list};
 use book::{CoinSpend, FeeIntentKind, Height, Output, SpendBundle, SubmissionFeeIntent};
-use codec_append::{append_byte, append_bytes, append_number};
+use codec_append::{append_byte, append_bytes, append_number, append_optional_number};
 
 fn append_output(out: &mut [u8], at: usize, o: &Output) -> usize
     ensures { Fits (encode_output o.now) at out.old out.new result }
@@ -61,16 +61,11 @@ pub fn append_bundle(out: &mut [u8], at: usize, b: SpendBundle) -> usize
     append_each(out, e, &b.spends[..n], append_spend)
 }
 
+// One call, as `append_id` is: each says in its contract which number it writes.
 pub fn append_height(out: &mut [u8], at: usize, h: Option<Height>) -> usize
     ensures { Fits (encode_height h) at out.old out.new result }
 {
-    match h {
-        None => append_byte(out, at, 0),
-        Some(x) => {
-            let e = append_byte(&mut *out, at, 1);
-            append_number(out, e, x.0)
-        }
-    }
+    append_optional_number(out, at, h.map(|x| x.0))
 }
 
 pub fn append_fee_intent(out: &mut [u8], at: usize, f: SubmissionFeeIntent) -> usize

@@ -15,16 +15,17 @@ use codec_cursor::{pass, read_count, read_hash, read_number};
 fn slot_holds(a: OptionalAttempt, token: Token) -> bool
     ensures { result ≡ elemb token.0 (attempt_token a) }
 {
-    a.present & (a.attempt.token.0 == token.0)
+    a.present & (a.attempt.token == token)
 }
 
 // A token that is below the next one, not held and not in the live slot.
+// `next`, `held` and `live` are three parameters: a struct of them would be made anew for each of the two slots.
 fn fresh_token(next: Token, held: &[u64], live: OptionalAttempt, token: Token) -> bool
     ensures { result ≡ fresh_token next.0 (held.now ++ attempt_token live) token.0 }
 {
     let before = held.contains(&token.0);
     let twin = slot_holds(live, token);
-    (token.0 < next.0) & !(before | twin)
+    (token < next) & !(before | twin)
 }
 
 fn read_token(s: &[u8], at: &mut usize, next: Token, held: &[u64], live: OptionalAttempt) -> Token
@@ -39,6 +40,7 @@ fn read_token(s: &[u8], at: &mut usize, next: Token, held: &[u64], live: Optiona
 }
 
 // An attempt: token, goal, drained fingerprint, finalised fingerprint.
+// With a test of the mark of its own, as `read_optional_hash`: what stands behind is no `Option`.
 fn read_slot(
     s: &[u8],
     at: &mut usize,

@@ -1,4 +1,4 @@
-// Reading of retained submissions and queue entries at a cursor that the caller lends (crate cursor).
+// Reading of retained submissions and queue entries at a cursor that the caller lends (crate codec_cursor).
 #![tactic(auto)]
 
 pub mod attempt;

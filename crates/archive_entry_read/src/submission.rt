@@ -25,6 +25,7 @@ pub fn read_new_id(s: &[u8], at: &mut usize, listed: &[u64]) -> SubmissionId
 }
 
 // The fee bundle with its applied fee.
+// With a test of the mark of its own, as `read_optional_hash`: what stands behind is no `Option`.
 fn read_variant(s: &[u8], at: &mut usize) -> SubmissionBroadcastVariant
     ensures { Reads parse_variant s.now at.old result at.new }
 {

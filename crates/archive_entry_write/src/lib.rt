@@ -9,7 +9,7 @@ use book::{
     AttemptSlots, DeliveryAttempt, OptionalAttempt, OptionalHash, PendingDelivery,
     SubmissionBroadcastVariant, SubmissionId, SubmittedEntry, SubmittedTx,
 };
-use codec_append::{append_byte, append_bytes, append_number};
+use codec_append::{append_byte, append_bytes, append_number, append_optional_number};
 
 // Each optional part has an `if` of its own: a call with a closure for the part behind the mark is no shorter.
 pub fn append_hash(out: &mut [u8], at: usize, h: OptionalHash) -> usize
@@ -87,16 +87,11 @@ pub fn append_submitted(out: &mut [u8], at: usize, t: &SubmittedTx) -> usize
     append_facts(out, slots_end, &t.entry)
 }
 
+// One call, as `append_height` is: each says in its contract which number it writes.
 pub fn append_id(out: &mut [u8], at: usize, i: Option<SubmissionId>) -> usize
     ensures { Fits (encode_id i) at out.old out.new result }
 {
-    match i {
-        None => append_byte(out, at, 0),
-        Some(x) => {
-            let e = append_byte(&mut *out, at, 1);
-            append_number(out, e, x.0)
-        }
-    }
+    append_optional_number(out, at, i.map(|x| x.0))
 }
 
 pub fn append_delivery(out: &mut [u8], at: usize, d: &PendingDelivery) -> usize

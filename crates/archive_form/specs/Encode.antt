@@ -1,12 +1,11 @@
 -- The archive of a book as bytes. Paper 01, "Archive form": numbers big-endian, six sections in order, each after a one-byte count;
 -- an optional part follows a count 0 or 1. Bundle, expiry and fee intent are in `spend`.
 use Rattle.std.specs.Prelude.{List, ◌++◌, ℕ}
-use Rattle.codec_forms.specs.Wire.{be, enc_many, enc_list, enc_opt}
+use Rattle.codec_forms.specs.Wire.{be, enc_list, enc_opt, enc_opt_number}
 use Rattle.archive_bundle_form.specs.Forms.{encode_bundle, encode_height, encode_fee_intent}
 use Rattle.book.specs.Model.{Book, view}
 use Rattle.std.specs.Prelude.{Option}
 use Rattle.book.specs.declared.SubmissionId.{SubmissionId}
-use Rattle.std.specs.Prelude.{None, Some}
 use Rattle.book.specs.declared.SubmissionDeliveryGoal.{SubmissionDeliveryGoal}
 use Rattle.book.specs.declared.SubmissionDeliveryGoal.TheVariants.{EnsureBroadcast, FeeUpgrade}
 use Rattle.book.specs.declared.DeliveryTrigger.{DeliveryTrigger}
@@ -93,9 +92,7 @@ encode_submitted t = be 8 t.entry.id.0 ++ encode_slots t.slots ++ encode_facts t
 
 -- ---- the queue
 unfoldable pub encode_id : Option SubmissionId → List ℕ
-unfolding be
-encode_id None = be 1 0
-encode_id (Some i) = be 1 1 ++ be 8 i.0
+encode_id = enc_opt_number (λ i. i.0)
 
 -- queue: id, bundle, expiry, fee intent, trigger, goal
 unfoldable pub encode_delivery : PendingDelivery → List ℕ

@@ -3,16 +3,15 @@ use Rattle.std.specs.Prelude.{◌≤◌, ◌≡◌, ◌++◌, length}
 use Rattle.std.proofs.Common.{arith, length-append}
 use Rattle.codec_forms.specs.Wire.{be}
 use Rattle.codec_forms.specs.Number.{be_length}
+use Rattle.codec_forms.specs.Puts.{opt_number_few}
 use Rattle.book.specs.Model.{Book}
 use Rattle.std.specs.Prelude.{Option}
 use Rattle.book.specs.declared.SubmissionId.{SubmissionId}
-use Rattle.std.specs.Prelude.{None, Some}
 use Rattle.archive_form.specs.Encode.{encode_id, encode_numbers}
 
 pub id_size : (i : Option SubmissionId) → length (encode_id i) ≤ 9
 unfolding encode_id
-id_size None = omega (arith, be_length 1 0)
-id_size (Some i) = omega (arith, length-append (be 1 1) (be 8 i.0), be_length 1 1, be_length 8 i.0)
+id_size = opt_number_few (λ i. i.0)
 
 pub numbers_size : (m : Book) → length (encode_numbers m) ≡ 17
 unfolding encode_numbers

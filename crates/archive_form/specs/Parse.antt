@@ -3,19 +3,16 @@
 use Rattle.std.specs.Prelude.{Bool, true, false, not, ◌&&◌, ◌||◌, List, [], ◌∷◌, ◌++◌, map, ℕ, zero, suc, eqb, leb, ltb, length}
 use Rattle.base_lists.specs.Lists.{cells, elemb}
 use Rattle.std.specs.List.{flat_map}
-use Rattle.codec_forms.specs.Wire.{Ans, got, bad, Parser, ◌>>=◌, done, and_then, run, number, checked, up_to, mapped, optional_by, optional, counted, list_from, list_of, end}
+use Rattle.codec_forms.specs.Wire.{Ans, got, bad, Parser, ◌>>=◌, done, run, number, checked, up_to, mapped, optional_by, optional, opt_number, counted, list_from, list_of, end}
 use Rattle.book.specs.Zero.{zeros, zero_output, zero_spend, zero_hash, no_attempt, base_variant}
 use Rattle.book.specs.Sound.{id_of, attempt_token, tokens_of}
 use Rattle.book.specs.Model.{Book, back}
-use Rattle.book.specs.declared.Token.{Token}
 use Rattle.book.specs.declared.SubmissionId.{SubmissionId}
 use Rattle.book.specs.declared.Height.{Height}
 use Rattle.std.specs.Prelude.{Option}
-use Rattle.std.specs.Prelude.{None, Some}
 use Rattle.book.specs.declared.Output.{Output}
 use Rattle.book.specs.declared.CoinSpend.{CoinSpend}
 use Rattle.book.specs.declared.SpendBundle.{SpendBundle}
-use Rattle.book.specs.declared.FeeIntentKind.{FeeIntentKind}
 use Rattle.book.specs.declared.FeeIntentKind.TheVariants.{AlreadyPaid, NoFeeConfigured, Attach}
 use Rattle.book.specs.declared.SubmissionFeeIntent.{SubmissionFeeIntent}
 use Rattle.book.specs.declared.SubmissionDeliveryGoal.{SubmissionDeliveryGoal}
@@ -27,16 +24,12 @@ use Rattle.book.specs.declared.SubmissionChainTerminality.TheVariants.{Active, I
 use Rattle.book.specs.declared.FeeResolution.{FeeResolution}
 use Rattle.book.specs.declared.FeeResolution.TheVariants.{Unresolved, NotRequested, Attached}
 use Rattle.book.specs.declared.OptionalHash.{OptionalHash}
-use Rattle.book.specs.declared.DeliveryAttempt.{DeliveryAttempt}
 use Rattle.book.specs.declared.OptionalAttempt.{OptionalAttempt}
 use Rattle.book.specs.declared.AttemptSlots.{AttemptSlots}
 use Rattle.book.specs.declared.SubmissionBroadcastVariant.{SubmissionBroadcastVariant}
 use Rattle.book.specs.declared.RetainedIntent.{RetainedIntent}
-use Rattle.book.specs.declared.SubmissionStatus.{SubmissionStatus}
 use Rattle.book.specs.declared.SubmissionState.{SubmissionState}
-use Rattle.book.specs.declared.SubmittedEntry.{SubmittedEntry}
 use Rattle.book.specs.declared.SubmittedTx.{SubmittedTx}
-use Rattle.book.specs.declared.PendingSubmissionIntent.{PendingSubmissionIntent}
 use Rattle.book.specs.declared.PendingDelivery.{PendingDelivery}
 use Rattle.book.specs.declared.BookData.{BookData}
 
@@ -87,16 +80,10 @@ parse_bundle base = do
 
 -- ---- expiry, rollback height, an optional id, fee intent
 unfoldable pub parse_height : Parser (Option Height)
-unfolding optional number
-parse_height = optional None (do
-  n ← number 8
-  done (Some (record { 0 = n })))
+parse_height = opt_number (λ n. record { 0 = n })
 
 unfoldable pub parse_id : Parser (Option SubmissionId)
-unfolding optional number
-parse_id = optional None (do
-  n ← number 8
-  done (Some (record { 0 = n })))
+parse_id = opt_number (λ n. record { 0 = n })
 
 -- what follows the kind
 unfoldable pub parse_attached : ℕ → Parser SubmissionFeeIntent

@@ -1,9 +1,9 @@
 -- The definitions run: the archive of a book just opened, as paper 01 has it, and a book with one retained submission, a queued
 -- intent, a retirement and a replay. Each is read back, and some damage is refused at its place.
-use Rattle.std.specs.Prelude.{◌≡◌, refl, true, false, List, [], ◌∷◌, ◌++◌, ℕ, length, take, set, replicate}
+use Rattle.std.specs.Prelude.{◌≡◌, refl, true, List, [], ◌∷◌, ◌++◌, ℕ, take, set, replicate}
 use Rattle.base_lists.specs.Lists.{cells}
 use Rattle.book.specs.Zero.{zeros, zero_output, zero_spend, zero_hash, no_attempt, base_variant, zero_fee_intent}
-use Rattle.book.specs.Model.{Book, back, view}
+use Rattle.book.specs.Model.{Book, back}
 use Rattle.std.specs.Prelude.{None, Some}
 use Rattle.std.specs.Prelude.{Some}
 use Rattle.book.specs.declared.CoinSpend.{CoinSpend}
@@ -17,7 +17,7 @@ use Rattle.book.specs.declared.SubmittedTx.{SubmittedTx}
 use Rattle.book.specs.declared.PendingDelivery.{PendingDelivery}
 use Rattle.book.specs.declared.BookData.{BookData}
 use Rattle.archive_form.specs.Encode.{encode_model, encode_book}
-use Rattle.archive_form.specs.Parse.{read_archive, ArchiveRead, book, broken}
+use Rattle.archive_form.specs.Parse.{read_archive, book, broken}
 
 -- a book just opened with two numbers: everything else is empty
 abbrev pub opened_model : ℕ → ℕ → Book

@@ -3,7 +3,7 @@ use Rattle.std.specs.Prelude.{◌≡◌, refl, Bool, true, false, not, ◌&&◌,
 use Rattle.std.proofs.Common.{sym, ap, ◌∙◌, subst, append_assoc, arith}
 use Rattle.base_lists.specs.Lists.{elemb}
 use Rattle.std.specs.List.{flat_map}
-use Rattle.codec_forms.specs.Wire.{got, Parser, be, enc_many, enc_list, enc_opt, run, up_to, mapped, counted}
+use Rattle.codec_forms.specs.Wire.{got, Parser, be, enc_many, enc_list, enc_opt, enc_opt_number, opt_number, run, up_to, mapped, counted}
 use Rattle.codec_forms.specs.Lawful.{Lawful, Spans}
 use Rattle.codec_forms.specs.Items.{mark, AllFrom}
 use Rattle.codec_forms.proofs.Items.{number_lawful, checked_lawful, up_to_lawful, list_from_lawful}
@@ -45,7 +45,7 @@ use Rattle.archive_laws.specs.Parts.{height_lawful, id_lawful, goal_lawful, trig
 use Rattle.archive_laws.specs.Parts.{slot_lawful, GoodVariant, variant_bundle, variant_lawful, any_bundle}
 use Rattle.archive_laws.specs.Entries.{GoodSlots, slots_lawful, GoodFacts, facts_good, GoodSubmitted, slots_good, submitted_lawful, GoodDelivery, delivery_facts, delivery_lawful}
 use Rattle.archive_laws.specs.Books.{GoodNumbers, enc_numbers, numbers_of, numbers_lawful, GoodRetired, GoodReplayed, retired_lawful, replayed_lawful, queue_lawful, GoodModel}
-use Rattle.archive_laws.specs.Items.{plain, number_item, ruled, limited, items_output, items_run, items_spend, items_bundle, items_height, items_id, items_attached, items_fee_intent, items_hash, items_attempt, items_slot, items_slots, items_variant}
+use Rattle.archive_laws.specs.Items.{plain, number_item, ruled, limited, items_output, items_run, items_spend, items_bundle, items_opt_number, items_height, items_id, items_attached, items_fee_intent, items_hash, items_attempt, items_slot, items_slots, items_variant}
 use Rattle.archive_laws.specs.Items.{items_facts, items_submitted, items_delivery, items_retired, items_replayed, items_model}
 use Rattle.archive_laws.specs.Stops.{Placed, then_placed, last_placed, none_placed, as_placed}
 use Rattle.archive_laws.proofs.Stops.{run_placed, number_placed, ruled_placed, limited_placed, optional_placed, optional_by_placed, list_placed}
@@ -99,15 +99,18 @@ bundle_placed base b g =
     (last_placed _ (list_placed (λ before. spend_lawful base) (λ before. spend_placed base) 4 (omega arith) (spends_of b) (from_every (GoodSpend base) [] (spends_of b) l.0, l.1)))
 
 -- ---- an optional height, an optional id, kinds, fee intent, an optional fingerprint
+opt_number_placed : {A : Type 0} (of : ℕ → A) (number_of : A → ℕ) (o : Option A) → Placed (opt_number of) (items_opt_number number_of o) (enc_opt_number number_of o)
+unfolding enc_opt mark
+opt_number_placed of number_of None = optional_placed None false (λ q. last_placed (λ n. Some (of n)) (number_placed 8 0))
+opt_number_placed of number_of (Some x) = optional_placed None true (λ q. last_placed (λ n. Some (of n)) (number_placed 8 (number_of x)))
+
 height_placed : (h : Option Height) → Placed parse_height (items_height h) (encode_height h)
-unfolding parse_height items_height encode_height enc_opt mark
-height_placed None = optional_placed None false (λ q. last_placed (λ n. Some (record { 0 = n })) (number_placed 8 0))
-height_placed (Some h) = optional_placed None true (λ q. last_placed (λ n. Some (record { 0 = n })) (number_placed 8 h.0))
+unfolding parse_height items_height encode_height
+height_placed h = opt_number_placed _ (λ (x : Height). x.0) h
 
 id_placed : (i : Option SubmissionId) → Placed parse_id (items_id i) (encode_id i)
-unfolding parse_id items_id encode_id enc_opt mark
-id_placed None = optional_placed None false (λ q. last_placed (λ n. Some (record { 0 = n })) (number_placed 8 0))
-id_placed (Some i) = optional_placed None true (λ q. last_placed (λ n. Some (record { 0 = n })) (number_placed 8 i.0))
+unfolding parse_id items_id encode_id
+id_placed i = opt_number_placed _ (λ (x : SubmissionId). x.0) i
 
 mapped_placed : {A : Type 0} (f : ℕ → A) (m n : ℕ) → Placed (mapped f (up_to m)) (limited m n ∷ []) (be 1 n)
 unfolding mapped

@@ -92,13 +92,15 @@ unfolding items_list items_spend
 items_bundle base b = items_list 4 (λ before. items_spend base) (spends_of b)
 
 -- ---- expiry, rollback height, an optional id, fee intent, an optional fingerprint
+abbrev pub items_opt_number : {A : Type 0} → (A → ℕ) → Option A → List Item
+items_opt_number number None = limited 1 0 ∷ []
+items_opt_number number (Some x) = limited 1 1 ∷ number_item 8 (number x) ∷ []
+
 unfoldable pub items_height : Option Height → List Item
-items_height None = limited 1 0 ∷ []
-items_height (Some h) = limited 1 1 ∷ number_item 8 h.0 ∷ []
+items_height = items_opt_number (λ h. h.0)
 
 unfoldable pub items_id : Option SubmissionId → List Item
-items_id None = limited 1 0 ∷ []
-items_id (Some i) = limited 1 1 ∷ number_item 8 i.0 ∷ []
+items_id = items_opt_number (λ i. i.0)
 
 abbrev pub items_attached : FeeIntentKind → SubmissionFeeIntent → List Item
 items_attached AlreadyPaid f = []

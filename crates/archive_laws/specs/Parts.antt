@@ -5,7 +5,7 @@ use Rattle.std.proofs.lemmas.Bool.{false≢true}
 use Rattle.base_lists.specs.Lists.{is_zero}
 use Rattle.std.specs.List.{list_all}
 use Rattle.base_lists.specs.Laws.{and_split, and_both, full_eq}
-use Rattle.codec_forms.specs.Wire.{be, enc_opt, run, number, mapped}
+use Rattle.codec_forms.specs.Wire.{be, enc_opt, enc_opt_number, run, number, mapped, opt_number}
 use Rattle.codec_forms.specs.Lawful.{Lawful, step, finish, recode}
 use Rattle.codec_forms.specs.Items.{mapped_lawful}
 use Rattle.codec_forms.proofs.Items.{number_lawful, checked_lawful, up_to_lawful, optional_lawful}
@@ -44,62 +44,45 @@ pub all_always : {A : Type 0} (xs : List A) → list_all (λ x. true) xs ≡ tru
 all_always [] = refl
 all_always (x ∷ xs) = all_always xs
 
--- ---- an optional height, an optional id
-abbrev is_height : Option Height → Bool
-is_height None = false
-is_height (Some h) = true
+-- ---- an optional number in a type of its own, as a height or an id
+module _ {A : Type 0} (of : ℕ → A) (number_of : A → ℕ) (Typed : Option A → Type 0)
+    (back : (x : A) → of (number_of x) ≡ x) (forth : (n : ℕ) → number_of (of n) ≡ n)
+    (none : Typed None) (typed : (n : ℕ) → n < 256 ^ 8 → Typed (Some (of n))) (fits : (x : A) → Typed (Some x) → number_of x < 256 ^ 8) where
+  abbrev there : Option A → Bool
+  there None = false
+  there (Some x) = true
 
-abbrev height_number : Option Height → ℕ
-height_number None = 0
-height_number (Some h) = h.0
+  abbrev number_or_0 : Option A → ℕ
+  number_or_0 None = 0
+  number_or_0 (Some x) = number_of x
 
-height_bytes : (h : Option Height) → enc_opt (is_height h) (be 8 (height_number h)) ≡ encode_height h
-unfolding enc_opt encode_height
-height_bytes None = refl
-height_bytes (Some h) = refl
+  opt_number_bytes : (o : Option A) → enc_opt (there o) (be 8 (number_or_0 o)) ≡ enc_opt_number number_of o
+  unfolding enc_opt
+  opt_number_bytes None = refl
+  opt_number_bytes (Some x) = refl
 
-height_back : (h : Option Height) → TypedOptionalHeight h × (is_height h ≡ true) → (height_number h < 256 ^ 8) × (Some (record { 0 = height_number h }) ≡ h)
-height_back None x = absurd (false≢true x.1)
-height_back (Some h) x = (x.0, refl)
+  some_back : (o : Option A) → Typed o × (there o ≡ true) → (number_or_0 o < 256 ^ 8) × (Some (of (number_or_0 o)) ≡ o)
+  some_back None g = absurd (false≢true g.1)
+  some_back (Some x) g = (fits x g.0, ap Some (back x))
 
-height_only : (h : Option Height) → TypedOptionalHeight h → is_height h ≡ false → h ≡ None
-height_only None g e = refl
-height_only (Some h) g e = absurd (false≢true (sym e))
+  none_only : (o : Option A) → Typed o → there o ≡ false → o ≡ None
+  none_only None g e = refl
+  none_only (Some x) g e = absurd (false≢true (sym e))
 
-height_there : Lawful (λ h. TypedOptionalHeight h × (is_height h ≡ true)) (λ h. be 8 (height_number h)) (mapped (λ n. Some (record { 0 = n })) (number 8))
-height_there = mapped_lawful (λ n. Some (record { 0 = n })) height_number (number_lawful 8) height_back (λ n g. ((g, refl), refl))
+  some_lawful : Lawful (λ o. Typed o × (there o ≡ true)) (λ o. be 8 (number_or_0 o)) (mapped (λ n. Some (of n)) (number 8))
+  some_lawful = mapped_lawful (λ n. Some (of n)) number_or_0 (number_lawful 8) some_back (λ n g. ((typed n g, refl), forth n))
+
+  opt_number_lawful : Lawful Typed (enc_opt_number number_of) (opt_number of)
+  unfolding mapped
+  opt_number_lawful = recode (enc_opt_number number_of) (λ o g. opt_number_bytes o) (optional_lawful there Typed None some_lawful (none, refl) none_only)
 
 pub height_lawful : Lawful TypedOptionalHeight encode_height parse_height
-unfolding parse_height mapped
-height_lawful = recode encode_height (λ h x. height_bytes h) (optional_lawful is_height TypedOptionalHeight None height_there (tt, refl) height_only)
-
-abbrev is_id : Option SubmissionId → Bool
-is_id None = false
-is_id (Some i) = true
-
-abbrev id_number : Option SubmissionId → ℕ
-id_number None = 0
-id_number (Some i) = i.0
-
-id_bytes : (i : Option SubmissionId) → enc_opt (is_id i) (be 8 (id_number i)) ≡ encode_id i
-unfolding enc_opt encode_id
-id_bytes None = refl
-id_bytes (Some i) = refl
-
-id_back : (i : Option SubmissionId) → TypedOptionalId i × (is_id i ≡ true) → (id_number i < 256 ^ 8) × (Some (record { 0 = id_number i }) ≡ i)
-id_back None x = absurd (false≢true x.1)
-id_back (Some i) x = (x.0, refl)
-
-id_only : (i : Option SubmissionId) → TypedOptionalId i → is_id i ≡ false → i ≡ None
-id_only None g e = refl
-id_only (Some i) g e = absurd (false≢true (sym e))
-
-id_there : Lawful (λ i. TypedOptionalId i × (is_id i ≡ true)) (λ i. be 8 (id_number i)) (mapped (λ n. Some (record { 0 = n })) (number 8))
-id_there = mapped_lawful (λ n. Some (record { 0 = n })) id_number (number_lawful 8) id_back (λ n g. ((g, refl), refl))
+unfolding parse_height encode_height
+height_lawful = opt_number_lawful (λ n. record { 0 = n }) (λ (h : Height). h.0) TypedOptionalHeight (λ h. refl) (λ n. refl) tt (λ n g. g) (λ h g. g)
 
 pub id_lawful : Lawful TypedOptionalId encode_id parse_id
-unfolding parse_id mapped
-id_lawful = recode encode_id (λ i x. id_bytes i) (optional_lawful is_id TypedOptionalId None id_there (tt, refl) id_only)
+unfolding parse_id encode_id
+id_lawful = opt_number_lawful (λ n. record { 0 = n }) (λ (i : SubmissionId). i.0) TypedOptionalId (λ i. refl) (λ n. refl) tt (λ n g. g) (λ i g. g)
 
 -- ---- kinds
 goal_back : (k : SubmissionDeliveryGoal) → Unit {0} → (goal_number k ≤ 1) × (goal_of (goal_number k) ≡ k)

@@ -9,7 +9,7 @@ use Prim.Native.Nat.{ℕ, zero, suc, ◌≤◌, ◌<◌, zero-le}
 use Rattle.std.proofs.Math.ListN.{length, length-append}
 use Rattle.base_lists.specs.Lists.{elemb}
 use Rattle.std.specs.List.{flat_map}
-use Rattle.codec_forms.specs.Wire.{Ans, got, bad, and_then, pick, end}
+use Rattle.codec_forms.specs.Wire.{Ans, got, bad, and_then, pick, opt_number, end}
 use Rattle.codec_forms.specs.Lawful.{Spans}
 use Rattle.codec_forms.specs.Steady.{Steady, steady_bind, steady_done, steady_mapped, end_place, end_first}
 use Rattle.codec_forms.proofs.Steady.{steady_run, steady_number, number_item_lem, checked_item, up_to_item, steady_optional, steady_optional_by, steady_counted, steady_list}
@@ -45,13 +45,16 @@ bundle_steady : (base : Bool) → Steady (parse_bundle base)
 unfolding parse_bundle
 bundle_steady base = steady_bind (steady_list 4 (λ before. spend_steady base)) (λ l. steady_done _)
 
+opt_number_steady : {A : Type 0} (of : ℕ → A) → Steady (opt_number of)
+opt_number_steady of = steady_optional None (steady_bind (steady_number 8) (λ n. steady_done _))
+
 height_steady : Steady parse_height
 unfolding parse_height
-height_steady = steady_optional None (steady_bind (steady_number 8) (λ n. steady_done _))
+height_steady = opt_number_steady _
 
 id_steady : Steady parse_id
 unfolding parse_id
-id_steady = steady_optional None (steady_bind (steady_number 8) (λ n. steady_done _))
+id_steady = opt_number_steady _
 
 attached_steady : (k : ℕ) → Steady (parse_attached k)
 unfolding parse_attached

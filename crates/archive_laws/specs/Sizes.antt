@@ -2,6 +2,7 @@
 use Rattle.std.specs.Prelude.{◌≡◌, refl, Bool, true, false, List, [], ◌∷◌, ◌++◌, ℕ, zero, suc, ◌+◌, ◌*◌, ◌≤◌, length, take}
 use Rattle.std.proofs.Common.{suc-mul, arith, length-append, length-take}
 use Rattle.archive_form.specs.Lengths.{id_size, numbers_size}
+use Rattle.codec_forms.specs.Puts.{opt_number_few}
 use Rattle.codec_forms.specs.Wire.{be, enc_many, enc_list}
 use Rattle.codec_forms.specs.Number.{be_length, opt_size}
 use Rattle.archive_bundle_form.specs.Forms.{encode_output, encode_run, encode_spend, encode_bundle, encode_height, encode_fee_intent, kind_number, attached}
@@ -10,7 +11,6 @@ use Rattle.book.specs.Model.{Book, view}
 use Rattle.book.specs.Typed.{Every, Typed, TypedOutput, TypedSpend, TypedBundle, TypedFeeIntent, TypedHash, TypedAttempt, TypedOptionalAttempt, TypedSlots, TypedVariant, TypedRetainedIntent, TypedState, TypedSubmitted, TypedDelivery}
 use Rattle.std.specs.Prelude.{Option}
 use Rattle.book.specs.declared.Height.{Height}
-use Rattle.std.specs.Prelude.{None, Some}
 use Rattle.book.specs.declared.Output.{Output}
 use Rattle.book.specs.declared.CoinSpend.{CoinSpend}
 use Rattle.book.specs.declared.SpendBundle.{SpendBundle}
@@ -87,8 +87,7 @@ bundle_size b t =
 
 pub height_size : (h : Option Height) → length (encode_height h) ≤ 9
 unfolding encode_height
-height_size None = omega (arith, be_length 1 0)
-height_size (Some h) = omega (arith, length-append (be 1 1) (be 8 h.0), be_length 1 1, be_length 8 h.0)
+height_size = opt_number_few (λ h. h.0)
 
 pub fee_intent_size : (f : SubmissionFeeIntent) → TypedFeeIntent f → length (encode_fee_intent f) ≤ 41
 unfolding encode_fee_intent

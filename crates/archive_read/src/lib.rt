@@ -11,7 +11,8 @@ use archive_bundle_read::part::read_height;
 use book::{BookData, Height, Ids, PendingDelivery, ReplayEpoch, SubmissionId, SubmittedTx, Token};
 use codec_cursor::FAR;
 
-// `place` is that of a refusal; with a book it is 0. With a refusal the book is zero.
+// `place` is that of a refusal; with a book it is 0. With a refusal the book is zero. A mark beside the book, and no `Result` of one,
+// which copies the 60 KB of a book once more at each call.
 #[derive(Clone, Copy)]
 pub struct ReadArchive {
     pub ok: bool,

@@ -18,6 +18,7 @@ pub struct Numbers {
     pub id: SubmissionId,
 }
 
+// Counts beside arrays, here and in `Queue`: the library has no heap. `ids` stands beside `items`, since readers are lent it as a slice.
 #[derive(Clone, Copy)]
 pub struct Retained {
     pub count: usize,
@@ -93,12 +94,13 @@ pub fn read_retirements(s: &[u8], at: &mut usize) -> Ids<64>
 }
 
 // Whether x is above the last.
-fn rises(earlier: &[u64], x: SubmissionId) -> bool
-    ensures { result ≡ above earlier.now x.0 }
+fn rises(earlier: &[u64], x: u64) -> bool
+    ensures { result ≡ above earlier.now x }
 {
+    // A match: `is_none_or` gets no proof here.
     match earlier.last() {
         None => true,
-        Some(y) => *y < x.0,
+        Some(y) => *y < x,
     }
 }
 
@@ -108,11 +110,10 @@ fn read_replay(s: &[u8], at: &mut usize, retained: &[u64], earlier: &[u64]) -> S
 {
     let start = *at;
     let n = read_number(s, &mut *at);
-    let id = SubmissionId(n);
-    let up = rises(earlier, id);
+    let up = rises(earlier, n);
     let held = retained.contains(&n);
     *at = pass(up & held, start, *at);
-    id
+    SubmissionId(n)
 }
 
 pub fn read_replays(s: &[u8], at: &mut usize, retained: &[u64]) -> Ids<16>

@@ -1,18 +1,13 @@
 -- How long the parts of an archive are.
 use Rattle.std.specs.Prelude.{◌≡◌, Bool, true, false, List, ◌++◌, ℕ, ◌+◌, ◌*◌, min, length, take}
 use Rattle.std.proofs.Common.{sym, ap, ◌∙◌, arith, length-append}
-use Rattle.std.proofs.lemmas.Bool.{false≢true}
 use Rattle.archive_form.specs.Lengths.{numbers_size}
 use Rattle.base_lists.specs.Laws.{count_cut}
 use Rattle.codec_forms.specs.Wire.{be, enc_many, enc_list, enc_opt}
 use Rattle.codec_forms.specs.Number.{be_length, numbers_length}
 use Rattle.codec_forms.specs.Puts.{Size}
 use Rattle.archive_bundle_form.specs.Forms.{encode_bundle, encode_height, encode_fee_intent}
-use Rattle.std.specs.Prelude.{is_none}
 use Rattle.book.specs.Model.{view}
-use Rattle.std.specs.Prelude.{Option}
-use Rattle.book.specs.declared.SubmissionId.{SubmissionId}
-use Rattle.std.specs.Prelude.{None, Some}
 use Rattle.book.specs.declared.OptionalHash.{OptionalHash}
 use Rattle.book.specs.declared.OptionalAttempt.{OptionalAttempt}
 use Rattle.book.specs.declared.SubmissionBroadcastVariant.{SubmissionBroadcastVariant}
@@ -112,16 +107,6 @@ submitted_size t a c f sa sc sf =
       is = omega (arith, sa.is, sc.is, sf.is, length-append (i ++ (x ++ y)) g, length-append i (x ++ y), length-append x y, be_length 8 t.entry.id.0);
       few = omega (arith, sa.few, sc.few, sf.few);
     }
-
-pub no_id_size : (i : Option SubmissionId) → is_none i ≡ true → Size (encode_id i) 9 1
-unfolding encode_id
-no_id_size None e = record { is = sym (be_length 1 0); few = omega arith }
-no_id_size (Some x) e = absurd (false≢true e)
-
-pub id_size : (i : Option SubmissionId) → is_none i ≡ false → Size (encode_id i) 9 9
-unfolding encode_id
-id_size None e = absurd (false≢true (sym e))
-id_size (Some x) e = record { is = omega (arith, length-append (be 1 1) (be 8 x.0), be_length 1 1, be_length 8 x.0); few = omega arith }
 
 pub delivery_size : (d : PendingDelivery) (i b h f : ℕ) → Size (encode_id d.intent.id) 9 i → Size (encode_bundle d.intent.bundle) 1073 b → Size (encode_height d.intent.expiry) 9 h → Size (encode_fee_intent d.intent.fee_intent) 41 f → Size (encode_delivery d) 1134 (2 + i + b + h + f)
 unfolding encode_delivery

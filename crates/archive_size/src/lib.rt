@@ -56,6 +56,7 @@ fn size_submitted(t: &SubmittedTx) -> usize
     8 + s + size_facts(t.entry)
 }
 
+// One line, as `size_height` is: a function for both would be told the form, and each would still say which it sizes.
 fn size_id(i: Option<SubmissionId>) -> usize
     ensures { Size (encode_id i) 9 result }
 {

@@ -1,5 +1,5 @@
 -- What the walk answers: the parser's own answer, of a book its numbers and the places where the encodings of its parts stand.
-use Rattle.std.specs.Prelude.{ℕ, ◌+◌, ◌-◌, ◌≤◌, ◌<◌, ◌≡◌, true, false, List, ◌++◌, map, length, take, replicate}
+use Rattle.std.specs.Prelude.{Result, Ok, Err, ℕ, ◌+◌, ◌-◌, ◌≤◌, ◌<◌, ◌≡◌, true, false, List, ◌++◌, map, length, take}
 use Rattle.std.proofs.Common.{zero-le, ◌∙◌, subst, le-leb, le-ltb, arith, length-append}
 use Rattle.std.proofs.Math.Path.{refl, sym, ap}
 use Rattle.std.proofs.lemmas.Bool.{lt-leb}
@@ -20,11 +20,11 @@ use Rattle.book.specs.declared.Height.{Height}
 use Rattle.book.specs.declared.Ids.{Ids}
 use Rattle.archive_bundle_form.specs.Forms.{encode_height}
 use Rattle.archive_form.specs.Encode.{encode_submitted, encode_delivery}
-use Rattle.archive_form.specs.Parse.{Numbers, parse_numbers, parse_retired, parse_height, parse_replayed, parse_model, parse_whole, read_archive, archive_read, book, broken}
+use Rattle.archive_form.specs.Parse.{Numbers, parse_numbers, parse_retired, parse_height, parse_replayed, parse_model, parse_whole, read_archive, archive_read, book}
 use Rattle.archive_laws.specs.Entries.{GoodSubmitted, submitted_lawful}
 use Rattle.archive_laws.specs.Parts.{height_lawful}
 use Rattle.archive_laws.specs.Books.{enc_numbers, numbers_lawful, queue_lawful, GoodRetired, retired_lawful}
-use Rattle.archive_read.specs.Archive.{archive_answer, zero_book}
+use Rattle.archive_read.specs.Archive.{archive_answer}
 use Rattle.archive_read.specs.declared.ReadArchive.{ReadArchive}
 use Rattle.archive_walk.specs.declared.Walk.{Walk}
 use Rattle.archive_walk.specs.Skips.{reads_before}
@@ -47,8 +47,6 @@ replayed_at m = rollback_at m + length (encode_height m.rollback)
 -- the entries of a section stand behind its count
 abbrev pub walk_of : Book → Walk
 walk_of m = record {
-  ok = true;
-  place = 0;
   next_delivery_attempt_token = m.next_token;
   next_submission_id = m.next_id;
   submitted_count = length m.submitted;
@@ -61,25 +59,9 @@ walk_of m = record {
   replayed = replayed_at m;
 }
 
-abbrev pub broken_at : ℕ → Walk
-broken_at e = record {
-  ok = false;
-  place = e;
-  next_delivery_attempt_token = record { 0 = 0 };
-  next_submission_id = record { 0 = 0 };
-  submitted_count = 0;
-  submitted = replicate 17 0;
-  queue = 0;
-  pending_count = 0;
-  pending_deliveries = replicate 17 0;
-  retired = 0;
-  rollback = 0;
-  replayed = 0;
-}
-
-abbrev pub walked : Ans Book → Walk
-walked (got m e) = walk_of m
-walked (bad e) = broken_at e
+abbrev pub walked : Ans Book → Result Walk ℕ
+walked (got m e) = Ok (walk_of m)
+walked (bad e) = Err e
 
 pub record WalksBook (s : List ℕ) (c : ℕ) (w : Walk) (e : ℕ) : Type 0 where
   pub model : Book
@@ -94,8 +76,6 @@ pub book_walks : {s : List ℕ} {c d e f g h j k m : ℕ} {token : Token} {id : 
     → IsBytes s → Reads parse_numbers s c (record { token = token.0; id = id.0 }) d → WalksRetained token.0 s d k ids ts e → WalksQueue s e m qs f
     → ReadsCells 64 0 parse_retired s f r.count r.items g → Reads parse_height s g height h → ReadsCells 16 0 (parse_replayed (take k ids)) s h p.count p.items j
     → WalksBook s c (record {
-      ok = true;
-      place = 0;
       next_delivery_attempt_token = token;
       next_submission_id = id;
       submitted_count = k;
@@ -143,8 +123,6 @@ book_walks {s} {c} {d} {e} {f} {g} {h} {j} {k} {m} {token} {id} {ids} {ts} {qs} 
           let sq = t.spots ef x₀.1.inside ∙ ap (λ (i : ℕ). cells 17 0 (places encode_submitted (i + 1) (take k items))) dq in
           let pq = q.spots ff x₁.1.inside ∙ ap (λ (i : ℕ). cells 17 0 (places encode_delivery (i + 1) (take m q.items))) eq in
           λ i. record {
-            ok = true;
-            place = 0;
             next_delivery_attempt_token = token;
             next_submission_id = id;
             submitted_count = sym cs.long i;
@@ -167,33 +145,37 @@ module _ (s : List ℕ) {w : Walk} {e : ℕ} (r : WalksBook s 0 w e) where
   unfolding parse_whole
   whole h = ap (λ (x : Ans Book). walked (ended x)) h
 
-  pub walk_over : e < length s → length s < far → broken_at e ≡ walked (parse_whole s 0)
+  pub walk_over : e < length s → length s < far → Err e ≡ walked (parse_whole s 0)
   unfolding end
   walk_over h l = sym (whole (reads_got r.read (omega arith)) ∙ rw (lt-leb (length s) e h))
 
-  pub walk_got : length s ≤ e → e < far → w ≡ walked (parse_whole s 0)
+  pub walk_got : length s ≤ e → e < far → Ok w ≡ walked (parse_whole s 0)
   unfolding end
-  walk_got h l = r.walk l refl ∙ sym (whole (reads_got r.read l) ∙ rw (le-leb (length s) e h))
+  walk_got h l = ap Ok (r.walk l refl) ∙ sym (whole (reads_got r.read l) ∙ rw (le-leb (length s) e h))
 
-  pub walk_bad : far ≤ e → broken_at (e - far) ≡ walked (parse_whole s 0)
+  pub walk_bad : far ≤ e → Err (e - far) ≡ walked (parse_whole s 0)
   walk_bad h = sym (whole {x = bad (e - far)} (sym r.read.is ∙ rw (le-ltb e far h)))
 
 -- ---- the walk and the reader agree
-pub record Agrees (w : Walk) (r : ReadArchive) : Type 0 where
-  pub ok : w.ok ≡ r.ok
-  pub place : w.place ≡ r.place
+pub record AgreesBook (w : Walk) (r : ReadArchive) : Type 0 where
+  pub ok : true ≡ r.ok
+  pub place : 0 ≡ r.place
   pub token : w.next_delivery_attempt_token ≡ r.book.next_delivery_attempt_token
   pub id : w.next_submission_id ≡ r.book.next_submission_id
   pub submitted : w.submitted_count ≡ r.book.submitted_count
   pub pending : w.pending_count ≡ r.book.pending_count
 
-of_book : (m : Book) → Agrees (walk_of m) (archive_answer (book (back m)))
+pub record AgreesPlace (e : ℕ) (r : ReadArchive) : Type 0 where
+  pub ok : false ≡ r.ok
+  pub place : e ≡ r.place
+
+abbrev pub Agrees : Result Walk ℕ → ReadArchive → Type 0
+Agrees (Ok w) r = AgreesBook w r
+Agrees (Err e) r = AgreesPlace e r
+
+of_book : (m : Book) → AgreesBook (walk_of m) (archive_answer (book (back m)))
 unfolding back
 of_book m = record { ok = refl; place = refl; token = refl; id = refl; submitted = refl; pending = refl }
-
-of_none : (e : ℕ) → Agrees (broken_at e) (archive_answer (broken e))
-unfolding zero_book back
-of_none e = record { ok = refl; place = refl; token = refl; id = refl; submitted = refl; pending = refl }
 
 pub walk_agrees : (s : List ℕ) → Agrees (walked (parse_whole s 0)) (archive_answer (read_archive s))
 unfolding read_archive
@@ -201,4 +183,4 @@ walk_agrees s = go (parse_whole s 0)
   where
     go : (x : Ans Book) → Agrees (walked x) (archive_answer (archive_read x))
     go (got m e) = of_book m
-    go (bad e) = of_none e
+    go (bad e) = record { ok = refl; place = refl }

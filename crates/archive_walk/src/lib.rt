@@ -6,7 +6,7 @@ mod skip;
 
 ghost use Rattle.std.specs.Prelude.{◌≡◌};
 ghost use Rattle.archive_form.specs.Parse.{parse_whole};
-ghost use Rattle.archive_walk.specs.Walk.{walked, broken_at, WalksBook};
+ghost use Rattle.archive_walk.specs.Walk.{walked, WalksBook};
 
 use archive_bundle_read::part::read_height;
 use archive_read::section::{read_numbers, read_replays, read_retirements};
@@ -14,13 +14,10 @@ use book::{SubmissionId, Token};
 use codec_cursor::FAR;
 use section::{walk_queue, walk_retained};
 
-// What the walk answers. Of an archive `place` is 0, and the rest are the book's two numbers and the places of its parts: of
-// each submission and each queue entry, with the place behind the last one, and of the sections behind the submissions. Else
-// `place` is that of the first item that is cut short or breaks a rule, and the rest is zero.
+// What the walk finds of an archive: the book's two numbers and the places of its parts, of each submission and each queue entry,
+// with the place behind the last one, and of the sections behind the submissions. Counts beside arrays: the library has no heap.
 #[derive(Clone, Copy)]
 pub struct Walk {
-    pub ok: bool,
-    pub place: usize,
     pub next_delivery_attempt_token: Token,
     pub next_submission_id: SubmissionId,
     pub submitted_count: usize,
@@ -31,25 +28,6 @@ pub struct Walk {
     pub retired: usize,
     pub rollback: usize,
     pub replayed: usize,
-}
-
-fn broken(place: usize) -> Walk
-    ensures { result ≡ broken_at place }
-{
-    Walk {
-        ok: false,
-        place,
-        next_delivery_attempt_token: Token(0),
-        next_submission_id: SubmissionId(0),
-        submitted_count: 0,
-        submitted: [0; 17],
-        queue: 0,
-        pending_count: 0,
-        pending_deliveries: [0; 17],
-        retired: 0,
-        rollback: 0,
-        replayed: 0,
-    }
 }
 
 // Sections in their order.
@@ -71,8 +49,6 @@ fn walk_book(s: &[u8], at: &mut usize) -> Walk
     let submitted = t.places;
     let pending_deliveries = q.places;
     Walk {
-        ok: true,
-        place: 0,
         next_delivery_attempt_token,
         next_submission_id,
         submitted_count: t.count,
@@ -86,16 +62,17 @@ fn walk_book(s: &[u8], at: &mut usize) -> Walk
     }
 }
 
-pub fn walk_archive(s: &[u8]) -> Walk
+// Of bytes that are no archive, the place of the first item that is cut short or breaks a rule.
+pub fn walk_archive(s: &[u8]) -> Result<Walk, usize>
     ensures { result ≡ walked (parse_whole s.now 0) }
 {
     let mut at: usize = 0;
-    let w = walk_book(s, &mut at);
+    let walk = walk_book(s, &mut at);
     if at < s.len() {
-        return broken(at);
+        return Err(at);
     }
     if at < FAR {
-        return w;
+        return Ok(walk);
     }
-    broken(at - FAR)
+    Err(at - FAR)
 }

@@ -14,6 +14,7 @@ pub struct Seen {
     pub slots: AttemptSlots,
 }
 
+// Counts beside arrays, here and in `Queue`: the library has no heap.
 #[derive(Clone, Copy)]
 pub struct Retained {
     pub count: usize,

@@ -21,6 +21,7 @@ pub fn skip(s: &[u8], at: &mut usize, n: usize)
 }
 
 // n bytes behind a mark.
+// A test of the mark in each optional part: what stands behind differs, and a function told how to skip it is no shorter.
 fn skip_optional(s: &[u8], at: &mut usize, n: usize)
     ensures { SkipsOptional n s.now at.old at.new }
 {
@@ -40,6 +41,7 @@ fn skip_output(s: &[u8], at: &mut usize)
 
 // A list of at most `most` items after its count. The caller names the function that skips one; the ghost value is an unused cell of the
 // reader and the parser of an item.
+// The clause with `IsAlwaysCallable` is std's form for a function that is lent.
 fn skip_list<T, F: Fn(&[u8], &mut usize)>(s: &[u8], at: &mut usize, most: u8, skip_one: F)
     ghost of: { T × Parser T }
     requires callable { F.IsAlwaysCallable skip_one }

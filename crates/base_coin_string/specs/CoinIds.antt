@@ -1,6 +1,9 @@
 -- Coin ids listed in bytes, 32 for each.
-use Rattle.std.specs.Prelude.{◌≡◌, Bool, ◌&&◌, List, [], ◌∷◌, ◌++◌, ℕ, zero, suc, ◌/◌, ◌%◌, eqb, leb, length, take, drop}
-use Rattle.std.proofs.Common.{ap, ◌∙◌, arith, length-append, take_at, drop_at}
+use Rattle.std.specs.Prelude.{◌≡◌, refl, Bool, ◌&&◌, ◌||◌, List, [], ◌∷◌, ℕ, zero, suc, ◌/◌, ◌%◌, eqb, leb, length, take, drop}
+use Rattle.std.specs.List.{list_any}
+use Rattle.std.specs.Simd.{first_chunks}
+use Rattle.base_lists.specs.Bytes.{eqs, is_in}
+use Rattle.std.proofs.Common.{ap}
 
 -- what refusal 2 asks of coin ids: "0 to 800 times 32 bytes"
 abbrev pub id_listb : List ℕ → Bool
@@ -14,8 +17,7 @@ ids_from (suc n) s = take 32 s ∷ ids_from n (drop 32 s)
 abbrev pub ids_in : List ℕ → List (List ℕ)
 ids_in s = ids_from (length s / 32) s
 
--- the first id of a list, and those behind it
-pub ids_next : (x r : List ℕ) {s : List ℕ} → s ≡ x ++ r → length x ≡ 32 → ids_in s ≡ x ∷ ids_in r
-ids_next x r {s} e l =
-    let n : length s / 32 ≡ suc (length r / 32) = omega (arith, ap length e, length-append x r) in
-    ap (λ (k : ℕ). ids_from k s) n ∙ (λ j. take 32 (e j) ∷ ids_from (length r / 32) (drop 32 (e j))) ∙ (λ j. take_at x r 32 l j ∷ ids_from (length r / 32) (drop_at x r 32 l j))
+-- an id among the first n runs of 32 bytes
+pub among_chunks : (c : List ℕ) (n : ℕ) (s : List ℕ) → list_any (λ (x : List ℕ). eqs x c) (first_chunks 32 n s) ≡ is_in (ids_from n s) c
+among_chunks c zero s = refl
+among_chunks c (suc n) s = ap (λ (b : Bool). eqs (take 32 s) c || b) (among_chunks c n (drop 32 s))

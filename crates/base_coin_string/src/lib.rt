@@ -4,7 +4,7 @@
 ghost use Rattle.std.specs.Prelude.{◌≡◌, ◌+◌, ◌-◌, ◌≤◌, ◌<◌, min, [], take, drop, length};
 ghost use Rattle.base_coin_string.specs.Amount.{atom_length, big_endian, atom_of};
 ghost use Rattle.base_coin_string.specs.Coin.{FromParts, cell_of, coin_id_of};
-ghost use Rattle.base_coin_string.specs.Build.{pushed, pushes};
+ghost use Rattle.base_coin_string.specs.Build.{pushes};
 ghost use Rattle.base_coin_string.specs.CoinList.{count_of, end_at, coin_listb, coins_in};
 ghost use Rattle.base_coin_string.specs.CoinIds.{id_listb, ids_in};
 ghost use Rattle.base_coin_string.specs.Order.{cell_order};
@@ -12,7 +12,7 @@ ghost use Rattle.base_lists.specs.Bytes.{eqs, is_in};
 
 use std::cmp::Ordering;
 
-// The first len bytes are the coin's, and the others zero.
+// The first len bytes are the coin's, and the others zero. The library has no heap.
 #[derive(Clone, Copy)]
 pub struct CoinString {
     pub bytes: [u8; 73],
@@ -87,6 +87,7 @@ fn within(len: u8) -> usize
 }
 
 // The coin's id: SHA-256 of its first len bytes.
+// Cell and length stand apart, as a spend of the book has them (`CoinSpend`): a `CoinString` of them would be a copy.
 pub fn to_coin_id(coin: [u8; 73], len: u8) -> [u8; 32]
     ensures { result ≡ coin_id_of (take len coin) }
 {
@@ -101,19 +102,12 @@ fn part(s: &[u8], from: usize, to: usize) -> &[u8]
     s.get(from..to.min(s.len())).unwrap_or(&[])
 }
 
-// The first 73 bytes of a slice in a cell.
-pub fn from_bytes(s: &[u8]) -> CoinString
-    ensures { result ≡ cell_of (take 73 s.now) }
-{
-    push_all(empty(), part(s, 0, 73))
-}
-
 // How many coins a list says it has.
 pub fn list_count(s: &[u8]) -> usize
     ensures { result ≡ count_of s.now }
 {
     match s {
-        [high, low, ..] => usize::from(*high) * 256 + usize::from(*low),
+        [high, low, ..] => usize::from(u16::from_be_bytes([*high, *low])),
         _ => 0,
     }
 }
@@ -186,15 +180,11 @@ pub fn is_id_list(s: &[u8]) -> bool
 pub fn has_id(s: &[u8], id: &[u8; 32]) -> bool
     ensures { result ≡ is_in (ids_in s.now) id.now }
 {
-    for x in s.chunks_exact(32) {
-        if x == id.as_slice() {
-            return true;
-        }
-    }
-    false
+    s.as_chunks::<32>().0.contains(id)
 }
 
 // The order of two coins' bytes.
+// A function and no derived `Ord`, which would compare the cells behind the coin's bytes too.
 pub fn compare_coins(a: CoinString, b: CoinString) -> Ordering
     ensures { result ≡ cell_order a b }
 {

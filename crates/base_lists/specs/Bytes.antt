@@ -1,6 +1,6 @@
 -- Equality of lists of bytes, and its laws.
 use Rattle.std.specs.Prelude.{◌≡◌, refl, Bool, true, false, ◌&&◌, ◌||◌, List, [], ◌∷◌, ℕ, suc, eqb, length}
-use Rattle.std.proofs.Common.{sym, ap, ◌∙◌, eq-eqb, ne_eqb, eqb-true}
+use Rattle.std.proofs.Common.{sym, ap, ◌∙◌, eqb-true}
 use Rattle.std.proofs.lemmas.Bool.{false≢true}
 use Rattle.base_lists.specs.Laws.{and_split}
 pub use Rattle.base_lists.specs.Laws.{rest_step, counted_step, counted_end}

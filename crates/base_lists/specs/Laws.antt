@@ -1,8 +1,7 @@
 -- Laws of Lists. Those under "a loop's turn" are what a loop over a slice or over the first n cells of an array asks.
 use Rattle.std.specs.Prelude.{◌≡◌, refl, Bool, true, false, cond, not, ◌&&◌, ◌||◌, List, [], ◌∷◌, ◌++◌, map, ℕ, zero, suc, ◌+◌, ◌-◌, ◌<◌, ◌≤◌, min, eqb, ltb, leb, length, get_or, take, drop, set, replicate}
-use Rattle.std.proofs.Common.{sym, ap, ◌∙◌, append_assoc, append-nil, add-zero, le_refl, add-one, arith, eqb-true, eq-eqb, ne_eqb, lt-ltb, ltb-true, leb-true, leb-false, length-append, length-take, length-set, length-drop, drop_of_length-le, take-append-drop, drop-cons, take-suc-set, get_or-take, length-take-le, take_at, drop_at, take_all}
+use Rattle.std.proofs.Common.{sym, ap, ◌∙◌, append_assoc, append-nil, le_refl, add-one, arith, eqb-true, eq-eqb, ne_eqb, lt-ltb, ltb-true, leb-true, leb-false, length-append, length-take, length-set, length-drop, drop_of_length-le, take-append-drop, drop-cons, take-suc-set, get_or-take, length-take-le, take_at, drop_at, take_all}
 use Rattle.std.proofs.lemmas.Bool.{false≢true}
-use Rattle.std.proofs.Math.Bool.{and_assoc, and-true}
 use Rattle.std.proofs.Math.Dec.{leb-suc-suc}
 use Rattle.std.proofs.lemmas.List.{length-replicate, set-append_left}
 use Rattle.std.proofs.Math.Seq.{set-append_seam}

@@ -1,16 +1,9 @@
-// The lesser of two counts, and tests over slices of numbers, each equal to a function of plain lists.
+// Tests over slices of numbers, each equal to a function of plain lists.
 #![tactic(auto)]
 
-ghost use Rattle.std.specs.Prelude.{◌≡◌, min, ltb};
+ghost use Rattle.std.specs.Prelude.{◌≡◌, ltb};
 ghost use Rattle.base_lists.specs.Lists.{elemb, distinctb, risingb, is_zero, full_of};
 ghost use Rattle.std.specs.List.{list_all};
-ghost use Rattle.base_lists.specs.Bytes.{eqs};
-
-pub fn at_most(n: usize, most: usize) -> usize
-    ensures { result ≡ min n most }
-{
-    n.min(most)
-}
 
 pub fn contains(s: &[u64], x: u64) -> bool
     ensures { result ≡ elemb x s.now }
@@ -47,6 +40,7 @@ pub fn is_rising(s: &[u64]) -> bool
     true
 }
 
+// A chain and no `==` with an array of zeros: the definition asks each byte in the same way.
 pub fn zero_bytes(a: &[u8]) -> bool
     ensures { result ≡ list_all is_zero a.now }
 {
@@ -57,16 +51,4 @@ pub fn zero_array<const N: usize>(a: &[u8; N]) -> bool
     ensures { result ≡ full_of N is_zero a.now }
 {
     zero_bytes(a)
-}
-
-pub fn same(a: &[u8], b: &[u8]) -> bool
-    ensures { result ≡ eqs a.now b.now }
-{
-    a == b
-}
-
-pub fn same32(a: &[u8; 32], b: &[u8; 32]) -> bool
-    ensures { result ≡ eqs a.now b.now }
-{
-    a == b
 }

@@ -1,14 +1,15 @@
 -- Laws of the definitions of specs/, as the proofs of the loops use them. Assumes nothing.
 use mathlib.Core.Path.{◌≡◌, refl, sym, ap, ◌∙◌}
 use mathlib.Core.List.{List, [], ◌∷◌, ◌++◌}
-use Prim.Native.Nat.{ℕ, min, suc, ◌+◌, ◌-◌, ◌*◌, ◌/◌, ◌%◌, ◌^◌, ◌≤◌, ◌<◌}
+use Prim.Native.Nat.{ℕ, min, zero, suc, ◌+◌, ◌-◌, ◌*◌, ◌/◌, ◌%◌, ◌^◌, ◌≤◌, ◌<◌}
 use mathlib.Core.Logic.{⊎_elim}
 use native.Mathlib.Nat.{mod-add-div', add-mul-div_right, add-mul-mod_self_right, eq-zero-or-pos, eq-or-lt_of_le}
 use native.Mathlib.Numerals.{add-one}
 use native.Mathlib.Omega.{arith}
 use borrow.Author.Tests.{lt-ltb, le-ltb}
 use lib.ListN.{length, get_or, take, drop, set, replicate, length-append, length-replicate, length-take, length-drop, length-set, get_or-replicate, get_or-append}
-use lib.Seq.{take-suc-set, get_or-take, get_or-drop, get_or-append-add, get_or-set_same, get_or-set_other, ext_get_or, take-append-le, drop-append-le, take_at, drop_at, drop-drop}
+use lib.Seq.{take-suc-set, get_or-take, get_or-drop, get_or-append-add, get_or-set_same, get_or-set_other, ext_get_or, take-append-le, drop-append-le, drop-drop}
+use Rattle.std.specs.Simd.{first_chunks}
 use Rattle.base_sha256.specs.declared.State.{State}
 use Rattle.base_sha256.specs.Fips.{Words, rounds, schedule, word_at, next, hashed, compress, block_at, pad, be64, zeros, digest}
 use Rattle.base_sha256.specs.Code.{words_of, round_at, eight_at, padded, Unmarked, Behind, InBlock, digest_of}
@@ -151,18 +152,19 @@ block_is m s b at j h u q e =
         ap (λ (i : ℕ). get_or (front ++ drop j b) i 0) a ∙ get_or-append-add front (drop j b) (k - j) 0 ∙ get_or-drop j b (k - j) 0
         ∙ ap (λ (i : ℕ). get_or b i 0) d ∙ u.bytes k i (q.all k i g)
 
--- a block that the message fills: x, in front of r, where k blocks were taken
-pub front_more : (s x r : List ℕ) (k : ℕ) → drop (k * 64) s ≡ x ++ r → length x ≡ 64 → block_at (pad s) k ≡ x
-unfolding pad padded
-front_more s x r k e l =
-    let n : k * 64 + 64 ≤ length s = omega (arith, ap length e, length-drop (k * 64) s, length-append x r) in
-    let i : 64 ≤ length (drop (k * 64) s) = omega (arith, length-drop (k * 64) s) in
-    rw (drop-append-le (k * 64) s _ (omega arith), take-append-le 64 (drop (k * 64) s) _ i, e) (take_at x r 64 l)
+-- a block that the message fills is one of its whole chunks
+chunk_at : (n i : ℕ) (s z : List ℕ) → i < n → get_or (first_chunks 64 n s) i z ≡ take 64 (drop (i * 64) s)
+chunk_at zero i s z h = absurd (omega arith)
+chunk_at (suc n) zero s z h = refl
+chunk_at (suc n) (suc i) s z h =
+    let q : 64 + i * 64 ≡ suc i * 64 = omega arith in
+    chunk_at n i (drop 64 s) z (omega arith) ∙ ap (take 64) (drop-drop (i * 64) 64 s ∙ ap (λ (j : ℕ). drop j s) q)
 
-pub front_rest : (s x r : List ℕ) (k : ℕ) → drop (k * 64) s ≡ x ++ r → length x ≡ 64 → r ≡ drop ((k + 1) * 64) s
-front_rest s x r k e l =
-    let q : k * 64 + 64 ≡ (k + 1) * 64 = omega arith in
-    sym (drop_at x r 64 l) ∙ ap (drop 64) (sym e) ∙ drop-drop 64 (k * 64) s ∙ ap (λ (i : ℕ). drop i s) q
+pub front_block : (s z : List ℕ) (i : ℕ) → i < length s / 64 → get_or (first_chunks 64 (length s / 64) s) i z ≡ block_at (pad s) i
+unfolding pad padded
+front_block s z i h =
+    chunk_at (length s / 64) i s z h
+    ∙ sym (rw (drop-append-le (i * 64) s _ (omega arith)) (take-append-le 64 (drop (i * 64) s) _ (omega (arith, length-drop (i * 64) s))))
 
 -- a byte of x modulo M, where the byte lies below M
 byte_mod : (x M a k : ℕ) → 0 < a → ((q : ℕ) → q * M ≡ q * k * 2 ^ 8 * a) → x % M / a % 2 ^ 8 ≡ x / a % 2 ^ 8

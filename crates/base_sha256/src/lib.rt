@@ -2,7 +2,7 @@
 #![tactic(auto)]
 
 ghost use Rattle.std.specs.Prelude.{◌≡◌, ◌+◌, ◌-◌, ◌*◌, ◌/◌, ◌%◌, ◌^◌, ◌<◌, ◌≤◌, ◌++◌, length, take, drop, replicate};
-ghost use Rattle.base_sha256.specs.Fips.{Ch, Maj, Σ0, Σ1, σ0, σ1, be32, K as round_constants_of_fips, word_at, next, mixed, T1, T2, schedule, round, rounds, plus, compress, hashed, be64, pad, H0, sha256_of};
+ghost use Rattle.base_sha256.specs.Fips.{Ch, Maj, Σ0, Σ1, σ0, σ1, K as round_constants_of_fips, word_at, next, mixed, T1, T2, schedule, round, rounds, plus, compress, hashed, be64, pad, H0, sha256_of};
 ghost use Rattle.base_sha256.specs.Code.{words_of, round_at, eight_at, padded, Unmarked, Behind, InBlock, digest_of};
 
 // A static, and no constant: one that is indexed is laid out anew at each use.
@@ -30,6 +30,7 @@ pub struct State {
     pub h: u32,
 }
 
+// FIPS 180-4 names four functions Σ0, Σ1, σ0, σ1: one function told their three numbers would hide which is which.
 fn big_sigma0(x: u32) -> u32
     ensures { result ≡ Σ0 x }
 {
@@ -108,8 +109,9 @@ fn round(s: State, k: u32, w: u32) -> State
 }
 
 // The word t of a block.
-fn word_at(b: &[u8], t: usize) -> u32
-    requires { (length b.now ≡ 64) × (t < 16) }
+// Words and rounds go by the index t, here and below, since the standard numbers them; t < 16 and t < 64 are how many there are.
+fn word_at(b: &[u8; 64], t: usize) -> u32
+    requires { t < 16 }
     ensures { result ≡ word_at b.now t }
 {
     let i = t * 4;
@@ -125,8 +127,7 @@ fn next_at(w: &[u32; 64], t: usize) -> u32
 }
 
 // The first 16 words of a block's message schedule, in room for all.
-fn first_words(b: &[u8]) -> [u32; 64]
-    requires { length b.now ≡ 64 }
+fn first_words(b: &[u8; 64]) -> [u32; 64]
     ensures { take 16 result ≡ schedule b.now 16 }
 {
     let mut w = [0u32; 64];
@@ -137,8 +138,7 @@ fn first_words(b: &[u8]) -> [u32; 64]
 }
 
 // The message schedule of a block.
-fn schedule(b: &[u8]) -> [u32; 64]
-    requires { length b.now ≡ 64 }
+fn schedule(b: &[u8; 64]) -> [u32; 64]
     ensures { result ≡ schedule b.now 64 }
 {
     let mut w = first_words(b);
@@ -197,8 +197,7 @@ fn add_words(s: State, t: State) -> State
 }
 
 // The hash value after one more block.
-fn hash_block(st: State, b: &[u8]) -> State
-    requires { length b.now ≡ 64 }
+fn hash_block(st: State, b: &[u8; 64]) -> State
     ensures { words_of result ≡ compress (words_of st) b.now }
 {
     let w = schedule(b);
@@ -216,6 +215,7 @@ fn length_block(x: u64) -> [u8; 64]
 }
 
 // The block at a place of a padded message, with zeros for the message and its mark.
+// This, `marked_block` and `padded_block` share a clause on `end` and `at`: a struct of them would be made anew for each block.
 fn unmarked_block(x: u64, end: usize, at: usize) -> [u8; 64]
     requires { (at + 56 ≤ end) × ((end - at) % 64 ≡ 56) }
     ensures { Unmarked (be64 x) end at result }
@@ -296,7 +296,7 @@ fn hash_full_blocks(s: &[u8]) -> State
     ensures { words_of result ≡ hashed (pad s.now) (length s.now / 64) }
 {
     let mut st = initial_hash();
-    for block in s.chunks_exact(64) {
+    for block in s.as_chunks().0 {
         st = hash_block(st, block);
     }
     st

@@ -1,5 +1,5 @@
 -- Laws of loops over the first n of an array's cells.
-use Rattle.std.specs.Prelude.{◌≡◌, Bool, true, false, cond, List, [], ◌∷◌, map, ℕ, ◌+◌, ◌<◌, length, get_or, take, set}
+use Rattle.std.specs.Prelude.{◌≡◌, List, [], ◌∷◌, map, ℕ, ◌+◌, ◌<◌, length, get_or, take, set}
 use Rattle.std.proofs.Common.{sym, ap, ◌∙◌, add-one, arith, length-take-le, take-suc}
 use Rattle.std.proofs.lemmas.List.{map-append, length-map}
 use Rattle.base_lists.specs.Lists.{cells}

@@ -1,6 +1,8 @@
 -- The numbers by which a call is turned away: paper 01, "Where a call is turned away". Specimens and recorded lists keep the bare numbers, so
 -- that two of these cannot be swapped unseen.
 use Rattle.std.specs.Prelude.{ℕ}
+use Rattle.book.specs.declared.refusal.Refusal.{Refusal}
+use Rattle.book.specs.declared.refusal.Refusal.TheVariants.{NoBook, BadList, BadValue, UnknownToken, AlreadyFinalized, NotFinalized, InvalidSubmission, StaleVariant, UnrequestedFee, Full, NoToken, ShortBuffer, NoArchive}
 
 -- door: the book is not sound
 abbrev pub no_book : ℕ
@@ -53,3 +55,19 @@ short_buffer = 12
 -- reader: not an archive
 abbrev pub no_archive : ℕ
 no_archive = 13
+
+-- the number of each refusal
+abbrev pub refusal_number : Refusal → ℕ
+refusal_number NoBook = no_book
+refusal_number BadList = bad_list
+refusal_number BadValue = bad_value
+refusal_number UnknownToken = unknown_token
+refusal_number AlreadyFinalized = already_finalized
+refusal_number NotFinalized = not_finalized
+refusal_number InvalidSubmission = invalid_submission
+refusal_number StaleVariant = stale_variant
+refusal_number UnrequestedFee = unrequested_fee
+refusal_number Full = full
+refusal_number NoToken = no_token
+refusal_number ShortBuffer = short_buffer
+refusal_number NoArchive = no_archive

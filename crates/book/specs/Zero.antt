@@ -1,10 +1,8 @@
 -- The zero of each part, which every unused cell holds, and the test for it.
 use Rattle.std.specs.Prelude.{Bool, true, false, not, ◌&&◌, List, ℕ, replicate}
 use Rattle.base_lists.specs.Lists.{full_of, is_zero}
-use Rattle.std.specs.Prelude.{Option, is_none}
-use Rattle.book.specs.declared.Height.{Height}
-use Rattle.std.specs.Prelude.{None, Some}
-use Rattle.book.specs.declared.SubmissionId.{SubmissionId}
+use Rattle.std.specs.Prelude.{is_none}
+use Rattle.std.specs.Prelude.{None}
 use Rattle.book.specs.declared.Output.{Output}
 use Rattle.book.specs.declared.CoinSpend.{CoinSpend}
 use Rattle.book.specs.declared.SpendBundle.{SpendBundle}

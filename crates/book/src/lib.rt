@@ -3,7 +3,8 @@
 // an optional number is an `Option`.
 #![tactic(auto)]
 
-pub mod refusals;
+pub mod refusal;
+pub mod sound;
 pub mod zero;
 
 // An attempt token, a submission id and a height are types of their own, so that none is taken for another.
@@ -24,6 +25,7 @@ pub struct Output {
 }
 
 // A spend: its coin string, the digest that stands for puzzle, solution and signature, and its run.
+// Counts beside arrays, here and below: the book is one value of fixed size without a heap, as paper 01 has it.
 #[derive(Clone, Copy)]
 pub struct CoinSpend {
     pub coin_len: u8,
@@ -48,6 +50,7 @@ pub enum FeeIntentKind {
 }
 
 // `SubmissionFeeIntent`: target and amount are those of `Attach`.
+// A kind with its values beside it is paper 01's form for an enum that holds an array.
 #[derive(Clone, Copy)]
 pub struct SubmissionFeeIntent {
     pub kind: FeeIntentKind,
@@ -84,6 +87,7 @@ pub enum FeeResolution {
     Attached,
 }
 
+// Marks with a cell beside them, here, in `OptionalAttempt` and `SubmissionBroadcastVariant`: paper 01's form for an optional array.
 #[derive(Clone, Copy)]
 pub struct OptionalHash {
     pub present: bool,
@@ -173,6 +177,7 @@ pub struct PendingDelivery {
 }
 
 // Up to N submission ids.
+// A count beside an array, as in the book; the cells are bare numbers, as the lists of ids are that C lends, and tests go by slices of both.
 #[derive(Clone, Copy)]
 pub struct Ids<const N: usize> {
     pub count: usize,

@@ -1,5 +1,5 @@
 // The zero of each part, and the test for it.
-ghost use Rattle.std.specs.Prelude.{◌≡◌, drop};
+ghost use Rattle.std.specs.Prelude.{◌≡◌, Bool, drop};
 ghost use Rattle.std.specs.List.{list_all};
 ghost use Rattle.base_lists.specs.Lists.{tail_of};
 ghost use Rattle.book.specs.Zero.{zero_output, zero_spend, zero_bundle, zero_fee_intent, zero_hash, zero_attempt, no_attempt, no_slots, base_variant, zero_retained_intent, zero_status, zero_state, zero_entry, zero_submitted, zero_intent, zero_delivery, is_zero_output, is_zero_spend, is_zero_bundle, is_zero_fee_intent, is_zero_hash, is_zero_attempt, is_no_attempt, is_no_slots, is_base_variant, is_zero_retained_intent, is_zero_status, is_zero_state, is_zero_entry, is_zero_submitted, is_zero_intent, is_zero_delivery};
@@ -13,6 +13,26 @@ use crate::{
 };
 use base_lists::zero_array;
 
+// The cells from n on pass the test. The caller names the test of one cell; the ghost value is its definition.
+// The clause with `IsAlwaysCallable` is std's form for a function that is lent.
+pub fn passes_from<T, F: Fn(&T) -> bool>(cells: &[T], n: usize, test: F) -> bool
+    ghost form: { T → Bool }
+    requires callable { F.IsAlwaysCallable test }
+    requires tests { (x : _) (r : _) → F.post test x r → r ≡ form x.now }
+    ensures { result ≡ list_all form (drop n cells.now) }
+{
+    let rest = &cells[n.min(cells.len())..];
+    // A loop: `skip(n).all(test)` gets no proof with a test that the caller names.
+    for x in rest {
+        if !test(x) {
+            return false;
+        }
+    }
+    true
+}
+
+// `zero` and `is_zero` are methods of each part and no trait, since no function is generic over the parts: `passes_from` is lent the test.
+// A derived `==` would first make the zero to compare with.
 impl Output {
     #[tactic(auto, unfolding(crate::specs::Zero::zero_output))]
     pub fn zero() -> Output
@@ -32,18 +52,13 @@ impl Output {
     }
 }
 
-fn zero_outputs_from(s: &[Output], n: usize) -> bool
-    ensures { result ≡ list_all is_zero_output (drop n s.now) }
-{
-    s.iter().skip(n).all(Output::is_zero)
-}
-
 // The outputs from n on are zero.
+// One call, as `zero_spends` and the `*_tail` of book_sound are: each names the test, and its contract the length, of one array.
 #[tactic(auto, using(base_lists::specs::Laws::tail_of_lem))]
 pub fn zero_outputs(a: &[Output; 4], n: usize) -> bool
     ensures { result ≡ tail_of 4 is_zero_output n a.now }
 {
-    zero_outputs_from(a, n)
+    passes_from(a, n, Output::is_zero)
 }
 
 impl CoinSpend {
@@ -74,18 +89,12 @@ impl CoinSpend {
     }
 }
 
-fn zero_spends_from(s: &[CoinSpend], n: usize) -> bool
-    ensures { result ≡ list_all is_zero_spend (drop n s.now) }
-{
-    s.iter().skip(n).all(CoinSpend::is_zero)
-}
-
 // The spends from n on are zero.
 #[tactic(auto, using(base_lists::specs::Laws::tail_of_lem))]
 pub fn zero_spends(a: &[CoinSpend; 4], n: usize) -> bool
     ensures { result ≡ tail_of 4 is_zero_spend n a.now }
 {
-    zero_spends_from(a, n)
+    passes_from(a, n, CoinSpend::is_zero)
 }
 
 impl SpendBundle {

@@ -2,7 +2,8 @@
 #![tactic(auto)]
 
 ghost use Rattle.std.specs.Prelude.{◌≡◌};
-ghost use Rattle.book_answers.specs.Zero.{zero_drained, zero_failure, zero_final, zero_look, zero_summary};
+ghost use Rattle.book_answers.specs.Source.{source_in};
+ghost use Rattle.book_answers.specs.Zero.{zero_drained, zero_failure};
 
 use book::{
     FeeResolution, Height, SpendBundle, SubmissionChainTerminality, SubmissionFeeIntent,
@@ -69,12 +70,28 @@ pub enum SubmissionAttemptStatus {
 }
 
 // `SubmissionFeeSource`: `Available` with its joined bundle, or with a join that failed. The joined bundle stands beside it.
+// It holds no bundle, as the kind of a fee intent holds no target: paper 01's form for an enum with an array.
 #[derive(Clone, Copy, PartialEq, Eq)]
 pub enum SubmissionFeeSource {
     NotRequested,
     Joined,
     JoinFailed,
     Failed,
+}
+
+impl SubmissionFeeSource {
+    // 0 not requested, 1 joined, 2 a join that failed, 3 failed: the number that C and the scripts hand over.
+    pub fn from_number(n: u8) -> Option<SubmissionFeeSource>
+        ensures { result ≡ source_in n }
+    {
+        match n {
+            0 => Some(SubmissionFeeSource::NotRequested),
+            1 => Some(SubmissionFeeSource::Joined),
+            2 => Some(SubmissionFeeSource::JoinFailed),
+            3 => Some(SubmissionFeeSource::Failed),
+            _ => None,
+        }
+    }
 }
 
 #[derive(Clone, Copy, PartialEq, Eq)]
@@ -148,56 +165,6 @@ impl SubmissionDrainFailure {
             cause: DrainFailureCause::NoRetainedState,
             candidate_id: SubmissionId(0),
             intent_fingerprint: [0; 32],
-        }
-    }
-}
-
-impl FinalizedSubmission {
-    #[tactic(auto, unfolding(crate::specs::Zero::zero_final))]
-    pub fn zero() -> FinalizedSubmission
-        ensures { result ≡ zero_final }
-    {
-        FinalizedSubmission {
-            bundle: SpendBundle::zero(),
-            applied_fee: 0,
-            warning: false,
-            disposition: FeeSourceDisposition::Attached,
-            variant_fingerprint: [0; 32],
-            should_broadcast: false,
-        }
-    }
-}
-
-impl SubmissionLook {
-    #[tactic(auto, unfolding(crate::specs::Zero::zero_look))]
-    pub fn zero() -> SubmissionLook
-        ensures { result ≡ zero_look }
-    {
-        SubmissionLook {
-            expiry: None,
-            active_attempt_token: None,
-            completed_attempt_token: None,
-            applied_fee: 0,
-            fee_resolution: FeeResolution::Unresolved,
-            chain_terminality: SubmissionChainTerminality::Active,
-            acknowledged: false,
-        }
-    }
-}
-
-impl BookSummary {
-    #[tactic(auto, unfolding(crate::specs::Zero::zero_summary))]
-    pub fn zero() -> BookSummary
-        ensures { result ≡ zero_summary }
-    {
-        BookSummary {
-            next_delivery_attempt_token: Token(0),
-            next_submission_id: SubmissionId(0),
-            submitted_count: 0,
-            pending_count: 0,
-            retired_count: 0,
-            replayed_count: 0,
-            rollback_height: None,
         }
     }
 }

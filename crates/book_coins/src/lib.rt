@@ -14,7 +14,7 @@ ghost use Rattle.book_coins.specs.Outputs.{output_cells, Pushed};
 use base_coin_string::CoinString;
 use book::{CoinSpend, SpendBundle};
 
-// Up to 16 output coins: the first count cells are the coins, and the cells behind them are empty.
+// Up to 16 output coins: the first count cells are the coins, and the cells behind them are empty. The library has no heap.
 #[derive(Clone, Copy)]
 pub struct OutputCoins {
     pub count: usize,
@@ -63,6 +63,7 @@ fn output_count(s: CoinSpend) -> usize
 }
 
 // The first output, in the bundle's order, among the coins that observed lists: output j of spend i.
+// Three nested loops left by a label, and no call of `has_coin`: paper 01 names this form of the search.
 pub fn first_output_among(b: SpendBundle, observed: &[u8]) -> Option<(usize, usize)>
     ensures { result ≡ found_of (coins_in observed.now) b }
 {

@@ -1,29 +1,25 @@
 // Tests over the counted cells of a book.
-ghost use Rattle.std.specs.Prelude.{◌≡◌, [], ◌∷◌, ◌++◌, map, ◌+◌, ◌≤◌, ◌<◌, ltb, take, drop};
-ghost use Rattle.base_lists.specs.Lists.{elemb, distinctb, tail_of, is_zero, risingb};
+ghost use Rattle.std.specs.Prelude.{◌≡◌, [], ◌∷◌, ◌++◌, map, ◌+◌, ◌≤◌, ◌<◌, ltb, take};
+ghost use Rattle.base_lists.specs.Lists.{distinctb, tail_of, is_zero};
 ghost use Rattle.std.specs.List.{list_all, flat_map};
 ghost use Rattle.book.specs.Zero.{is_zero_submitted, is_zero_delivery};
 ghost use Rattle.book.specs.Model.{id_list, id_cells};
 ghost use Rattle.book.specs.Sound.{sound_submitted, sound_delivery, id_of, attempt_token, slot_tokens, tokens_of};
 
-use crate::numbers::{all_among, first, zeros_from};
+use crate::numbers::{first, zeros_from};
 use crate::{is_sound_delivery, is_sound_submitted};
-use base_lists::{all_below, distinct, is_rising};
+use base_lists::{all_below, distinct};
+use book::zero::passes_from;
 use book::{AttemptSlots, Ids, OptionalAttempt, PendingDelivery, SubmittedTx, Token};
 
 // ---- submissions
-fn zero_submitted_from(s: &[SubmittedTx], n: usize) -> bool
-    ensures { result ≡ list_all is_zero_submitted (drop n s.now) }
-{
-    s.iter().skip(n).all(SubmittedTx::is_zero)
-}
-
 // The cells from n on are zero.
+// The tests of this file take an array and its count, as the book has them side by side; each is one chain or call over cells of one type.
 #[tactic(auto, using(base_lists::specs::Laws::tail_of_lem))]
 pub fn submitted_tail(a: &[SubmittedTx; 16], n: usize) -> bool
     ensures { result ≡ tail_of 16 is_zero_submitted n a.now }
 {
-    zero_submitted_from(a, n)
+    passes_from(a, n, SubmittedTx::is_zero)
 }
 
 // The first n cells are sound.
@@ -34,17 +30,11 @@ pub fn sound_submissions(a: &[SubmittedTx], n: usize) -> bool
 }
 
 // ---- the queue
-fn zero_deliveries_from(s: &[PendingDelivery], n: usize) -> bool
-    ensures { result ≡ list_all is_zero_delivery (drop n s.now) }
-{
-    s.iter().skip(n).all(PendingDelivery::is_zero)
-}
-
 #[tactic(auto, using(base_lists::specs::Laws::tail_of_lem))]
 pub fn delivery_tail(a: &[PendingDelivery; 16], n: usize) -> bool
     ensures { result ≡ tail_of 16 is_zero_delivery n a.now }
 {
-    zero_deliveries_from(a, n)
+    passes_from(a, n, PendingDelivery::is_zero)
 }
 
 pub fn sound_deliveries(a: &[PendingDelivery], n: usize) -> bool
@@ -73,27 +63,15 @@ pub fn ids_tail<const N: usize>(x: &Ids<N>) -> bool
     zeros_from(&x.items, x.count)
 }
 
-pub fn distinct_ids<const N: usize>(x: &Ids<N>) -> bool
-    ensures { result ≡ distinctb (id_list x.now) }
+// The ids in use.
+pub fn listed<const N: usize>(x: &Ids<N>) -> &[u64]
+    ensures { result.now ≡ id_list x.now }
 {
-    distinct(first(&x.items, x.count))
-}
-
-pub fn rising_ids<const N: usize>(x: &Ids<N>) -> bool
-    ensures { result ≡ risingb (id_list x.now) }
-{
-    is_rising(first(&x.items, x.count))
-}
-
-// Each of x is one of ids.
-pub fn among<const N: usize>(x: &Ids<N>, ids: &Ids<N>) -> bool
-    ensures { result ≡ list_all (λ i. elemb i (id_list ids.now)) (id_list x.now) }
-{
-    all_among(first(&x.items, x.count), first(&ids.items, ids.count))
+    first(&x.items, x.count)
 }
 
 // ---- tokens
-// Up to 32 tokens, two for each submission.
+// Up to 32 tokens, two for each submission: a count beside an array, since the library has no heap.
 #[derive(Clone, Copy)]
 pub struct Tokens {
     pub count: usize,

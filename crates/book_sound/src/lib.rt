@@ -8,12 +8,12 @@ ghost use Rattle.book.specs.Sound.{sound_spend, sound_bundle, readable_bundle, s
 ghost use Rattle.book.specs.Model.{view};
 
 use crate::cells::{
-    among, delivery_tail, distinct_ids, distinct_tokens, ids_tail, rising_ids, sound_deliveries,
-    sound_submissions, submitted_ids, submitted_tail, submitted_tokens, tokens_below,
+    delivery_tail, distinct_tokens, ids_tail, listed, sound_deliveries, sound_submissions,
+    submitted_ids, submitted_tail, submitted_tokens, tokens_below,
 };
-use crate::numbers::zero_bytes_from;
-use base_lists::zero_array;
-use book::zero::{zero_outputs, zero_spends};
+use crate::numbers::all_among;
+use base_lists::{distinct, is_rising, zero_array};
+use book::zero::{passes_from, zero_outputs, zero_spends};
 use book::{
     AttemptSlots, BookData, CoinSpend, FeeIntentKind, OptionalAttempt, OptionalHash,
     PendingDelivery, PendingSubmissionIntent, SpendBundle, SubmissionBroadcastVariant,
@@ -24,11 +24,12 @@ pub mod cells;
 pub mod numbers;
 
 // The bytes of a coin cell from n on are zero.
+// One call, as `zero_outputs` is: it names the test, and its contract the length, of this array.
 #[tactic(auto, using(base_lists::specs::Laws::tail_of_lem))]
 fn coin_tail(coin: &[u8; 73], n: usize) -> bool
     ensures { result ≡ tail_of 73 is_zero n coin.now }
 {
-    zero_bytes_from(coin, n)
+    passes_from(coin, n, |x| *x == 0)
 }
 
 #[tactic(auto, unfolding(book::specs::Sound::sound_spend))]
@@ -40,6 +41,7 @@ pub fn is_sound_spend(s: &CoinSpend) -> bool
     s.coin_len <= 73 && c && s.output_count <= 4 && o && (s.readable || s.output_count == 0)
 }
 
+// One chain each, as `sound_submissions` and `sound_deliveries`: the test is the part's own.
 fn sound_spends(s: &[CoinSpend], n: usize) -> bool
     ensures { result ≡ list_all sound_spend (take n s.now) }
 {
@@ -122,6 +124,7 @@ pub fn is_sound_entry(e: &SubmittedEntry) -> bool
     intent && state
 }
 
+// Functions of one line from here on: each part has its own definition in `Sound`, and a name for its test.
 #[tactic(auto, unfolding(book::specs::Sound::sound_submitted))]
 pub fn is_sound_submitted(t: &SubmittedTx) -> bool
     ensures { result ≡ sound_submitted t.now }
@@ -163,17 +166,19 @@ fn sound_cells(b: &BookData) -> bool
 fn sound_lists(b: &BookData) -> bool
     ensures { result ≡ sound_lists (view b.now) }
 {
-    let replayed = &b.replay_epoch.replayed_submission_ids;
     let ids = submitted_ids(&b.submitted, b.submitted_count);
     let tokens = submitted_tokens(&b.submitted, b.submitted_count);
     let submissions = sound_submissions(&b.submitted, b.submitted_count);
-    let distinct_submissions = distinct_ids(&ids);
+    let retained = listed(&ids);
+    let retired = listed(&b.retired_submission_ids);
+    let replayed = listed(&b.replay_epoch.replayed_submission_ids);
+    let distinct_submissions = distinct(retained);
     let distinct_attempts = distinct_tokens(&tokens);
     let issued = tokens_below(&tokens, b.next_delivery_attempt_token);
     let deliveries = sound_deliveries(&b.pending_deliveries, b.pending_count);
-    let distinct_retired = distinct_ids(&b.retired_submission_ids);
-    let rising = rising_ids(replayed);
-    let retained = among(replayed, &ids);
+    let distinct_retired = distinct(retired);
+    let rising = is_rising(replayed);
+    let known = all_among(replayed, retained);
     submissions
         & distinct_submissions
         & distinct_attempts
@@ -181,7 +186,7 @@ fn sound_lists(b: &BookData) -> bool
         & deliveries
         & distinct_retired
         & rising
-        & retained
+        & known
 }
 
 // The door of every call: the book is sound.

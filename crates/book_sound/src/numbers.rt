@@ -12,15 +12,8 @@ pub fn first(s: &[u64], n: usize) -> &[u64]
     &s[..n.min(s.len())]
 }
 
-// The numbers from n on are zero.
+// The numbers from n on are zero. A chain, since its caller is generic over N, where `passes_from` finds no ghost value.
 pub fn zeros_from(s: &[u64], n: usize) -> bool
-    ensures { result ≡ list_all is_zero (drop n s.now) }
-{
-    s.iter().skip(n).all(|x| *x == 0)
-}
-
-// The bytes from n on are zero.
-pub fn zero_bytes_from(s: &[u8], n: usize) -> bool
     ensures { result ≡ list_all is_zero (drop n s.now) }
 {
     s.iter().skip(n).all(|x| *x == 0)

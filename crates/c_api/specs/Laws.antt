@@ -7,15 +7,10 @@ use Rattle.book.specs.Model.{view}
 use Rattle.book.specs.declared.BookData.{BookData}
 use Rattle.rules.specs.Rule.{Rule}
 use Rattle.rules.specs.Steps.{run_book}
-use Rattle.part_replies.specs.Reply.{done_reply, finalize_reply}
-use Rattle.part_replies.specs.declared.DoneReply.{DoneReply}
-use Rattle.part_replies.specs.declared.FinalizeReply.{FinalizeReply}
-use Rattle.book_answers.specs.declared.FinalizedSubmission.{FinalizedSubmission}
+use Rattle.part_replies.specs.Reply.{reply}
+use Rattle.part_replies.specs.declared.Reply.{Reply}
 pub use Rattle.c_calls_chain.specs.Report.{flag_over, flag_in_lem}
 
 -- a reply by rules that are given in another form
-pub done_as : (b : BookData) {r : DoneReply} {x y : Rule (Unit {0})} → x ≡ y → r ≡ done_reply b (run_book x (view b)) → r ≡ done_reply b (run_book y (view b))
-done_as b e h = h ∙ ap (λ (z : Rule (Unit {0})). done_reply b (run_book z (view b))) e
-
-pub final_as : (b : BookData) {r : FinalizeReply} {x y : Rule (Option FinalizedSubmission)} → x ≡ y → r ≡ finalize_reply b (run_book x (view b)) → r ≡ finalize_reply b (run_book y (view b))
-final_as b e h = h ∙ ap (λ (z : Rule (Option FinalizedSubmission)). finalize_reply b (run_book z (view b))) e
+pub reply_by_same : {A : Type 0} (b : BookData) {r : Reply A BookData} {x y : Rule A} → x ≡ y → r ≡ reply b (run_book x (view b)) → r ≡ reply b (run_book y (view b))
+reply_by_same {A} b e h = h ∙ ap (λ (z : Rule A). reply b (run_book z (view b))) e

@@ -6,6 +6,7 @@ use c_calls_attempts::{
     relinquish_completed_attempt, stop_attempt,
 };
 
+// Each function is one call of the C interface, whose parameters and numbers are as C has them.
 #[tactic(auto, using(crate::specs::Functions::acknowledge_did))]
 pub fn submission_book_acknowledge_attempt(book: &mut [u8], token: u64, answer: &mut [u8]) -> u8
     ensures { Did book.old (CCall.AcknowledgeAttempt token answer.old) (answered result book.new answer.new) }

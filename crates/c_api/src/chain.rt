@@ -3,6 +3,7 @@ ghost use Rattle.c_api.specs.Functions.{CCall, Did, answered, back};
 
 use c_calls_chain::{causally_rolled_back_ids, reconcile_chain_terminality};
 
+// Each function is one call of the C interface, whose parameters and numbers are as C has them.
 #[tactic(auto, using(crate::specs::Functions::rolled_back_did))]
 pub fn submission_book_causally_rolled_back_ids(
     book: &[u8],

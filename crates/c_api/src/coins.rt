@@ -3,6 +3,7 @@ ghost use Rattle.c_api.specs.Functions.{CCall, Did, counted};
 
 use c_calls_chain::{absent_outputs_for_ids, reconciliation_input_coins};
 
+// Each function is one call of the C interface, whose parameters and numbers are as C has them.
 #[tactic(auto, using(crate::specs::Functions::input_coins_did))]
 pub fn submission_book_reconciliation_input_coins(
     book: &[u8],

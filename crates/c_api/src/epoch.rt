@@ -6,6 +6,7 @@ use c_calls_epoch::{
     replay_rollback_height,
 };
 
+// Each function is one call of the C interface, whose parameters and numbers are as C has them.
 #[tactic(auto, using(crate::specs::Functions::begin_did))]
 pub fn submission_book_begin_replay(book: &mut [u8], height: u64, answer: &mut [u8]) -> u8
     ensures { Did book.old (CCall.BeginReplay height answer.old) (answered result book.new answer.new) }

@@ -6,6 +6,7 @@ use c_calls_queue::{
     queue_retained_delivery,
 };
 
+// Each function is one call of the C interface, whose parameters and numbers are as C has them.
 #[tactic(auto, using(crate::specs::Functions::fee_readiness_did))]
 pub fn submission_book_queue_fee_readiness(book: &mut [u8]) -> u8
     ensures { Did book.old CCall.QueueFeeReadiness (back result book.new) }

@@ -3,6 +3,7 @@ ghost use Rattle.c_api.specs.Functions.{CCall, Did, answered, back};
 
 use c_calls_epoch::{active_ids, clear_local_artifacts, restore_runtime, retain_submitted};
 
+// Each function is one call of the C interface, whose parameters and numbers are as C has them.
 #[tactic(auto, using(crate::specs::Functions::active_ids_did))]
 pub fn submission_book_active_ids(book: &[u8], answer: &mut [u8]) -> u8
     ensures { Did book.now (CCall.ActiveIds answer.old) (answered result book.now answer.new) }

@@ -3,6 +3,7 @@ ghost use Rattle.c_api.specs.Functions.{CCall, OpenDid, ReadDid, Did, counted};
 
 use c_whole::{open_into, read_into, write_from};
 
+// Each function is one call of the C interface, whose parameters and numbers are as C has them.
 // An empty book with these two numbers.
 pub fn submission_book_open(book: &mut [u8], next_token: u64, next_id: u64) -> u8
     ensures { OpenDid book.old next_token next_id result book.new }

@@ -1,6 +1,7 @@
 // Calls by an attempt's token.
 ghost use Rattle.c_api.specs.Functions.{CCall, Did, answered};
 
+// Each function is one call of the C interface, whose parameters and numbers are as C has them.
 #[unsafe(no_mangle)]
 pub extern "C" fn submission_book_acknowledge_attempt(
     book: &mut [u8],

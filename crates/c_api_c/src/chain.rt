@@ -1,6 +1,7 @@
 // What the chain shows.
 ghost use Rattle.c_api.specs.Functions.{CCall, Did, answered, back};
 
+// Each function is one call of the C interface, whose parameters and numbers are as C has them.
 #[unsafe(no_mangle)]
 pub extern "C" fn submission_book_causally_rolled_back_ids(
     book: &[u8],

@@ -1,6 +1,7 @@
 // Coins of the retained submissions, as a coin list in `answer`; its length in `count`. These calls only look at the book.
 ghost use Rattle.c_api.specs.Functions.{CCall, Did, counted};
 
+// Each function is one call of the C interface, whose parameters and numbers are as C has them.
 #[unsafe(no_mangle)]
 pub extern "C" fn submission_book_reconciliation_input_coins(
     book: &[u8],

@@ -1,6 +1,7 @@
 // Functions without a book.
 ghost use Rattle.c_api.specs.Functions.{Sha256Did, CoinIdDid};
 
+// Each function is one call of the C interface, whose parameters and numbers are as C has them.
 // The SHA-256 digest of a message.
 #[unsafe(no_mangle)]
 pub extern "C" fn submission_book_sha256(message: &[u8], digest: &mut [u8]) -> u8

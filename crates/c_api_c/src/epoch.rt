@@ -1,6 +1,7 @@
 // Replay epoch and retirements.
 ghost use Rattle.c_api.specs.Functions.{CCall, Did, answered, back};
 
+// Each function is one call of the C interface, whose parameters and numbers are as C has them.
 #[unsafe(no_mangle)]
 pub extern "C" fn submission_book_begin_replay(
     book: &mut [u8],

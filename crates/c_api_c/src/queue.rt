@@ -1,6 +1,7 @@
 // Calls that offer deliveries.
 ghost use Rattle.c_api.specs.Functions.{CCall, Did, back};
 
+// Each function is one call of the C interface, whose parameters and numbers are as C has them.
 #[unsafe(no_mangle)]
 pub extern "C" fn submission_book_queue_fee_readiness(book: &mut [u8]) -> u8
     ensures { Did book.old CCall.QueueFeeReadiness (back result book.new) }

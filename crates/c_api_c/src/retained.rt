@@ -1,6 +1,7 @@
 // Calls on all retained submissions.
 ghost use Rattle.c_api.specs.Functions.{CCall, Did, answered, back};
 
+// Each function is one call of the C interface, whose parameters and numbers are as C has them.
 #[unsafe(no_mangle)]
 pub extern "C" fn submission_book_active_ids(book: &[u8], answer: &mut [u8]) -> u8
     ensures { Did book.now (CCall.ActiveIds answer.old) (answered result book.now answer.new) }

@@ -1,6 +1,7 @@
 // Opening a book, and its archive.
 ghost use Rattle.c_api.specs.Functions.{CCall, OpenDid, ReadDid, Did, counted};
 
+// Each function is one call of the C interface, whose parameters and numbers are as C has them.
 // An empty book with these two numbers.
 #[unsafe(no_mangle)]
 pub extern "C" fn submission_book_open(book: &mut [u8], next_token: u64, next_id: u64) -> u8

@@ -8,17 +8,19 @@ use Rattle.codec_cursor.specs.Cursor.{far, Reads, reads_got, reads_bad}
 use Rattle.book.specs.declared.BookData.{BookData}
 use Rattle.rules.specs.Rule.{Rule, undo, run}
 use Rattle.c_boundary.specs.Held.{Holding}
-use Rattle.c_boundary.specs.Settle.{Form, boundary, settled, Gives, GivesBook, gives_as, gives_book_as, boundary_held}
-use Rattle.book.specs.Refusals as refusals
+use Rattle.c_boundary.specs.Settle.{Form, boundary, settled, Gives, GivesBook, gives_as, boundary_held}
+use Rattle.book.specs.Refusals.{refusal_number}
+use Rattle.book.specs.declared.refusal.Refusal.{Refusal}
+use Rattle.book.specs.declared.refusal.Refusal.TheVariants as refusals
 
 -- a call whose argument must stand for a value
 abbrev pub given : {A B : Type 0} → Option A → (A → Rule B) → Rule B
-given None f = undo refusals.bad_value
+given None f = undo refusals.BadValue
 given (Some x) f = f x
 
 -- a call with lists, which are refused 2 before any byte argument is looked at
 abbrev pub listed : {B : Type 0} → Bool → Rule B → Rule B
-listed ok r = cond ok r (undo refusals.bad_list)
+listed ok r = cond ok r (undo refusals.BadList)
 
 abbrev pub taken : {A : Type 0} → Ans A → Option A
 taken (got a e) = Some a
@@ -58,23 +60,23 @@ module _ {A : Type 0} {v : A} {e : ℕ} where
   pub bytes_got : (p : Parser A) (s : List ℕ) → Reads p s 0 v e → e < far → length s ≤ e → bytes_as p s ≡ Some v
   bytes_got p s r q h = ap (taken_whole (length s)) (reads_got r q) ∙ ap (λ (t : Bool). cond t (Some v) None) (le-leb (length s) e h)
 
--- ---- refused at the boundary: n is 2 or 3
-pub gives_undo : {B : Type 0} (n : ℕ) (form : Form B) (d a : List ℕ) (b : BookData) (h : Holding d b) (r : Rule B) → r ≡ undo n → Gives (boundary form r d a) n d a
+-- ---- refused at the boundary, by 2 or 3
+pub gives_undo : {B : Type 0} (n : Refusal) (form : Form B) (d a : List ℕ) (b : BookData) (h : Holding d b) (r : Rule B) → r ≡ undo n → Gives (boundary form r d a) (refusal_number n) d a
 unfolding settled run
 gives_undo {B} n form d a b h r e =
     gives_as (sym (ap (λ (x : Rule B). boundary form x d a) e ∙ boundary_held form d a b h (undo n)))
     (record { number = refl; book = refl; answer = refl })
 
-pub gives_book_undo : {B : Type 0} (n : ℕ) (form : Form B) (d : List ℕ) (b : BookData) (h : Holding d b) (r : Rule B) → r ≡ undo n → GivesBook (boundary form r d []) n d
+pub gives_book_undo : {B : Type 0} (n : Refusal) (form : Form B) (d : List ℕ) (b : BookData) (h : Holding d b) (r : Rule B) → r ≡ undo n → GivesBook (boundary form r d []) (refusal_number n) d
 gives_book_undo n form d b h r e = let g = gives_undo n form d [] b h r e in record { number = g.number; book = g.book }
 
-pub given_none : {A B : Type 0} (f : A → Rule B) {x : Option A} → x ≡ None → given x f ≡ undo refusals.bad_value
+pub given_none : {A B : Type 0} (f : A → Rule B) {x : Option A} → x ≡ None → given x f ≡ undo refusals.BadValue
 given_none {A} f e = ap (λ (y : Option A). given y f) e
 
 pub given_some : {A B : Type 0} (f : A → Rule B) {x : Option A} {v : A} → x ≡ Some v → given x f ≡ f v
 given_some {A} f e = ap (λ (y : Option A). given y f) e
 
-pub listed_not : {B : Type 0} (r : Rule B) {ok : Bool} → ok ≡ false → listed ok r ≡ undo refusals.bad_list
+pub listed_not : {B : Type 0} (r : Rule B) {ok : Bool} → ok ≡ false → listed ok r ≡ undo refusals.BadList
 listed_not r e = ap (λ (t : Bool). listed t r) e
 
 pub listed_well : {B : Type 0} (r : Rule B) {ok : Bool} → ok ≡ true → listed ok r ≡ r

@@ -1,7 +1,7 @@
 -- The book in lent bytes. Today: 8 bytes of its archive's length, then the archive; the bytes behind are the caller's. The form is said by two
 -- definitions alone, `book_bytes` (what is written) and `held_in` (what is read); that they agree is c_boundary_laws/Lent.
 use Rattle.std.specs.Prelude.{ℕ, zero, suc, ◌+◌, ◌-◌, ◌^◌, ◌≤◌, ◌<◌, refl, Bool, true, false, not, get_or, leb}
-use Rattle.std.proofs.Common.{zero-le, ◌∙◌, add-one}
+use Rattle.std.proofs.Common.{zero-le, ◌∙◌}
 use Rattle.std.proofs.Math.Path.{◌≡◌, sym, ap, subst}
 use mathlib.Core.List.{List, [], ◌∷◌, ◌++◌}
 use Rattle.std.specs.Prelude.{Option, None, Some}

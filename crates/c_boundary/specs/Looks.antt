@@ -1,7 +1,7 @@
 -- Rules without a step leave the book as it is, so a call by them needs no write to the lent book: what it returns, and leaves in its answer, is settled by
 -- the answer alone. One law over all such trees, and a line for each call that has one.
 use Rattle.std.specs.Prelude.{ℕ, ◌≡◌, Bool, ◌&&◌, length, leb}
-use Rattle.std.proofs.Common.{zero-le, sym, ◌∙◌, subst, le-leb}
+use Rattle.std.proofs.Common.{zero-le, sym, ◌∙◌, le-leb}
 use Rattle.std.proofs.Math.Path.{refl, ap}
 use Rattle.std.proofs.Math.Bool.{true, false, cond}
 use mathlib.Core.List.{List, []}
@@ -29,14 +29,15 @@ use Rattle.rules.specs.Calls.Summary.{summary}
 use Rattle.rules.specs.Calls.WriteArchive.{write_archive}
 use Rattle.rules.specs.CoinLists.{encode_coins}
 use Rattle.rules.specs.Doors.{ids_ok}
-use Rattle.rules.specs.Rule.{Rule, done, undo, stop, look, act, turn, Outcome, ended, undone, stopped, run, left}
-use Rattle.rules.specs.Steps.{on_book, run_book}
-use Rattle.part_replies.specs.Reply.{answer_of}
-use Rattle.part_replies.specs.declared.CallAnswer.{CallAnswer}
-use Rattle.part_replies.specs.declared.CallAnswer.TheVariants.{Done, Refused}
+use Rattle.rules.specs.Rule.{Rule, done, undo, stop, look, act, turn, Outcome, ended, undone, stopped, run}
+use Rattle.rules.specs.Steps.{run_book}
+use Rattle.std.specs.Prelude.{Result, Ok, Err}
+use Rattle.book.specs.declared.refusal.Refusal.{Refusal}
+use Rattle.book.specs.declared.refusal.Refusal.TheVariants as turned
+use Rattle.book.specs.Refusals.{refusal_number}
 use Rattle.c_answer.specs.Answer.{Answered, declined, answer_in, GivesAnswer}
-use Rattle.c_boundary.specs.Held.{book_bytes, held_in, Holding}
-use Rattle.c_boundary.specs.Settle.{Left, Form, refusal, written, written_fits, settled, boundary, boundary_held, holding_room, holding_bytes, overlay_none, Tells, Gives, gives_as}
+use Rattle.c_boundary.specs.Held.{book_bytes, Holding}
+use Rattle.c_boundary.specs.Settle.{Left, Form, refusal, written, written_fits, settled, boundary, boundary_held, holding_room, holding_bytes, overlay_none, told_in, Gives, gives_as}
 
 -- rules without a step
 abbrev pub Looks : {A : Type 0} → Rule A → Type 0
@@ -69,7 +70,7 @@ looks_cond false x y h k = k
 
 looks_writing : (room : ℕ) (s : List ℕ) → Looks (writing room s)
 unfolding writing
-looks_writing room s = looks_cond (leb (length s) room) (done s) (undo refusals.short_buffer) tt tt
+looks_writing room s = looks_cond (leb (length s) room) (done s) (undo turned.ShortBuffer) tt tt
 
 pub looks_attempt : (t : ℕ) → Looks (attempt t)
 unfolding attempt
@@ -134,9 +135,9 @@ unfolding write_archive
 looks_write encode room = λ b. looks_writing room (encode b)
 
 -- ---- such a call's reply, told without its book
-abbrev pub told_by : CallAnswer → List ℕ → List ℕ → Answered
-told_by Done l a = answer_in l a
-told_by (Refused n) l a = declined n a
+abbrev pub told_by : Result (List ℕ) Refusal → List ℕ → Answered
+told_by (Ok l) a = answer_in l a
+told_by (Err n) a = declined (refusal_number n) a
 
 -- the same with the bytes d of the book beside it
 abbrev beside : List ℕ → Answered → Left
@@ -162,15 +163,14 @@ module _ {A : Type 0} (form : Form A) (d a : List ℕ) (b : BookData) (h : Holdi
       ∙ ap (λ (x : List ℕ). record { number = n; book = overlay (book_bytes (view b)) d; answer = x }) (sym (overlay_none a))
       ∙ sym (written_fits n (view b) [] d a (holding_room d b h) zero-le)
 
-  told_settled : (o : Outcome Book A) (l : List ℕ) → Keeps (view b) o → Tells form o l → beside d (told_by (answer_of o) l a) ≡ settled form d a o
+  told_settled : (o : Outcome Book A) → Keeps (view b) o → beside d (told_by (told_in form o) a) ≡ settled form d a o
   unfolding settled
-  told_settled (ended m xs v) l k t =
-      written_same l ∙ ap (λ (x : List ℕ). written 0 (view b) x d a) t ∙ ap (λ (x : Book). written 0 x (form xs v) d a) (sym k)
-  told_settled (undone n) l k t = refl
-  told_settled (stopped m xs n) l k t = stopped_same n ∙ ap (λ (x : Book). written n x [] d a) (sym k)
+  told_settled (ended m xs v) k = written_same (form xs v) ∙ ap (λ (x : Book). written 0 x (form xs v) d a) (sym k)
+  told_settled (undone n) k = refl
+  told_settled (stopped m xs n) k = stopped_same (refusal_number n) ∙ ap (λ (x : Book). written (refusal_number n) x [] d a) (sym k)
 
   -- what such a call returns and leaves, the lent book as it was
-  pub boundary_looked : (r : Rule A) → Looks r → (l : List ℕ) → Tells form (run_book r (view b)) l → {n : ℕ} {a' : List ℕ}
-      → GivesAnswer (told_by (answer_of (run_book r (view b))) l a) n a' → Gives (boundary form r d a) n d a'
-  boundary_looked r q l t g =
-      gives_as (told_settled (run_book r (view b)) l (keeps_run r (view b) q) t ∙ sym (boundary_held form d a b h r)) (gives_beside d g)
+  pub boundary_looked : (r : Rule A) → Looks r → {x : Result (List ℕ) Refusal} → x ≡ told_in form (run_book r (view b)) → {n : ℕ} {a' : List ℕ}
+      → GivesAnswer (told_by x a) n a' → Gives (boundary form r d a) n d a'
+  boundary_looked r q {x} p g =
+      gives_as (ap (λ (y : Result (List ℕ) Refusal). beside d (told_by y a)) p ∙ told_settled (run_book r (view b)) (keeps_run r (view b) q) ∙ sym (boundary_held form d a b h r)) (gives_beside d g)

@@ -1,25 +1,26 @@
 -- A call on lent bytes: the held book, its rules, and what is left in the buffers. Written once, for any rules and any form of their answer.
-use Prim.Native.Nat.{ℕ, zero, suc, ◌+◌, ◌-◌, ◌≤◌, ◌<◌, zero-le}
-use Rattle.std.specs.Prelude.{◌≡◌, Bool, true, false, cond, ◌&&◌, length, take, drop, leb}
+use Prim.Native.Nat.{ℕ, ◌+◌, ◌≤◌, ◌<◌, zero-le}
+use Rattle.std.specs.Prelude.{◌≡◌, cond, ◌&&◌, length, leb}
 use Rattle.std.proofs.Math.Path.{refl, ap}
-use Rattle.std.proofs.Common.{sym, ◌∙◌, subst, arith, zero-add, length-append}
-use mathlib.Core.List.{List, [], ◌∷◌, ◌++◌}
+use Rattle.std.proofs.Common.{sym, ◌∙◌, subst, arith, length-append}
+use mathlib.Core.List.{List, [], ◌++◌}
 use Rattle.std.specs.Prelude.{Option, None, Some}
 use borrow.Author.Tests.{le-leb, lt-leb}
 use Rattle.codec_forms.specs.Wire.{be, overlay}
 use Rattle.codec_forms.specs.Number.{be_length}
 use Rattle.codec_forms.specs.Puts.{Room, Puts, puts_overlay}
-use Rattle.book.specs.Model.{Book, view, back}
+use Rattle.book.specs.Model.{Book, view}
 use Rattle.book.specs.SoundLaws.{view_back}
 use Rattle.book.specs.declared.BookData.{BookData}
 use Rattle.archive_form.specs.Encode.{encode_book}
 use Rattle.book_answers.specs.declared.DrainedSubmission.{DrainedSubmission}
 use Rattle.rules.specs.Rule.{Rule, Outcome, ended, undone, stopped, run, full, ◌<$>◌, mapped, run_map}
 use Rattle.rules.specs.Steps.{on_book, run_book}
-use Rattle.part_replies.specs.Reply.{answer_of, book_left}
-use Rattle.part_replies.specs.declared.CallAnswer.{CallAnswer}
-use Rattle.part_replies.specs.declared.CallAnswer.TheVariants.{Done, Refused}
-use Rattle.codec_answers.specs.Forms.{refusal_number}
+use Rattle.book.specs.declared.refusal.Refusal.{Refusal}
+use Rattle.std.specs.Prelude.{Result, Ok, Err}
+use Rattle.part_replies.specs.Reply.{answer_of, book_left, reply, reply_by}
+use Rattle.codec_answers.specs.Forms.{answer_number}
+use Rattle.book.specs.Refusals.{refusal_number}
 use Rattle.c_boundary.specs.Held.{layout, book_bytes, held_in, Holding}
 use Rattle.book.specs.Refusals as refusals
 
@@ -48,8 +49,8 @@ Form A = List DrainedSubmission → A → List ℕ
 unfoldable pub settled : {A : Type 0} → Form A → List ℕ → List ℕ → Outcome Book A → Left
 unfolding written
 settled form d a (ended m xs v) = written 0 m (form xs v) d a
-settled form d a (undone n) = refusal n d a
-settled form d a (stopped m xs n) = written n m [] d a
+settled form d a (undone n) = refusal (refusal_number n) d a
+settled form d a (stopped m xs n) = written (refusal_number n) m [] d a
 
 abbrev pub ruled : {A : Type 0} → Form A → Rule A → List ℕ → List ℕ → Option Book → Left
 ruled form r d a None = refusal refusals.no_book d a
@@ -130,43 +131,62 @@ pub overlay_none : (a : List ℕ) → overlay [] a ≡ a
 unfolding overlay
 overlay_none a = refl
 
--- ---- what a reply leaves: the book is put back in any case, since a refused call answers the book that it was given
-abbrev pub finish : CallAnswer → BookData → List ℕ → List ℕ → List ℕ → Left
-finish Done b l d a = written 0 (view b) l d a
-finish (Refused n) b l d a = written n (view b) [] d a
+-- ---- what a reply leaves: the bytes of its value, or its refusal. The book is put back in any case, since a refused call answers the book
+-- that it was given
+abbrev pub finish : Result (List ℕ) Refusal → BookData → List ℕ → List ℕ → Left
+finish (Ok l) b d a = written 0 (view b) l d a
+finish (Err n) b d a = written (refusal_number n) (view b) [] d a
 
--- the bytes l tell the answer
-abbrev pub Tells : {A : Type 0} → Form A → Outcome Book A → List ℕ → Type 0
-Tells form (ended m xs v) l = l ≡ form xs v
-Tells form (undone n) l = Unit {0}
-Tells form (stopped m xs n) l = Unit {0}
+-- the bytes of a value in its form
+abbrev pub coded : {T : Type 0} → (T → List ℕ) → Result T Refusal → Result (List ℕ) Refusal
+coded e (Ok v) = Ok (e v)
+coded e (Err n) = Err n
+
+-- the same of the rules' answer
+abbrev pub told_in : {A : Type 0} → Form A → Outcome Book A → Result (List ℕ) Refusal
+told_in form (ended m xs v) = Ok (form xs v)
+told_in form (undone n) = Err n
+told_in form (stopped m xs n) = Err n
+
+-- an answer that the code holds as f makes it, and tells by e
+module _ {A T : Type 0} (form : Form A) (f : A → T) (e : T → List ℕ) (same : (xs : List DrainedSubmission) (v : A) → e (f v) ≡ form xs v) where
+  pub coded_told : (o : Outcome Book A) → coded e (answer_of (mapped f o)) ≡ told_in form o
+  coded_told (ended m xs v) = ap {B = Result (List ℕ) Refusal} (λ (l : List ℕ). Ok l) (same xs v)
+  coded_told (undone n) = refl
+  coded_told (stopped m xs n) = refl
+
+pub reply_as : {A : Type 0} (b : BookData) (o : Outcome Book A) → reply b o ≡ reply_by (λ v. v) b o
+reply_as b (ended m xs v) = refl
+reply_as b (undone n) = refl
+reply_as b (stopped m xs n) = refl
 
 module _ {A : Type 0} (form : Form A) (d a : List ℕ) (b : BookData) (h : Holding d b) where
-  pub finish_settled : (o : Outcome Book A) (l : List ℕ) → Tells form o l → finish (answer_of o) (book_left b o) l d a ≡ settled form d a o
+  pub finish_settled : (o : Outcome Book A) → finish (told_in form o) (book_left b o) d a ≡ settled form d a o
   unfolding settled
-  finish_settled (ended m xs v) l t = ap (λ (x : Book). written 0 x l d a) (view_back m) ∙ ap (λ (k : List ℕ). written 0 m k d a) t
-  finish_settled (undone n) l t =
-      written_fits n (view b) [] d a (holding_room d b h) zero-le
-      ∙ ap (λ (x : List ℕ). record { number = n; book = x; answer = overlay [] a }) (holding_bytes d b h)
-      ∙ ap (λ (x : List ℕ). record { number = n; book = d; answer = x }) (overlay_none a)
-  finish_settled (stopped m xs n) l t = ap (λ (x : Book). written n x [] d a) (view_back m)
+  finish_settled (ended m xs v) = ap (λ (x : Book). written 0 x (form xs v) d a) (view_back m)
+  finish_settled (undone n) =
+      written_fits (refusal_number n) (view b) [] d a (holding_room d b h) zero-le
+      ∙ ap (λ (x : List ℕ). record { number = refusal_number n; book = x; answer = overlay [] a }) (holding_bytes d b h)
+      ∙ ap (λ (x : List ℕ). record { number = refusal_number n; book = d; answer = x }) (overlay_none a)
+  finish_settled (stopped m xs n) = ap (λ (x : Book). written (refusal_number n) x [] d a) (view_back m)
 
   pub boundary_held : (r : Rule A) → boundary form r d a ≡ settled form d a (run_book r (view b))
   unfolding boundary
   boundary_held r = ap (ruled form r d a) h.held
 
   -- a call's reply, put into the buffers
-  pub boundary_reply : (r : Rule A) (l : List ℕ) → Tells form (run_book r (view b)) l → finish (answer_of (run_book r (view b))) (book_left b (run_book r (view b))) l d a ≡ boundary form r d a
-  boundary_reply r l t = finish_settled (run_book r (view b)) l t ∙ sym (boundary_held r)
+  pub boundary_reply : (r : Rule A) {x : Result (List ℕ) Refusal} {k : BookData} → x ≡ told_in form (run_book r (view b)) → k ≡ book_left b (run_book r (view b))
+      → finish x k d a ≡ boundary form r d a
+  boundary_reply r {x} {k} p q = (λ i. finish (p i) (q i) d a) ∙ finish_settled (run_book r (view b)) ∙ sym (boundary_held r)
 
 pub boundary_absent : {A : Type 0} (form : Form A) (r : Rule A) (d a : List ℕ) → held_in d ≡ None → boundary form r d a ≡ refusal refusals.no_book d a
 unfolding boundary
 boundary_absent form r d a e = ap (ruled form r d a) e
 
 -- a reply without a value
-pub finish_done : (x : CallAnswer) (b : BookData) (d a : List ℕ) → written (refusal_number x) (view b) [] d a ≡ finish x b [] d a
-finish_done Done b d a = refl
-finish_done (Refused n) b d a = refl
+pub finish_done : {T : Type 0} (x : Result T Refusal) (b : BookData) (d a : List ℕ) → written (answer_number x) (view b) [] d a ≡ finish (coded (λ _. []) x) b d a
+finish_done (Ok v) b d a = refl
+finish_done (Err n) b d a = refl
 
 -- ---- what the writing functions leave; k is the archive's length
 pub laid : (k : ℕ) (b : BookData) → k ≡ length (encode_book b) → be 8 k ++ encode_book b ≡ book_bytes (view b)
@@ -196,9 +216,9 @@ module _ (n k : ℕ) (b : BookData) (d : List ℕ) (e : k ≡ length (encode_boo
         gives_as (sym (written_fits n (view b) l d a (omega (arith, bytes_length k b e)) g)) (record { number = refl; book = p; answer = (puts_overlay q).1 })
 
 -- ---- by the cases of an answer
-module _ {x : CallAnswer} (b : BookData) (l d a : List ℕ) {d' a' : List ℕ} {n : ℕ} where
-  pub gives_done : x ≡ Done → Gives (written 0 (view b) l d a) n d' a' → Gives (finish x b l d a) n d' a'
-  gives_done e g = gives_as (sym (ap (λ (y : CallAnswer). finish y b l d a) e)) g
+module _ {x : Result (List ℕ) Refusal} (b : BookData) (d a : List ℕ) {d' a' : List ℕ} {n : ℕ} where
+  pub gives_done : {l : List ℕ} → x ≡ Ok l → Gives (written 0 (view b) l d a) n d' a' → Gives (finish x b d a) n d' a'
+  gives_done e g = gives_as (sym (ap (λ (y : Result (List ℕ) Refusal). finish y b d a) e)) g
 
-  pub gives_refused : {k : ℕ} → x ≡ Refused k → Gives (written k (view b) [] d a) n d' a' → Gives (finish x b l d a) n d' a'
-  gives_refused e g = gives_as (sym (ap (λ (y : CallAnswer). finish y b l d a) e)) g
+  pub gives_refused : {k : Refusal} → x ≡ Err k → Gives (written (refusal_number k) (view b) [] d a) n d' a' → Gives (finish x b d a) n d' a'
+  gives_refused e g = gives_as (sym (ap (λ (y : Result (List ℕ) Refusal). finish y b d a) e)) g

@@ -3,11 +3,11 @@
 use Rattle.std.specs.Prelude.{ℕ, zero, suc, ◌+◌, ◌-◌, ◌*◌, ◌≤◌, ◌≡◌, Bool, replicate}
 use Rattle.std.proofs.Math.Path.{refl, ap}
 use Rattle.std.proofs.Common.{◌∙◌, suc-mul, arith}
-use Rattle.std.proofs.Math.Bool.{true, false}
-use mathlib.Core.List.{List, [], ◌∷◌, ◌++◌, map}
+use Rattle.std.proofs.Math.Bool.{true}
+use mathlib.Core.List.{List, [], ◌∷◌, ◌++◌}
 use Rattle.std.specs.Prelude.{Option, None, Some}
 use Rattle.std.proofs.Math.ListN.{length, length-append, length-replicate}
-use Rattle.codec_forms.specs.Wire.{be, enc_many, enc_opt}
+use Rattle.codec_forms.specs.Wire.{be, enc_many}
 use Rattle.codec_forms.specs.Number.{be_length}
 use Rattle.archive_bundle_form.specs.Forms.{encode_fee_intent}
 use Rattle.archive_form.specs.Encode.{encode_model, encode_book}
@@ -29,14 +29,16 @@ use Rattle.rules.specs.Call.{Call, Value, stage_of, retained_id}
 use Rattle.rules.specs.Rule.{Rule, Outcome, ended, undone, stopped, left}
 use Rattle.rules.specs.Steps.{run_book}
 use Rattle.codec_answers.specs.Forms.{status_number, flag_number, encode_drained}
-use Rattle.codec_answers.specs.Looks.{look_most, summary_most}
+use Rattle.codec_answers.specs.Forms.{encode_look, encode_final}
+use Rattle.std.proofs.Common.{subst}
+use Rattle.codec_answers.specs.Looks.{look_most, summary_most, ids_most, slot_most, final_most, option_most}
+use Rattle.book.specs.Refusals.{refusal_number}
 use Rattle.codec_answers.specs.Drain.{stage_number, encode_failure, drained_most, failure_most}
 use Rattle.rules_answers.specs.Said.{TypedFinal, TypedDrained}
 use Rattle.c_boundary.specs.Held.{book_bytes, held_in}
 use Rattle.c_boundary.specs.Settle.{Left, Form, settled, ruled, boundary, written_fits, layout_length}
-use Rattle.c_boundary.specs.Forms.{status_form, flag_form, height_form, ids_form, attempt_form, look_form, summary_form, fee_intent_form, final_form, drain_form, ids_most, slot_most, fee_intent_most, final_most}
+use Rattle.c_boundary.specs.Forms.{status_form, flag_form, height_form, ids_form, attempt_form, look_form, summary_form, fee_intent_form, final_form, drain_form}
 use Rattle.book.specs.declared.Height.{Height}
-use Rattle.book_answers.specs.Zero.{zero_look}
 use Rattle.book_answers.specs.declared.BookSummary.{BookSummary}
 use Rattle.book_answers.specs.declared.SubmissionAttemptStatus.{SubmissionAttemptStatus}
 use Rattle.book_answers.specs.declared.SubmissionLook.{SubmissionLook}
@@ -59,8 +61,8 @@ enough m t = omega (arith, book_length m, archive_size (back m) (back_typed m t)
 -- 0, or the refusal's number
 abbrev pub number_by : {A : Type 0} → Outcome Book A → ℕ
 number_by (ended m xs v) = 0
-number_by (undone n) = n
-number_by (stopped m xs n) = n
+number_by (undone n) = refusal_number n
+number_by (stopped m xs n) = refusal_number n
 
 -- the answer has at most k bytes
 abbrev pub AnswerFits : {A : Type 0} → Form A → ℕ → Outcome Book A → Type 0
@@ -73,7 +75,7 @@ module _ {A : Type 0} (form : Form A) (d a : List ℕ) (h : 57702 ≤ length d) 
   unfolding settled
   settled_enough m (ended k xs v) t w = ap (λ (l : Left). l.number) (written_fits 0 k (form xs v) d a (omega (arith, enough k t)) w)
   settled_enough m (undone n) t w = refl
-  settled_enough m (stopped k xs n) t w = ap (λ (l : Left). l.number) (written_fits n k [] d a (omega (arith, enough k t)) (omega arith))
+  settled_enough m (stopped k xs n) t w = ap (λ (l : Left). l.number) (written_fits (refusal_number n) k [] d a (omega (arith, enough k t)) (omega arith))
 
   -- the number is the rules' own
   pub call_enough : (m : Book) (r : Rule A) → held_in d ≡ Some m → TypedModel (left m (run_book r m)) → AnswerFits form (length a) (run_book r m) → (boundary form r d a).number ≡ number_by (run_book r m)
@@ -114,22 +116,21 @@ module _ (xs : List DrainedSubmission) where
 
   pub look_enough : (o : Option SubmissionLook) → length (look_form xs o) ≤ 39
   unfolding look_form
-  look_enough None = look_most false zero_look
-  look_enough (Some l) = look_most true l
+  look_enough o = option_most encode_look 38 o (λ l e. look_most l)
 
   pub summary_enough : (v : BookSummary) → length (summary_form xs v) ≤ 57
   unfolding summary_form
   summary_enough v = summary_most v
 
   pub fee_intent_enough : (o : Option SubmissionFeeIntent) → OnSome TypedFeeIntent o → length (fee_intent_form xs o) ≤ 42
-  unfolding fee_intent_form enc_opt
-  fee_intent_enough None t = omega (arith, be_length 1 0)
-  fee_intent_enough (Some f) t = fee_intent_most true (encode_fee_intent f) (record { is = refl; few = fee_intent_size f t })
+  unfolding fee_intent_form
+  fee_intent_enough o t = option_most encode_fee_intent 41 o (λ f e. fee_intent_size f (subst (OnSome TypedFeeIntent) e t))
 
 pub final_enough : (xs : List DrainedSubmission) (o : Option FinalizedSubmission) → OnSome TypedFinal o → length (final_form xs o) ≤ 1117
-unfolding final_form enc_opt
-final_enough xs None t = omega (arith, be_length 1 0)
-final_enough xs (Some f) t = final_most true f (record { is = refl; few = bundle_size f.bundle t.bundle }) t.fingerprint
+unfolding final_form
+final_enough xs o t = option_most encode_final 1116 o (λ f e.
+    let y = subst (OnSome TypedFinal) e t in
+    final_most f (record { is = refl; few = bundle_size f.bundle y.bundle }) y.fingerprint)
 
 drained_few : (d : DrainedSubmission) → TypedDrained d → length (encode_drained d) ≤ 1149
 drained_few d t =

@@ -66,6 +66,8 @@ use Rattle.rules.specs.Calls.Look.{look_at}
 use Rattle.rules.specs.Calls.Summary.{summary}
 use Rattle.rules.specs.Calls.WriteArchive.{write_archive}
 use Rattle.book.specs.Refusals as refusals
+use Rattle.book.specs.Refusals.{refusal_number}
+use Rattle.book.specs.declared.refusal.Refusal.TheVariants as turned
 
 -- ---- answers that always fit, and answers that fit by what they say
 abbrev Always : {A : Type 0} → Form A → ℕ → Type 0
@@ -107,7 +109,7 @@ drain_fits (stopped m xs n) s t = tt
 -- ---- calls that write by themselves: whole where there is room
 writes : (m : Book) (room k : ℕ) (s : List ℕ) → k ≤ room → length s ≤ k → run_book (writing room s) m ≡ ended m [] s
 unfolding writing run
-writes m room k s h g = ap (λ (t : Bool). run_book (cond t (done s) (undo refusals.short_buffer)) m) (le-leb (length s) room (omega arith))
+writes m room k s h g = ap (λ (t : Bool). run_book (cond t (done s) (undo turned.ShortBuffer)) m) (le-leb (length s) room (omega arith))
 
 -- what is owed of an outcome: the answer fits, and the rules do not refuse 12
 pub record Fitting {A : Type 0} (form : Form A) (k : ℕ) (o : Outcome Book A) : Type 0 where
@@ -117,7 +119,7 @@ pub record Fitting {A : Type 0} (form : Form A) (k : ℕ) (o : Outcome Book A) :
 written_fits : (m : Book) (room k : ℕ) (s : List ℕ) → k ≤ room → length s ≤ k → Fitting bytes_form k (run_book (writing room s) m)
 written_fits m room k s h g = subst (Fitting bytes_form k) (sym (writes m room k s h g)) (record { answer = g; number = λ e. absurd (omega arith) })
 
-asked_fits : (k : ℕ) (f : Book → Rule (List ℕ)) (m : Book) → Fitting bytes_form k (run_book (f m) m) → (t : Bool) → Fitting bytes_form k (run_book (cond t (look f) (undo refusals.bad_list)) m)
+asked_fits : (k : ℕ) (f : Book → Rule (List ℕ)) (m : Book) → Fitting bytes_form k (run_book (f m) m) → (t : Bool) → Fitting bytes_form k (run_book (cond t (look f) (undo turned.BadList)) m)
 unfolding run
 asked_fits k f m h true = h
 asked_fits k f m h false = record { answer = tt; number = λ e. absurd (omega arith) }
@@ -125,8 +127,8 @@ asked_fits k f m h false = record { answer = tt; number = λ e. absurd (omega ar
 -- ---- every call
 not_twelve : {A : Type 0} (d : Bool) (o : Outcome Book A) → TurnedAway d false o → number_by o ≡ refusals.short_buffer → ⊥
 not_twelve d (ended m xs v) h e = omega arith
-not_twelve d (undone n) h e = false≢true (sym (or-false (eqb n 0) (eqb n refusals.short_buffer) h).1 ∙ ap (λ (x : ℕ). eqb x refusals.short_buffer) e)
-not_twelve d (stopped m xs n) h e = let q = h.1 in omega arith
+not_twelve d (undone n) h e = false≢true (sym (or-false (eqb (refusal_number n) 0) (eqb (refusal_number n) refusals.short_buffer) h).1 ∙ ap (λ (x : ℕ). eqb x refusals.short_buffer) e)
+not_twelve d (stopped m xs n) h e = let q = ap refusal_number h.1 in omega (arith, q, e)
 
 -- of rules with their answer made into a value
 mapped_fits : {A : Type 0} (t : ToldAs A) (k : ℕ) (o : Outcome Book A) → AnswerFits t.form k o → AnswerFits value_form k (mapped t.value o)

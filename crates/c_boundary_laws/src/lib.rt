@@ -1,2 +1,2 @@
-// A list of calls on lent bytes gives what the rules' list gives: specs/Lists.antt.
+// Laws of a lent book: the header's sizes are enough, and what is written is held. In specs/.
 #![tactic(auto)]

@@ -10,15 +10,15 @@ use Rattle.book_answers.specs.declared.SubmissionFeeSource.{SubmissionFeeSource}
 use Rattle.rules.specs.Calls.FinalizeAttempt.{finalize_attempt}
 use Rattle.rules.specs.Rule.{Rule}
 use Rattle.rules.specs.Steps.{run_book}
-use Rattle.part_replies.specs.Reply.{finalize_reply}
-use Rattle.part_replies.specs.declared.FinalizeReply.{FinalizeReply}
-use Rattle.codec_forms.specs.Wire.{enc_opt}
-use Rattle.codec_answers.specs.Forms.{encode_final}
+use Rattle.part_replies.specs.Reply.{reply}
+use Rattle.part_replies.specs.declared.Reply.{Reply}
+use Rattle.book.specs.declared.refusal.Refusal.TheVariants as turned
+use Rattle.codec_answers.specs.Forms.{enc_option, encode_final}
 use Rattle.c_boundary.specs.Arguments.{given, gives_undo, given_none, given_some}
-use Rattle.c_boundary.specs.Forms.{final_form, gives_absent, final_given}
+use Rattle.c_boundary.specs.Forms.{final_form, gives_absent, reply_given, tells_final}
 use Rattle.c_boundary.specs.Held.{held_in, Holding}
-use Rattle.c_boundary.specs.Settle.{boundary, Gives, gives_as, finish}
-use Rattle.c_calls_attempts.specs.Source.{source_from, source_in, source_over, source_in_lem, joined_in}
+use Rattle.c_boundary.specs.Settle.{boundary, Gives, gives_as, finish, coded}
+use Rattle.c_calls_attempts.specs.Source.{source_in, joined_in}
 
 -- the rules of the call behind its arguments: the source, then the joined bundle
 abbrev pub joining : (token source : ℕ) (joined : List ℕ) → SubmissionFeeSource → Rule (Option FinalizedSubmission)
@@ -35,19 +35,18 @@ module _ (d : List ℕ) (token source : ℕ) (joined a : List ℕ) where
   finalize_absent e = gives_absent final_form (finalizing token source joined) d a e
 
   module _ (b : BookData) (h : Holding d b) where
-    pub source_bad : 3 < source → Finalized 3 d a
-    source_bad e = gives_undo 3 final_form d a b h (finalizing token source joined) (given_none (joining token source joined) (source_over source e))
+    pub source_bad : source_in source ≡ None → Finalized 3 d a
+    source_bad e = gives_undo turned.BadValue final_form d a b h (finalizing token source joined) (given_none (joining token source joined) e)
 
-    module _ (e : source ≤ 3) where
+    module _ {s : SubmissionFeeSource} (e : source_in source ≡ Some s) where
       pub joined_bad : joined_in source joined ≡ None → Finalized 3 d a
       joined_bad f =
-          gives_undo 3 final_form d a b h (finalizing token source joined)
-          (given_some (joining token source joined) (source_in_lem source e) ∙ given_none (λ (j : SpendBundle). finalize_attempt token (source_from source) j) f)
+          gives_undo turned.BadValue final_form d a b h (finalizing token source joined)
+          (given_some (joining token source joined) e ∙ given_none (λ (j : SpendBundle). finalize_attempt token s j) f)
 
-      pub finalize_done : {s : SubmissionFeeSource} {j : SpendBundle} {n : ℕ} {d' a' : List ℕ} (r : FinalizeReply) → s ≡ source_from source
-          → joined_in source joined ≡ Some j → r ≡ finalize_reply b (run_book (finalize_attempt token s j) (view b))
-          → Gives (finish r.answer r.book (enc_opt r.present (encode_final r.finalized)) d a) n d' a' → Finalized n d' a'
-      finalize_done {s} {j} r k f q g =
-          let y = given_some (joining token source joined) (source_in_lem source e) ∙ given_some (λ (i : SpendBundle). finalize_attempt token (source_from source) i) f
-          ∙ ap (λ (x : SubmissionFeeSource). finalize_attempt token x j) (sym k) in
-          gives_as (ap (λ (x : Rule (Option FinalizedSubmission)). boundary final_form x d a) (sym y)) (final_given d a b h (finalize_attempt token s j) r q g)
+      pub finalize_done : {j : SpendBundle} {n : ℕ} {d' a' : List ℕ} {r : Reply (Option FinalizedSubmission) BookData}
+          → joined_in source joined ≡ Some j → r ≡ reply b (run_book (finalize_attempt token s j) (view b))
+          → Gives (finish (coded (enc_option encode_final) r.answer) r.book d a) n d' a' → Finalized n d' a'
+      finalize_done {j} f q g =
+          let y = given_some (joining token source joined) e ∙ given_some (λ (i : SpendBundle). finalize_attempt token s i) f in
+          gives_as (ap (λ (x : Rule (Option FinalizedSubmission)). boundary final_form x d a) (sym y)) (reply_given tells_final d a b h (finalize_attempt token s j) q g)

@@ -11,15 +11,15 @@ ghost use Rattle.rules.specs.Calls.StopAttempt.{stop_attempt};
 ghost use Rattle.c_boundary.specs.Settle.{boundary, Gives};
 ghost use Rattle.c_boundary.specs.Forms.{status_form, attempt_form, fee_intent_form, final_form};
 ghost use Rattle.c_calls_attempts.specs.Finalize.{finalizing};
-ghost use Rattle.c_calls_attempts.specs.Source.{source_from, JoinedAnswer};
+ghost use Rattle.c_calls_attempts.specs.Source.{joined_in};
 
 use archive_bundle_read::bundle::read_bundle;
-use book::refusals::{BAD_VALUE, NO_BOOK};
+use book::refusal::Refusal;
+use book::sound::SoundBook;
 use book::{SpendBundle, Token};
 use book_answers::SubmissionFeeSource;
-use c_attempts::{settle_final, tell_attempt, tell_fee_intent};
 use c_read::held;
-use c_replies::{settle_status, tell_status};
+use c_replies::{settle_final, settle_status, tell_attempt, tell_fee_intent, tell_status};
 use call_abandon_attempt::abandon_attempt_sound;
 use call_acknowledge_attempt::acknowledge_attempt_sound;
 use call_attempt::attempt_sound;
@@ -29,22 +29,16 @@ use call_relinquish_completed_attempt::relinquish_completed_attempt_sound;
 use call_stop_attempt::stop_attempt_sound;
 use codec_cursor::FAR;
 
-// Where the bytes are no bundle, the bundle says nothing.
-#[derive(Clone, Copy)]
-pub struct JoinedBundle {
-    pub ok: bool,
-    pub bundle: SpendBundle,
-}
-
+// Each function is one call of the C interface: its parameters, and a refusal as a number, are what that has.
+// Each reads the book and tests `ok` itself: a function that hands the book on would cost the call a copy of it.
 pub fn acknowledge_attempt(book: &mut [u8], token: u64, answer: &mut [u8]) -> u8
     ensures { Gives (boundary status_form (acknowledge_attempt token) book.old answer.old) result book.new answer.new }
 {
     let h = held(&*book);
-    let ok = h.ok;
-    if !ok {
-        return NO_BOOK;
+    if !h.ok {
+        return Refusal::NoBook as u8;
     }
-    let r = acknowledge_attempt_sound(h.book, Token(token));
+    let r = acknowledge_attempt_sound(SoundBook { parts: h.book }, Token(token));
     settle_status(r, book, answer)
 }
 
@@ -52,11 +46,10 @@ pub fn stop_attempt(book: &mut [u8], token: u64, answer: &mut [u8]) -> u8
     ensures { Gives (boundary status_form (stop_attempt token) book.old answer.old) result book.new answer.new }
 {
     let h = held(&*book);
-    let ok = h.ok;
-    if !ok {
-        return NO_BOOK;
+    if !h.ok {
+        return Refusal::NoBook as u8;
     }
-    let r = stop_attempt_sound(h.book, Token(token));
+    let r = stop_attempt_sound(SoundBook { parts: h.book }, Token(token));
     settle_status(r, book, answer)
 }
 
@@ -64,11 +57,10 @@ pub fn abandon_attempt(book: &mut [u8], token: u64, answer: &mut [u8]) -> u8
     ensures { Gives (boundary status_form (abandon_attempt token) book.old answer.old) result book.new answer.new }
 {
     let h = held(&*book);
-    let ok = h.ok;
-    if !ok {
-        return NO_BOOK;
+    if !h.ok {
+        return Refusal::NoBook as u8;
     }
-    let r = abandon_attempt_sound(h.book, Token(token));
+    let r = abandon_attempt_sound(SoundBook { parts: h.book }, Token(token));
     settle_status(r, book, answer)
 }
 
@@ -76,75 +68,45 @@ pub fn relinquish_completed_attempt(book: &[u8], token: u64, answer: &mut [u8]) 
     ensures { Gives (boundary status_form (relinquish_completed_attempt token) book.now answer.old) result book.now answer.new }
 {
     let h = held(book);
-    let ok = h.ok;
-    if !ok {
-        return NO_BOOK;
+    if !h.ok {
+        return Refusal::NoBook as u8;
     }
-    let r = relinquish_completed_attempt_sound(h.book, Token(token));
-    let said = r.answer;
-    let status = r.status;
-    tell_status(said, status, answer)
+    let r = relinquish_completed_attempt_sound(SoundBook { parts: h.book }, Token(token));
+    tell_status(&r.answer, answer)
 }
 
 pub fn fee_intent_for_attempt(book: &[u8], token: u64, answer: &mut [u8]) -> u8
     ensures { Gives (boundary fee_intent_form (fee_intent_for_attempt token) book.now answer.old) result book.now answer.new }
 {
     let h = held(book);
-    let ok = h.ok;
-    if !ok {
-        return NO_BOOK;
+    if !h.ok {
+        return Refusal::NoBook as u8;
     }
-    let r = fee_intent_for_attempt_sound(h.book, Token(token));
-    let said = r.answer;
-    tell_fee_intent(said, r.present, r.fee_intent, answer)
+    let r = fee_intent_for_attempt_sound(SoundBook { parts: h.book }, Token(token));
+    tell_fee_intent(&r.answer, answer)
 }
 
 pub fn attempt(book: &[u8], token: u64, answer: &mut [u8]) -> u8
     ensures { Gives (boundary attempt_form (attempt token) book.now answer.old) result book.now answer.new }
 {
     let h = held(book);
-    let ok = h.ok;
-    if !ok {
-        return NO_BOOK;
+    if !h.ok {
+        return Refusal::NoBook as u8;
     }
-    let r = attempt_sound(h.book, Token(token));
-    let said = r.answer;
-    tell_attempt(said, r.attempt, answer)
-}
-
-// 0 not requested, 1 joined, 2 a join that failed, 3 failed.
-fn source_from(n: u8) -> SubmissionFeeSource
-    ensures { result ≡ source_from n }
-{
-    if n == 0 {
-        return SubmissionFeeSource::NotRequested;
-    }
-    if n == 1 {
-        return SubmissionFeeSource::Joined;
-    }
-    if n == 2 {
-        return SubmissionFeeSource::JoinFailed;
-    }
-    SubmissionFeeSource::Failed
+    let r = attempt_sound(SoundBook { parts: h.book }, Token(token));
+    tell_attempt(&r.answer, answer)
 }
 
 // The joined bundle in its archive form; with any other source there are no bytes.
-fn joined_in(source: u8, joined: &[u8]) -> JoinedBundle
-    ensures { JoinedAnswer source joined.now result }
+fn joined_in(source: u8, joined: &[u8]) -> Option<SpendBundle>
+    ensures { result ≡ joined_in source joined.now }
 {
-    if source == 1 {
-        let mut end: usize = 0;
-        let bundle = read_bundle(joined, &mut end, false);
-        return JoinedBundle {
-            ok: (end < FAR) & (joined.len() <= end),
-            bundle,
-        };
+    if source != 1 {
+        return (joined.len() == 0).then_some(SpendBundle::zero());
     }
-    let bundle = SpendBundle::zero();
-    JoinedBundle {
-        ok: joined.len() <= 0,
-        bundle,
-    }
+    let mut end: usize = 0;
+    let bundle = read_bundle(joined, &mut end, false);
+    ((end < FAR) & (joined.len() <= end)).then_some(bundle)
 }
 
 pub fn finalize_attempt(
@@ -157,19 +119,15 @@ pub fn finalize_attempt(
     ensures { Gives (boundary final_form (finalizing token source joined.now) book.old answer.old) result book.new answer.new }
 {
     let h = held(&*book);
-    let ok = h.ok;
-    if !ok {
-        return NO_BOOK;
+    if !h.ok {
+        return Refusal::NoBook as u8;
     }
-    if 3 < source {
-        return BAD_VALUE;
-    }
-    let s = source_from(source);
-    let j = joined_in(source, joined);
-    let whole = j.ok;
-    if !whole {
-        return BAD_VALUE;
-    }
-    let r = finalize_attempt_sound(h.book, Token(token), s, j.bundle);
+    let Some(s) = SubmissionFeeSource::from_number(source) else {
+        return Refusal::BadValue as u8;
+    };
+    let Some(j) = joined_in(source, joined) else {
+        return Refusal::BadValue as u8;
+    };
+    let r = finalize_attempt_sound(SoundBook { parts: h.book }, Token(token), s, j);
     settle_final(r, book, answer)
 }

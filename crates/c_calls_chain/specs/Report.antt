@@ -10,12 +10,13 @@ use Rattle.rules.specs.Calls.ReconcileChainTerminality.{reconcile_chain_terminal
 use Rattle.rules.specs.Doors.{ids_ok}
 use Rattle.rules.specs.Rule.{Rule}
 use Rattle.rules.specs.Steps.{run_book}
-use Rattle.part_replies.specs.Reply.{done_reply}
-use Rattle.part_replies.specs.declared.DoneReply.{DoneReply}
+use Rattle.part_replies.specs.Reply.{reply}
+use Rattle.part_replies.specs.declared.Reply.{Reply}
+use Rattle.book.specs.declared.refusal.Refusal.TheVariants as turned
 use Rattle.c_boundary.specs.Arguments.{given, listed, flag_in, gives_book_undo, given_none, given_some, listed_not, listed_well}
-use Rattle.c_boundary.specs.Forms.{no_form, gives_book_absent, done_given_lem}
+use Rattle.c_boundary.specs.Forms.{no_form, gives_book_absent, reply_book, tells_nothing}
 use Rattle.c_boundary.specs.Held.{held_in, Holding}
-use Rattle.c_boundary.specs.Settle.{boundary, GivesBook, gives_book_as, finish}
+use Rattle.c_boundary.specs.Settle.{boundary, GivesBook, gives_book_as, finish, coded}
 
 pub flag_over : (n : ℕ) → 1 < n → flag_in n ≡ None
 flag_over zero h = absurd (omega arith)
@@ -51,17 +52,17 @@ module _ (d observed spent : List ℕ) (reorg : ℕ) (ids : List ℕ) where
 
   module _ (b : BookData) (h : Holding d b) where
     pub report_unlisted : report_lists observed spent ids ≡ false → Reported 2 d
-    report_unlisted k = gives_book_undo 2 no_form d b h (reporting observed spent reorg ids) (listed_not (flagged observed spent reorg ids) k)
+    report_unlisted k = gives_book_undo turned.BadList no_form d b h (reporting observed spent reorg ids) (listed_not (flagged observed spent reorg ids) k)
 
     pub report_bad : report_lists observed spent ids ≡ true → 1 < reorg → Reported 3 d
     report_bad k e =
-        gives_book_undo 3 no_form d b h (reporting observed spent reorg ids)
+        gives_book_undo turned.BadValue no_form d b h (reporting observed spent reorg ids)
         (listed_well (flagged observed spent reorg ids) k ∙ given_none (λ (f : Bool). reconcile_chain_terminality observed spent f ids) (flag_over reorg e))
 
-    pub report_done : {n : ℕ} {d' : List ℕ} (r : DoneReply) → report_lists observed spent ids ≡ true → reorg ≤ 1
-        → r ≡ done_reply b (run_book (reconcile_chain_terminality observed spent (eqb reorg 1) ids) (view b)) → GivesBook (finish r.answer r.book [] d []) n d'
+    pub report_done : {n : ℕ} {d' : List ℕ} (r : Reply (Unit {0}) BookData) → report_lists observed spent ids ≡ true → reorg ≤ 1
+        → r ≡ reply b (run_book (reconcile_chain_terminality observed spent (eqb reorg 1) ids) (view b)) → GivesBook (finish (coded (λ _. []) r.answer) r.book d []) n d'
         → Reported n d'
     report_done r k e q g =
         let x = listed_well (flagged observed spent reorg ids) k ∙ given_some (λ (f : Bool). reconcile_chain_terminality observed spent f ids) (flag_in_lem reorg e) in
         gives_book_as (ap (λ (z : Rule (Unit {0})). boundary no_form z d []) (sym x))
-        (done_given_lem d b h (reconcile_chain_terminality observed spent (eqb reorg 1) ids) r q g)
+        (reply_book tells_nothing d [] b h (reconcile_chain_terminality observed spent (eqb reorg 1) ids) q g)

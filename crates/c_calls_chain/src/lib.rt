@@ -15,7 +15,8 @@ ghost use Rattle.c_calls_chain.specs.Report.{reporting};
 
 use base_coin_string::{is_coin_list, is_id_list};
 use book::SubmissionId;
-use book::refusals::{BAD_LIST, BAD_VALUE, NO_BOOK};
+use book::refusal::Refusal;
+use book::sound::SoundBook;
 use c_read::held;
 use c_replies::{tell_ids, tell_look, tell_summary};
 use c_write::settle_done;
@@ -25,19 +26,18 @@ use call_look::look_sound;
 use call_reconcile_chain_terminality::reconcile_chain_terminality_sound;
 use call_reconciliation_input_coins::reconciliation_input_coins_sound;
 use call_summary::summary_sound;
-use part_replies::CallAnswer;
 
+// Each function is one call of the C interface: its parameters, and a refusal as a number, are what that has.
+// Each reads the book and tests `ok` itself: a function that hands the book on would cost the call a copy of it.
 pub fn causally_rolled_back_ids(book: &[u8], absent: &[u8], inputs: &[u8], answer: &mut [u8]) -> u8
     ensures { Gives (boundary ids_form (causally_rolled_back_ids absent.now inputs.now) book.now answer.old) result book.now answer.new }
 {
     let h = held(book);
-    let ok = h.ok;
-    if !ok {
-        return NO_BOOK;
+    if !h.ok {
+        return Refusal::NoBook as u8;
     }
-    let r = causally_rolled_back_ids_sound(h.book, absent, inputs);
-    let said = r.answer;
-    tell_ids(said, r.ids, answer)
+    let r = causally_rolled_back_ids_sound(SoundBook { parts: h.book }, absent, inputs);
+    tell_ids(&r.answer, answer)
 }
 
 pub fn reconcile_chain_terminality(
@@ -50,21 +50,27 @@ pub fn reconcile_chain_terminality(
     ensures { GivesBook (boundary no_form (reporting observed.now spent.now reorg rolled_back.now) book.old []) result book.new }
 {
     let h = held(&*book);
-    let ok = h.ok;
-    if !ok {
-        return NO_BOOK;
+    if !h.ok {
+        return Refusal::NoBook as u8;
     }
     let coins = is_coin_list(observed);
     let ids = is_id_list(spent);
     let lists = coins & ids & (rolled_back.len() <= 64);
     if !lists {
-        return BAD_LIST;
+        return Refusal::BadList as u8;
     }
     if 1 < reorg {
-        return BAD_VALUE;
+        return Refusal::BadValue as u8;
     }
+    // C has the flag as a byte.
     let f = reorg == 1;
-    let r = reconcile_chain_terminality_sound(h.book, observed, spent, f, rolled_back);
+    let r = reconcile_chain_terminality_sound(
+        SoundBook { parts: h.book },
+        observed,
+        spent,
+        f,
+        rolled_back,
+    );
     settle_done(r, book)
 }
 
@@ -78,18 +84,16 @@ pub fn reconciliation_input_coins(
     ensures { GivesBytes (boundary bytes_form (reconciliation_input_coins outputs.now (length answer.old)) book.now answer.old) (length_of count.old (reconciliation_input_coins outputs.now (length answer.old)) (held_in book.now)) result book.now answer.new count.new }
 {
     let h = held(book);
-    let ok = h.ok;
-    if !ok {
-        return NO_BOOK;
+    if !h.ok {
+        return Refusal::NoBook as u8;
     }
-    let r = reconciliation_input_coins_sound(h.book, outputs, answer);
-    let said = r.answer;
-    match said {
-        CallAnswer::Done => {
-            *count = r.length as u64;
+    let r = reconciliation_input_coins_sound(SoundBook { parts: h.book }, outputs, answer);
+    match r.answer {
+        Ok(length) => {
+            *count = length as u64;
             0
         }
-        CallAnswer::Refused(n) => n,
+        Err(refusal) => refusal as u8,
     }
 }
 
@@ -103,18 +107,16 @@ pub fn absent_outputs_for_ids(
     ensures { GivesBytes (boundary bytes_form (absent_outputs_for_ids ids.now absent.now (length answer.old)) book.now answer.old) (length_of count.old (absent_outputs_for_ids ids.now absent.now (length answer.old)) (held_in book.now)) result book.now answer.new count.new }
 {
     let h = held(book);
-    let ok = h.ok;
-    if !ok {
-        return NO_BOOK;
+    if !h.ok {
+        return Refusal::NoBook as u8;
     }
-    let r = absent_outputs_for_ids_sound(h.book, ids, absent, answer);
-    let said = r.answer;
-    match said {
-        CallAnswer::Done => {
-            *count = r.length as u64;
+    let r = absent_outputs_for_ids_sound(SoundBook { parts: h.book }, ids, absent, answer);
+    match r.answer {
+        Ok(length) => {
+            *count = length as u64;
             0
         }
-        CallAnswer::Refused(n) => n,
+        Err(refusal) => refusal as u8,
     }
 }
 
@@ -122,24 +124,20 @@ pub fn look(book: &[u8], id: u64, answer: &mut [u8]) -> u8
     ensures { Gives (boundary look_form (look_at id) book.now answer.old) result book.now answer.new }
 {
     let h = held(book);
-    let ok = h.ok;
-    if !ok {
-        return NO_BOOK;
+    if !h.ok {
+        return Refusal::NoBook as u8;
     }
-    let r = look_sound(h.book, SubmissionId(id));
-    let said = r.answer;
-    tell_look(said, r.present, r.look, answer)
+    let r = look_sound(SoundBook { parts: h.book }, SubmissionId(id));
+    tell_look(&r.answer, answer)
 }
 
 pub fn summary(book: &[u8], answer: &mut [u8]) -> u8
     ensures { Gives (boundary summary_form summary book.now answer.old) result book.now answer.new }
 {
     let h = held(book);
-    let ok = h.ok;
-    if !ok {
-        return NO_BOOK;
+    if !h.ok {
+        return Refusal::NoBook as u8;
     }
-    let r = summary_sound(h.book);
-    let said = r.answer;
-    tell_summary(said, r.summary, answer)
+    let r = summary_sound(SoundBook { parts: h.book });
+    tell_summary(&r.answer, answer)
 }

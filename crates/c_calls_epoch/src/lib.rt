@@ -12,7 +12,8 @@ ghost use Rattle.rules.specs.Calls.RetainSubmitted.{retain_submitted};
 ghost use Rattle.c_boundary.specs.Settle.{boundary, Gives, GivesBook};
 ghost use Rattle.c_boundary.specs.Forms.{no_form, flag_form, height_form, ids_form};
 
-use book::refusals::NO_BOOK;
+use book::refusal::Refusal;
+use book::sound::SoundBook;
 use book::{Height, SubmissionId};
 use c_read::held;
 use c_replies::{settle_flag, settle_ids, tell_height, tell_ids};
@@ -27,15 +28,16 @@ use call_replay_rollback_height::replay_rollback_height_sound;
 use call_restore_runtime::restore_runtime_sound;
 use call_retain_submitted::retain_submitted_sound;
 
+// Each function is one call of the C interface: its parameters, and a refusal as a number, are what that has.
+// Each reads the book and tests `ok` itself: a function that hands the book on would cost the call a copy of it.
 pub fn begin_replay(book: &mut [u8], height: u64, answer: &mut [u8]) -> u8
     ensures { Gives (boundary flag_form (begin_replay (record { 0 = height })) book.old answer.old) result book.new answer.new }
 {
     let h = held(&*book);
-    let ok = h.ok;
-    if !ok {
-        return NO_BOOK;
+    if !h.ok {
+        return Refusal::NoBook as u8;
     }
-    let r = begin_replay_sound(h.book, Height(height));
+    let r = begin_replay_sound(SoundBook { parts: h.book }, Height(height));
     settle_flag(r, book, answer)
 }
 
@@ -43,11 +45,10 @@ pub fn finish_replay_if_advanced(book: &mut [u8], height: u64) -> u8
     ensures { GivesBook (boundary no_form (finish_replay_if_advanced (record { 0 = height })) book.old []) result book.new }
 {
     let h = held(&*book);
-    let ok = h.ok;
-    if !ok {
-        return NO_BOOK;
+    if !h.ok {
+        return Refusal::NoBook as u8;
     }
-    let r = finish_replay_if_advanced_sound(h.book, Height(height));
+    let r = finish_replay_if_advanced_sound(SoundBook { parts: h.book }, Height(height));
     settle_done(r, book)
 }
 
@@ -55,25 +56,21 @@ pub fn replay_rollback_height(book: &[u8], answer: &mut [u8]) -> u8
     ensures { Gives (boundary height_form replay_rollback_height book.now answer.old) result book.now answer.new }
 {
     let h = held(book);
-    let ok = h.ok;
-    if !ok {
-        return NO_BOOK;
+    if !h.ok {
+        return Refusal::NoBook as u8;
     }
-    let r = replay_rollback_height_sound(h.book);
-    let said = r.answer;
-    let height = r.height;
-    tell_height(said, height, answer)
+    let r = replay_rollback_height_sound(SoundBook { parts: h.book });
+    tell_height(&r.answer, answer)
 }
 
 pub fn emit_retirement(book: &mut [u8], id: u64) -> u8
     ensures { GivesBook (boundary no_form (emit_retirement id) book.old []) result book.new }
 {
     let h = held(&*book);
-    let ok = h.ok;
-    if !ok {
-        return NO_BOOK;
+    if !h.ok {
+        return Refusal::NoBook as u8;
     }
-    let r = emit_retirement_sound(h.book, SubmissionId(id));
+    let r = emit_retirement_sound(SoundBook { parts: h.book }, SubmissionId(id));
     settle_done(r, book)
 }
 
@@ -81,11 +78,10 @@ pub fn drain_retirements(book: &mut [u8], answer: &mut [u8]) -> u8
     ensures { Gives (boundary ids_form drain_retirements book.old answer.old) result book.new answer.new }
 {
     let h = held(&*book);
-    let ok = h.ok;
-    if !ok {
-        return NO_BOOK;
+    if !h.ok {
+        return Refusal::NoBook as u8;
     }
-    let r = drain_retirements_sound(h.book);
+    let r = drain_retirements_sound(SoundBook { parts: h.book });
     settle_ids(r, book, answer)
 }
 
@@ -93,24 +89,21 @@ pub fn active_ids(book: &[u8], answer: &mut [u8]) -> u8
     ensures { Gives (boundary ids_form active_ids book.now answer.old) result book.now answer.new }
 {
     let h = held(book);
-    let ok = h.ok;
-    if !ok {
-        return NO_BOOK;
+    if !h.ok {
+        return Refusal::NoBook as u8;
     }
-    let r = active_ids_sound(h.book);
-    let said = r.answer;
-    tell_ids(said, r.ids, answer)
+    let r = active_ids_sound(SoundBook { parts: h.book });
+    tell_ids(&r.answer, answer)
 }
 
 pub fn retain_submitted(book: &mut [u8], removed: &[u64], answer: &mut [u8]) -> u8
     ensures { Gives (boundary ids_form (retain_submitted removed.now) book.old answer.old) result book.new answer.new }
 {
     let h = held(&*book);
-    let ok = h.ok;
-    if !ok {
-        return NO_BOOK;
+    if !h.ok {
+        return Refusal::NoBook as u8;
     }
-    let r = retain_submitted_sound(h.book, removed);
+    let r = retain_submitted_sound(SoundBook { parts: h.book }, removed);
     settle_ids(r, book, answer)
 }
 
@@ -118,11 +111,10 @@ pub fn clear_local_artifacts(book: &mut [u8]) -> u8
     ensures { GivesBook (boundary no_form clear_local_artifacts book.old []) result book.new }
 {
     let h = held(&*book);
-    let ok = h.ok;
-    if !ok {
-        return NO_BOOK;
+    if !h.ok {
+        return Refusal::NoBook as u8;
     }
-    let r = clear_local_artifacts_sound(h.book);
+    let r = clear_local_artifacts_sound(SoundBook { parts: h.book });
     settle_done(r, book)
 }
 
@@ -130,10 +122,9 @@ pub fn restore_runtime(book: &mut [u8]) -> u8
     ensures { GivesBook (boundary no_form restore_runtime book.old []) result book.new }
 {
     let h = held(&*book);
-    let ok = h.ok;
-    if !ok {
-        return NO_BOOK;
+    if !h.ok {
+        return Refusal::NoBook as u8;
     }
-    let r = restore_runtime_sound(h.book);
+    let r = restore_runtime_sound(SoundBook { parts: h.book });
     settle_done(r, book)
 }

@@ -15,12 +15,13 @@ use Rattle.rules.specs.Calls.QueueRetainedDelivery.{queue_retained_delivery}
 use Rattle.rules.specs.Doors.{ids_ok}
 use Rattle.rules.specs.Rule.{Rule}
 use Rattle.rules.specs.Steps.{run_book}
-use Rattle.part_replies.specs.Reply.{done_reply}
-use Rattle.part_replies.specs.declared.DoneReply.{DoneReply}
+use Rattle.part_replies.specs.Reply.{reply}
+use Rattle.part_replies.specs.declared.Reply.{Reply}
+use Rattle.book.specs.declared.refusal.Refusal.TheVariants as turned
 use Rattle.c_boundary.specs.Arguments.{given, listed, byte_as, bytes_as, gives_book_undo, given_none, given_some, listed_not, listed_well}
-use Rattle.c_boundary.specs.Forms.{no_form, gives_book_absent, done_given_lem}
+use Rattle.c_boundary.specs.Forms.{no_form, gives_book_absent, reply_book, tells_nothing}
 use Rattle.c_boundary.specs.Held.{held_in, Holding}
-use Rattle.c_boundary.specs.Settle.{boundary, GivesBook, gives_book_as, finish}
+use Rattle.c_boundary.specs.Settle.{boundary, GivesBook, gives_book_as, finish, coded}
 
 -- ---- the rules of each call behind its arguments
 abbrev pub queueing : (delivery : List ℕ) → Rule (Unit {0})
@@ -52,11 +53,11 @@ module _ (d delivery : List ℕ) where
 
   module _ (b : BookData) (h : Holding d b) where
     pub queue_bad : bytes_as parse_delivery delivery ≡ None → Queued 3 d
-    queue_bad e = gives_book_undo 3 no_form d b h (queueing delivery) (given_none queue e)
+    queue_bad e = gives_book_undo turned.BadValue no_form d b h (queueing delivery) (given_none queue e)
 
-    pub queue_done : {v : PendingDelivery} {n : ℕ} {d' : List ℕ} (r : DoneReply) → bytes_as parse_delivery delivery ≡ Some v
-        → r ≡ done_reply b (run_book (queue v) (view b)) → GivesBook (finish r.answer r.book [] d []) n d' → Queued n d'
-    queue_done {v} r e q g = by d (given_some queue e) (done_given_lem d b h (queue v) r q g)
+    pub queue_done : {v : PendingDelivery} {n : ℕ} {d' : List ℕ} (r : Reply (Unit {0}) BookData) → bytes_as parse_delivery delivery ≡ Some v
+        → r ≡ reply b (run_book (queue v) (view b)) → GivesBook (finish (coded (λ _. []) r.answer) r.book d []) n d' → Queued n d'
+    queue_done {v} r e q g = by d (given_some queue e) (reply_book tells_nothing d [] b h (queue v) q g)
 
 -- ---- queue_retained_delivery
 module _ (d : List ℕ) (id trigger goal : ℕ) where
@@ -68,19 +69,19 @@ module _ (d : List ℕ) (id trigger goal : ℕ) where
 
   module _ (b : BookData) (h : Holding d b) where
     pub trigger_bad : byte_as parse_trigger trigger ≡ None → Delivered 3 d
-    trigger_bad e = gives_book_undo 3 no_form d b h (delivering id trigger goal) (given_none (offering id goal) e)
+    trigger_bad e = gives_book_undo turned.BadValue no_form d b h (delivering id trigger goal) (given_none (offering id goal) e)
 
     module _ {t : DeliveryTrigger} (e : byte_as parse_trigger trigger ≡ Some t) where
       pub goal_bad : byte_as parse_goal goal ≡ None → Delivered 3 d
       goal_bad f =
-          gives_book_undo 3 no_form d b h (delivering id trigger goal)
+          gives_book_undo turned.BadValue no_form d b h (delivering id trigger goal)
           (given_some (offering id goal) e ∙ given_none (λ (g : SubmissionDeliveryGoal). queue_retained_delivery id t g) f)
 
-      pub delivery_done : {g : SubmissionDeliveryGoal} {n : ℕ} {d' : List ℕ} (r : DoneReply) → byte_as parse_goal goal ≡ Some g
-          → r ≡ done_reply b (run_book (queue_retained_delivery id t g) (view b)) → GivesBook (finish r.answer r.book [] d []) n d' → Delivered n d'
+      pub delivery_done : {g : SubmissionDeliveryGoal} {n : ℕ} {d' : List ℕ} (r : Reply (Unit {0}) BookData) → byte_as parse_goal goal ≡ Some g
+          → r ≡ reply b (run_book (queue_retained_delivery id t g) (view b)) → GivesBook (finish (coded (λ _. []) r.answer) r.book d []) n d' → Delivered n d'
       delivery_done {g} r f q x =
           by d (given_some (offering id goal) e ∙ given_some (λ (k : SubmissionDeliveryGoal). queue_retained_delivery id t k) f)
-          (done_given_lem d b h (queue_retained_delivery id t g) r q x)
+          (reply_book tells_nothing d [] b h (queue_retained_delivery id t g) q x)
 
 -- ---- queue_rebroadcast_epoch
 module _ (d ids : List ℕ) (trigger : ℕ) where
@@ -100,15 +101,15 @@ module _ (d ids : List ℕ) (trigger : ℕ) where
 
   module _ (b : BookData) (h : Holding d b) where
     pub epoch_long : 64 < length ids → Rebroadcast 2 d
-    epoch_long k = gives_book_undo 2 no_form d b h (rebroadcasting ids trigger) (listed_not (triggered ids trigger) (many k))
+    epoch_long k = gives_book_undo turned.BadList no_form d b h (rebroadcasting ids trigger) (listed_not (triggered ids trigger) (many k))
 
     pub epoch_bad : length ids ≤ 64 → byte_as parse_trigger trigger ≡ None → Rebroadcast 3 d
     epoch_bad k e =
-        gives_book_undo 3 no_form d b h (rebroadcasting ids trigger)
+        gives_book_undo turned.BadValue no_form d b h (rebroadcasting ids trigger)
         (listed_well (triggered ids trigger) (few k) ∙ given_none (λ (t : DeliveryTrigger). queue_rebroadcast_epoch ids t) e)
 
-    pub epoch_done : {t : DeliveryTrigger} {n : ℕ} {d' : List ℕ} (r : DoneReply) → length ids ≤ 64 → byte_as parse_trigger trigger ≡ Some t
-        → r ≡ done_reply b (run_book (queue_rebroadcast_epoch ids t) (view b)) → GivesBook (finish r.answer r.book [] d []) n d' → Rebroadcast n d'
+    pub epoch_done : {t : DeliveryTrigger} {n : ℕ} {d' : List ℕ} (r : Reply (Unit {0}) BookData) → length ids ≤ 64 → byte_as parse_trigger trigger ≡ Some t
+        → r ≡ reply b (run_book (queue_rebroadcast_epoch ids t) (view b)) → GivesBook (finish (coded (λ _. []) r.answer) r.book d []) n d' → Rebroadcast n d'
     epoch_done {t} r k e q g =
         by d (listed_well (triggered ids trigger) (few k) ∙ given_some (λ (i : DeliveryTrigger). queue_rebroadcast_epoch ids i) e)
-        (done_given_lem d b h (queue_rebroadcast_epoch ids t) r q g)
+        (reply_book tells_nothing d [] b h (queue_rebroadcast_epoch ids t) q g)

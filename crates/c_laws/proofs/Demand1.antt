@@ -1,4 +1,7 @@
 -- Theorems on specs/Demand1.antt.
+use Rattle.book.specs.declared.refusal.Refusal.{Refusal}
+use Rattle.book.specs.declared.refusal.Refusal.TheVariants as turned
+use Rattle.book.specs.Refusals.{refusal_number}
 use Rattle.std.specs.Prelude.{ℕ, ◌≡◌, Bool, cond, ◌&&◌, leb, length}
 use Rattle.std.proofs.Math.Path.{refl, ap}
 use Rattle.std.proofs.Common.{sym, ◌∙◌, subst, arith, leb-true}
@@ -57,19 +60,19 @@ module _ (d : List ℕ) (c : CCall) (k : Call) (m : Book) (e : held_in d ≡ Som
   stays true = refl
   stays false = refl
 
-  stopped_as : (x : Book) (xs : List DrainedSubmission) (n : ℕ) → is_drain (kind_of k) ≡ true → n ≡ refusals.no_token → run_book (rules encode_model k) m ≡ stopped x xs n
-      → (t : Bool) (l : Left) → Wrote n x [] d (lent c).answer t l
+  stopped_as : (x : Book) (xs : List DrainedSubmission) (n : Refusal) → is_drain (kind_of k) ≡ true → n ≡ turned.NoToken → run_book (rules encode_model k) m ≡ stopped x xs n
+      → (t : Bool) (l : Left) → Wrote (refusal_number n) x [] d (lent c).answer t l
       → Demand1 (OnBook c) d (counted l.number l.book l.answer (cond (asks_room (kind_of k) && eqb l.number 0) (lent c).count (lent c).count))
   unfolding overlay
-  stopped_as x xs n i j p true l (wrote h) = no_token x (drain_stops c k m e q i (p ∙ ap (λ (z : ℕ). stopped x xs z) j)) j refl refl (stays (asks_room (kind_of k) && eqb n 0))
+  stopped_as x xs n i j p true l (wrote h) = no_token x (drain_stops c k m e q i (p ∙ ap (λ (z : Refusal). stopped x xs z) j)) (ap refusal_number j) refl refl (stays (asks_room (kind_of k) && eqb (refusal_number n) 0))
   stopped_as x xs n i j p false l short = old_bytes (λ z. omega arith) refl refl (stays (asks_room (kind_of k) && eqb 12 0))
 
   outcome_as : (o : Outcome Book Value) → run_book (rules encode_model k) m ≡ o → TurnedAway (is_drain (kind_of k)) (asks_room (kind_of k)) o → Demand1 (OnBook c) d (told (kind_of k) d (lent c) o)
   unfolding settled
   outcome_as (ended x xs v) p t = ended_as x xs v p _ _ (written_as 0 x (value_form xs v) d (lent c).answer)
   outcome_as (undone n) p t =
-      old_bytes (λ z. false≢true (sym (or-false (eqb n 0) _ t).0 ∙ ap (λ (y : ℕ). eqb y 0) z)) refl refl (stays (asks_room (kind_of k) && eqb n 0))
-  outcome_as (stopped x xs n) p t = stopped_as x xs n t.0 t.1 p _ _ (written_as n x [] d (lent c).answer)
+      old_bytes (λ z. false≢true (sym (or-false (eqb (refusal_number n) 0) _ t).0 ∙ ap (λ (y : ℕ). eqb y 0) z)) refl refl (stays (asks_room (kind_of k) && eqb (refusal_number n) 0))
+  outcome_as (stopped x xs n) p t = stopped_as x xs n t.0 t.1 p _ _ (written_as (refusal_number n) x [] d (lent c).answer)
 
 told_as : (d : List ℕ) (c : CCall) (m : Book) → held_in d ≡ Some m → (o : Asked) → call_of c ≡ o → Demand1 (OnBook c) d (told_on m d (lent c) o)
 told_as d c m e bad_list q = old_bytes (λ z. omega arith) refl refl refl

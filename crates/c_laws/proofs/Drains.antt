@@ -1,4 +1,7 @@
 -- Theorems on specs/Drains.antt.
+use Rattle.book.specs.declared.refusal.Refusal.{Refusal}
+use Rattle.book.specs.declared.refusal.Refusal.TheVariants as turned
+use Rattle.book.specs.Refusals.{refusal_number}
 use Rattle.std.specs.Prelude.{ℕ, ◌≡◌, refl, Bool, true, false, cond, length}
 use Rattle.std.proofs.Common.{sym, ◌∙◌, subst, arith}
 use Rattle.std.proofs.Math.Path.{ap}
@@ -45,8 +48,8 @@ module _ (d a : List ℕ) where
   wholly : (o : Outcome Book Value) → TurnedAway true false o → (settled value_form d a o).number ≡ 0 → Wholly d a o
   unfolding settled
   wholly (ended m xs v) t e = let w = wrote_whole m (value_form xs v) _ _ (written_as 0 m (value_form xs v) d a) e in record { room = w.0; bytes = w.1 }
-  wholly (undone n) t e = absurd (false≢true (sym (or-false (eqb n 0) (eqb n refusals.short_buffer) t).0 ∙ ap (λ (x : ℕ). eqb x 0) e))
-  wholly (stopped m xs n) t e = not_stopped n m _ _ (written_as n m [] d a) t.1 e
+  wholly (undone n) t e = absurd (false≢true (sym (or-false (eqb (refusal_number n) 0) (eqb (refusal_number n) refusals.short_buffer) t).0 ∙ ap (λ (x : ℕ). eqb x 0) e))
+  wholly (stopped m xs n) t e = not_stopped (refusal_number n) m _ _ (written_as (refusal_number n) m [] d a) (ap refusal_number t.1) e
 
 drain_done : {m : Book} {d a : List ℕ} {r : Returned} → Good m d → Did d (CCall.Drain a) r → r.number ≡ 0 → DrainDone m d a r
 drain_done {m} {d} {a} {r} g x e =

@@ -1,4 +1,7 @@
 -- Theorems on specs/Sized.antt.
+use Rattle.book.specs.declared.refusal.Refusal.{Refusal}
+use Rattle.book.specs.declared.refusal.Refusal.TheVariants as turned
+use Rattle.book.specs.Refusals.{refusal_number}
 use Rattle.std.specs.Prelude.{ℕ, ◌≤◌, ◌≡◌, Bool, true, false, ◌&&◌, length}
 use Rattle.std.proofs.Common.{zero-le, sym, ◌∙◌, subst}
 use Rattle.std.proofs.Math.Path.{refl, ap}
@@ -106,7 +109,7 @@ module _ (m : Book) (d : List ℕ) (h : 57702 ≤ length d) where
   unfolding settled
   number_is a (ended x xs v) t f = wrote_number 0 x (value_form xs v) a _ _ (written_as 0 x (value_form xs v) d a) (room_is a (ended x xs v) t f)
   number_is a (undone n) t f = refl
-  number_is a (stopped x xs n) t f = wrote_number n x [] a _ _ (written_as n x [] d a) (rw (roomy x t (length d) h, le-leb 0 (length a) zero-le) refl)
+  number_is a (stopped x xs n) t f = wrote_number (refusal_number n) x [] a _ _ (written_as (refusal_number n) x [] d a) (rw (roomy x t (length d) h, le-leb 0 (length a) zero-le) refl)
 
   more_room : {A : Type 0} (form : Form A) (j k : ℕ) (o : Outcome Book A) → j ≤ k → AnswerFits form j o → AnswerFits form k o
   more_room form j k (ended x xs v) q f = omega (arith, f)

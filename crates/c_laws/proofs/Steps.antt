@@ -1,4 +1,7 @@
 -- Theorems on specs/Steps.antt.
+use Rattle.book.specs.declared.refusal.Refusal.{Refusal}
+use Rattle.book.specs.declared.refusal.Refusal.TheVariants as turned
+use Rattle.book.specs.Refusals.{refusal_number}
 use Rattle.std.specs.Prelude.{ℕ, ◌≡◌, Bool, cond, ◌&&◌, ◌⊎◌, leb, length}
 use Rattle.std.proofs.Common.{zero-le, sym, ap, ◌∙◌, inl, inr, le-leb}
 use Rattle.std.proofs.Math.Path.{refl, subst}
@@ -52,8 +55,8 @@ module _ (m : Book) (d : List ℕ) (h : Holds m d) where
   next_settled a (ended x xs v) = next_written 0 x (value_form xs v) a _ _ (written_as 0 x (value_form xs v) d a)
   next_settled a (undone n) = same
   next_settled a (stopped x xs n) =
-      subst (λ (t : Bool). Next (cond t x m) d (written n x [] d a).book) (and-true (has_room x (length d)) (leb 0 (length a)) (le-leb 0 (length a) zero-le))
-      (next_written n x [] a _ _ (written_as n x [] d a))
+      subst (λ (t : Bool). Next (cond t x m) d (written (refusal_number n) x [] d a).book) (and-true (has_room x (length d)) (leb 0 (length a)) (le-leb 0 (length a) zero-le))
+      (next_written (refusal_number n) x [] a _ _ (written_as (refusal_number n) x [] d a))
 
   heard_book : (t : Bool) (c : Call) → book_after encode_model (cond t (c ∷ []) []) m ≡ cond t (left m (run_book (rules encode_model c) m)) m
   unfolding book_after call_book

@@ -1,4 +1,7 @@
 -- Theorems on specs/Told.antt.
+use Rattle.book.specs.declared.refusal.Refusal.{Refusal}
+use Rattle.book.specs.declared.refusal.Refusal.TheVariants as turned
+use Rattle.book.specs.Refusals.{refusal_number}
 use Rattle.std.specs.Prelude.{ℕ, ◌≡◌, Bool, true, false, cond, ◌&&◌, List, [], length, eqb, leb}
 use Rattle.std.proofs.Math.Path.{refl, ap}
 use Rattle.std.proofs.Common.{sym, ◌∙◌, subst, leb-true}
@@ -53,8 +56,8 @@ unasked_behind ok (Some v) g h = h v
 
 abbrev rule_of : Asked → Rule Value
 rule_of (asks c) = rules encode_model c
-rule_of bad_list = undo refusals.bad_list
-rule_of bad_value = undo refusals.bad_value
+rule_of bad_list = undo turned.BadList
+rule_of bad_value = undo turned.BadValue
 
 module _ {B : Type 0} (u : B → Value) where
   given_on : {A : Type 0} (x : Option A) (f : A → Rule B) (g : A → Asked) → ((v : A) → u <$> f v ≡ rule_of (g v)) → u <$> given x f ≡ rule_of (value x g)
@@ -86,8 +89,8 @@ returned l k = record { number = l.number; book = l.book; answer = l.answer; cou
 boundary_told : (d : List ℕ) (l : Lent) (m : Book) (o : Asked) → Unasked o → held_in d ≡ Some m
     → returned (boundary value_form (rule_of o) d l.answer) l.count ≡ told_on m d l o
 unfolding boundary settled run
-boundary_told d l m bad_list h e = ap (λ (x : Option Book). returned (ruled value_form (undo refusals.bad_list) d l.answer x) l.count) e
-boundary_told d l m bad_value h e = ap (λ (x : Option Book). returned (ruled value_form (undo refusals.bad_value) d l.answer x) l.count) e
+boundary_told d l m bad_list h e = ap (λ (x : Option Book). returned (ruled value_form (undo turned.BadList) d l.answer x) l.count) e
+boundary_told d l m bad_value h e = ap (λ (x : Option Book). returned (ruled value_form (undo turned.BadValue) d l.answer x) l.count) e
 boundary_told d l m (asks c) h e =
     let o = run_book (rules encode_model c) m in
     ap (λ (x : Option Book). returned (ruled value_form (rules encode_model c) d l.answer x) l.count) e
@@ -121,7 +124,7 @@ quiet_count : (m : Book) (d a : List ℕ) (k : ℕ) → Holds m d → {o : Outco
     → length_by bytes_form k o ≡ cond (eqb (settled bytes_form d a o).number 0) (length_by bytes_form k o) k
 unfolding settled
 quiet_count m d a k h (quietTold s p) = ap (λ (x : Left). cond (eqb x.number 0) (length s) k) (sym (written_fits 0 m s d a h.room p))
-quiet_count m d a k h (turned n) = same_cond (eqb n 0) k
+quiet_count m d a k h (turned n) = same_cond (eqb (refusal_number n) 0) k
 
 -- the value of such a call is its bytes
 length_written : (k : ℕ) (o : Outcome Book (List ℕ)) → length_by value_form k (mapped written o) ≡ length_by bytes_form k o
@@ -181,7 +184,7 @@ write_told d a k m h = go (leb (length (encode_model m)) (length a)) refl
 
     go : (t : Bool) → leb (length s) (length a) ≡ t
         → record { number = (counted t).number; book = d; answer = (counted t).archive; count = (counted t).count }
-        ≡ told (kind_of (Call.WriteArchive (length a))) d l (run_book (written <$> cond t (done s) (undo refusals.short_buffer)) m)
+        ≡ told (kind_of (Call.WriteArchive (length a))) d l (run_book (written <$> cond t (done s) (undo turned.ShortBuffer)) m)
     go true e =
         let x = written_fits 0 m s d a h.room (leb-true (length s) (length a) e) in
         λ i. record {

@@ -1,6 +1,9 @@
 -- Demand 1 for all 33 functions of the C library, on any input: with 0 the lent memory holds just the new book and the answer, and the old
 -- bytes behind them; with any other number its old bytes, but that a drain out of tokens (11) leaves the book as far as it came, and
 -- reading what is no archive (13) sets the place. A call that only looks leaves the book's bytes with every number.
+use Rattle.book.specs.declared.refusal.Refusal.{Refusal}
+use Rattle.book.specs.declared.refusal.Refusal.TheVariants as turned
+use Rattle.book.specs.Refusals.{refusal_number}
 use Rattle.std.specs.Prelude.{ℕ, ◌≤◌, ◌≡◌, cond, length}
 use Rattle.std.proofs.Math.Path.{refl}
 use Rattle.std.proofs.Math.Bool.{true}
@@ -67,7 +70,7 @@ pub data Hashes : Function → List ℕ → Type 0 where
 -- the drain that runs out of tokens, and the book that it leaves
 pub data Stops (d : List ℕ) : Function → Book → Type 0 where
   drain_stops : (c : CCall) (k : Call) (m : Book) {m' : Book} {xs : List DrainedSubmission}
-      → held_in d ≡ Some m → call_of c ≡ asks k → is_drain (kind_of k) ≡ true → run_book (rules encode_model k) m ≡ stopped m' xs refusals.no_token → Stops d (OnBook c) m'
+      → held_in d ≡ Some m → call_of c ≡ asks k → is_drain (kind_of k) ≡ true → run_book (rules encode_model k) m ≡ stopped m' xs turned.NoToken → Stops d (OnBook c) m'
 
 -- what a function leaves in the lent memory
 pub data Demand1 (f : Function) (d : List ℕ) (r : Returned) : Type 0 where

@@ -1,4 +1,7 @@
 -- What the rules say that a call of the library returns and leaves, and that every function does just that.
+use Rattle.book.specs.declared.refusal.Refusal.{Refusal}
+use Rattle.book.specs.declared.refusal.Refusal.TheVariants as turned
+use Rattle.book.specs.Refusals.{refusal_number}
 use Rattle.std.specs.Prelude.{ℕ, ◌≡◌, Bool, true, false, cond, ◌&&◌, List, [], eqb}
 use Rattle.std.proofs.Math.Path.{refl}
 use Rattle.std.proofs.Common.{sym}
@@ -58,7 +61,7 @@ no_answer : {A : Type 0} (d : List ℕ) (o : Outcome Book A) → (settled no_for
 unfolding settled
 no_answer d (ended m xs v) = no_answer_written 0 m d _ _ (written_as 0 m [] d [])
 no_answer d (undone n) = refl
-no_answer d (stopped m xs n) = no_answer_written n m d _ _ (written_as n m [] d [])
+no_answer d (stopped m xs n) = no_answer_written (refusal_number n) m d _ _ (written_as (refusal_number n) m [] d [])
 
 boundary_no_answer : {A : Type 0} (d : List ℕ) (r : Rule A) → (boundary no_form r d []).answer ≡ []
 unfolding boundary

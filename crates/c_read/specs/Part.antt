@@ -1,6 +1,6 @@
--- Where the archive of the held book stands in lent bytes: behind its length; where no book is held, from 0 up to 0.
+-- The archive of the held book within lent bytes: behind its length; no bytes where no book is held.
 use Rattle.std.specs.Prelude.{ℕ, suc, ◌+◌, ◌-◌, ◌≤◌, ◌<◌, ◌≡◌, refl, Bool, true, not, List, [], ◌∷◌, leb, length, get_or, take, drop}
-use Rattle.std.proofs.Common.{zero-le, arith, Fits, w8}
+use Rattle.std.proofs.Common.{arith, Fits, w8}
 use Rattle.std.specs.Prelude.{None}
 use Rattle.codec_forms.specs.Wire.{number}
 use Rattle.codec_cursor.specs.Cursor.{far, Reads}
@@ -15,26 +15,18 @@ pub every_byte : (s : List ℕ) → ((i : ℕ) → Fits w8 (get_or s i 0)) → E
 every_byte [] h = tt
 every_byte (x ∷ s) h = let b : Fits w8 x = h 0 in (omega (arith, b), every_byte s (λ i. h (suc i)))
 
-pub data PartAnswer (d : List ℕ) : ℕ → ℕ → Type 0 where
-  no_part : held_in d ≡ None → PartAnswer d 0 0
-  part : (v a : ℕ) → Reads (number 8) d 0 v a → a < far → a + v ≤ length d → PartAnswer d a (a + v)
+pub data PartAnswer (d : List ℕ) : List ℕ → Type 0 where
+  no_part : held_in d ≡ None → PartAnswer d []
+  part : (v a : ℕ) → Reads (number 8) d 0 v a → a < far → a + v ≤ length d → PartAnswer d (take (a + v - a) (drop a d))
 
 module _ (d : List ℕ) where
-  pub part_short : {v a : ℕ} → Reads (number 8) d 0 v a → far ≤ a → PartAnswer d 0 0
+  pub part_short : {v a : ℕ} → Reads (number 8) d 0 v a → far ≤ a → PartAnswer d []
   part_short h q = no_part ((held_short d (archive_answer (broken 0)) h q refl).absent refl)
 
-  pub part_cut : {v a : ℕ} {room : Bool} → Reads (number 8) d 0 v a → a < far → room ≡ leb (a + v) (length d) → not room ≡ true → PartAnswer d 0 0
+  pub part_cut : {v a : ℕ} {room : Bool} → Reads (number 8) d 0 v a → a < far → room ≡ leb (a + v) (length d) → not room ≡ true → PartAnswer d []
   part_cut h q m n = no_part ((held_cut d (archive_answer (broken 0)) h q m n refl).absent refl)
 
-  pub part_rises : {s e : ℕ} → PartAnswer d s e → s ≤ e
-  part_rises (no_part h) = zero-le
-  part_rises (part v a h q m) = omega arith
-
-  pub part_inside : {s e : ℕ} → PartAnswer d s e → e ≤ length d
-  part_inside (no_part h) = zero-le
-  part_inside (part v a h q m) = m
-
-  pub held_part : {s e : ℕ} (r : ReadArchive) → Every U8 d → PartAnswer d s e → r ≡ archive_answer (read_archive (take (e - s) (drop s d))) → HeldAnswer d r
+  pub held_part : {s : List ℕ} (r : ReadArchive) → Every U8 d → PartAnswer d s → r ≡ archive_answer (read_archive s) → HeldAnswer d r
   held_part r t (no_part h) e = record {
     absent = λ _. h;
     present = λ p. absurd (let f = nothing_held e in let z : ◌≡◌ {A = ℕ} 0 1 = cc in omega arith);

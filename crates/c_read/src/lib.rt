@@ -8,35 +8,25 @@ use archive_read::{ReadArchive, read_archive};
 use codec_bytes::read::has;
 use codec_cursor::{FAR, read_number};
 
-// Where the archive stands in the lent bytes.
-#[derive(Clone, Copy)]
-struct Part {
-    start: usize,
-    stop: usize,
-}
-
-fn part_of(d: &[u8]) -> Part
-    ensures { PartAnswer d.now result.start result.stop }
+// The archive's bytes within the lent ones; none where no book is held.
+fn part_of(d: &[u8]) -> &[u8]
+    ensures { PartAnswer d.now result.now }
 {
     let mut at: usize = 0;
     let length = read_number(d, &mut at) as usize;
     if FAR <= at {
-        return Part { start: 0, stop: 0 };
+        return &[];
     }
     let room = has(d, at, length);
     if !room {
-        return Part { start: 0, stop: 0 };
+        return &[];
     }
-    Part {
-        start: at,
-        stop: at + length,
-    }
+    &d[at..at + length]
 }
 
 // The reader's own answer is handed on, from one place: a second one, or a struct of its own, would cost every call a copy of the book.
 pub fn held(d: &[u8]) -> ReadArchive
     ensures { HeldAnswer d.now result }
 {
-    let p = part_of(d);
-    read_archive(&d[p.start..p.stop])
+    read_archive(part_of(d))
 }

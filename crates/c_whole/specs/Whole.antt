@@ -1,11 +1,11 @@
 -- Opening a book from an archive, and writing its archive.
-use Rattle.std.specs.Prelude.{ℕ, ◌+◌, ◌≤◌, ◌<◌, ◌≡◌, Bool, true, false, not, List, [], ◌++◌, leb}
+use Rattle.std.specs.Prelude.{ℕ, ◌+◌, ◌≤◌, ◌<◌, ◌≡◌, Bool, List, [], ◌++◌, leb}
 use Rattle.std.proofs.Math.Path.{refl, ap}
 use Rattle.std.proofs.Common.{sym, ◌∙◌, subst, arith, length-append, le-leb}
 use Rattle.std.proofs.Math.Bool.{cond}
-use Rattle.std.specs.Prelude.{Option, None, Some}
+use Rattle.std.specs.Prelude.{Option, None, Some, Result, Ok, Err}
 use Rattle.std.proofs.Math.ListN.{length}
-use Rattle.std.proofs.lemmas.Bool.{lt-leb, not-true, not-false}
+use Rattle.std.proofs.lemmas.Bool.{lt-leb, false≢true}
 use Rattle.codec_forms.specs.Wire.{be, overlay}
 use Rattle.codec_forms.specs.Number.{be_length}
 use Rattle.codec_forms.specs.Puts.{Room, Puts, Size, room_first, room_next, puts_join, puts_as, puts_overlay}
@@ -50,26 +50,26 @@ unfolding read_into
 into_book d p {b} {x} {n} {d'} q g = subst (λ (y : ArchiveRead). GivesPlace (read_into y d p) n d' p) (sym q) (record { number = g.number; book = g.book; place = refl })
 
 -- where the walk agrees with the reader
-walk_broken : (d : List ℕ) (p : ℕ) (w : Walk) → not w.ok ≡ true → (x : ArchiveRead) → Agrees w (archive_answer x) → GivesPlace (read_into x d p) refusals.no_archive d w.place
+walk_broken : (d : List ℕ) (p at : ℕ) (x : ArchiveRead) → Agrees (Err at) (archive_answer x) → GivesPlace (read_into x d p) refusals.no_archive d at
 unfolding read_into
-walk_broken d p w h (book b) a = absurd (let q = a.ok in let f = not-true w.ok h in let z : ◌≡◌ {A = ℕ} 0 1 = cc in omega arith)
-walk_broken d p w h (broken k) a = record { number = refl; book = refl; place = a.place }
+walk_broken d p at (book b) a = absurd (false≢true a.ok)
+walk_broken d p at (broken k) a = record { number = refl; book = refl; place = a.place }
 
-walk_book : (w : Walk) → not w.ok ≡ false → (x : ArchiveRead) → Agrees w (archive_answer x) → (b : BookData) × (x ≡ book b)
-walk_book w h (book b) a = (b, refl)
-walk_book w h (broken k) a = absurd (let q = a.ok in let f = not-false w.ok h in let z : ◌≡◌ {A = ℕ} 0 1 = cc in omega arith)
+walk_book : (w : Walk) (x : ArchiveRead) → Agrees (Ok w) (archive_answer x) → (b : BookData) × (x ≡ book b)
+walk_book w (book b) a = (b, refl)
+walk_book w (broken k) a = absurd (false≢true (sym a.ok))
 
-module _ (s d : List ℕ) (p : ℕ) {w : Walk} (e : w ≡ walked (parse_whole s 0)) where
-  agrees : Agrees w (archive_answer (read_archive s))
-  agrees = subst (λ (v : Walk). Agrees v (archive_answer (read_archive s))) (sym e) (walk_agrees s)
+module _ (s d : List ℕ) (p : ℕ) {r : Result Walk ℕ} (e : r ≡ walked (parse_whole s 0)) where
+  agrees : {x : Result Walk ℕ} → r ≡ x → Agrees x (archive_answer (read_archive s))
+  agrees q = subst (λ (v : Result Walk ℕ). Agrees v (archive_answer (read_archive s))) (sym e ∙ q) (walk_agrees s)
 
-  pub read_broken : not w.ok ≡ true → GivesPlace (read_into (read_archive s) d p) refusals.no_archive d w.place
-  read_broken h = walk_broken d p w h (read_archive s) agrees
+  pub read_broken : {at : ℕ} → r ≡ Err at → GivesPlace (read_into (read_archive s) d p) refusals.no_archive d at
+  read_broken {at} h = walk_broken d p at (read_archive s) (agrees h)
 
   -- an archive is what its book is written as
-  module _ (t : Every U8 s) (h : not w.ok ≡ false) where
+  module _ (t : Every U8 s) {w : Walk} (h : r ≡ Ok w) where
     is_book : (b : BookData) × (read_archive s ≡ book b)
-    is_book = walk_book w h (read_archive s) agrees
+    is_book = walk_book w (read_archive s) (agrees h)
 
     same_bytes : encode_book is_book.0 ≡ s
     same_bytes = (accepted s is_book.0 t is_book.1).bytes

@@ -11,7 +11,7 @@ ghost use Rattle.c_whole.specs.Whole.{GivesPlace, read_into, GivesLength, write_
 use archive_size::size_archive;
 use archive_walk::walk_archive;
 use archive_write::write_book;
-use book::refusals::{NO_ARCHIVE, NO_BOOK, SHORT_BUFFER};
+use book::refusal::Refusal;
 use book::{SubmissionId, Token};
 use c_read::held;
 use c_write::put_back;
@@ -19,6 +19,7 @@ use call_open::open;
 use codec_forms::write::{put_bytes, put_number};
 
 // An empty book with these two numbers.
+// Each function is one of the C interface: its parameters, and a refusal as a number, are what that has.
 pub fn open_into(book: &mut [u8], next_token: u64, next_id: u64) -> u8
     ensures { GivesBook (written 0 (opened next_token next_id) [] book.old []) result book.new }
 {
@@ -31,19 +32,21 @@ pub fn open_into(book: &mut [u8], next_token: u64, next_id: u64) -> u8
 pub fn read_into(book: &mut [u8], archive: &[u8], place: &mut u64) -> u8
     ensures { GivesPlace (read_into (read_archive archive.now) book.old place.old) result book.new place.new }
 {
-    let w = walk_archive(archive);
-    let ok = w.ok;
-    if !ok {
-        *place = w.place as u64;
-        return NO_ARCHIVE;
+    match walk_archive(archive) {
+        Err(at) => {
+            *place = at as u64;
+            Refusal::NoArchive as u8
+        }
+        Ok(_) => {
+            let n = archive.len();
+            if book.len() < 8 + n {
+                return Refusal::ShortBuffer as u8;
+            }
+            let at = put_number(&mut *book, 0, n as u64);
+            put_bytes(book, at, archive);
+            0
+        }
     }
-    let n = archive.len();
-    if book.len() < 8 + n {
-        return SHORT_BUFFER;
-    }
-    let at = put_number(&mut *book, 0, n as u64);
-    put_bytes(book, at, archive);
-    0
 }
 
 // The archive of the book, and its length.
@@ -53,11 +56,11 @@ pub fn write_from(book: &[u8], archive: &mut [u8], length: &mut u64) -> u8
     let h = held(book);
     let ok = h.ok;
     if !ok {
-        return NO_BOOK;
+        return Refusal::NoBook as u8;
     }
     let n = size_archive(h.book);
     if archive.len() < n {
-        return SHORT_BUFFER;
+        return Refusal::ShortBuffer as u8;
     }
     write_book(archive, h.book);
     *length = n as u64;

@@ -1,45 +1,41 @@
 // `abandon_attempt`: the submission of a live attempt is removed and retired.
 #![tactic(auto)]
 
-ghost use Rattle.std.specs.Prelude.{◌<◌, true, ◌≡◌, length};
+ghost use Rattle.std.specs.Prelude.{◌<◌, ◌≡◌, length};
 ghost use Rattle.book.specs.Model.{view};
-ghost use Rattle.book.specs.Sound.{soundb};
 ghost use Rattle.rules.specs.Steps.{run_book};
 ghost use Rattle.rules.specs.Calls.AbandonAttempt.{abandon_live, abandon_attempt};
-ghost use Rattle.part_replies.specs.Reply.{status_reply};
+ghost use Rattle.part_replies.specs.Reply.{reply};
 ghost use Rattle.part_attempt_answers.specs.Live.{at};
 
-use book::refusals::FULL;
+use book::sound::SoundBook;
 use book::{BookData, Token};
 use book_answers::SubmissionAttemptStatus;
-use part_attempt_answers::{live_place, status_done, status_inactive, status_refused};
+use part_attempt_answers::{inactive, live_place};
 use part_change::{remove_submitted, retire};
 use part_lookup::{find_attempt, submitted_at};
-use part_replies::StatusReply;
+use part_replies::{Reply, done, refused};
 
-pub fn abandon_attempt_sound(b: BookData, t: Token) -> StatusReply
-    requires { soundb b ≡ true }
-    ensures { result ≡ status_reply b (run_book (abandon_attempt t.0) (view b)) }
+// The look-up of the token is that of the other attempt calls: a shared one would be told the rest of the call, with its contract.
+pub fn abandon_attempt_sound(b: SoundBook, t: Token) -> Reply<SubmissionAttemptStatus, BookData>
+    ensures { result ≡ reply b.parts (run_book (abandon_attempt t.0) (view b.parts)) }
 {
-    let place = find_attempt(&b, t);
-    let live = live_place(place);
-    let Some(k) = live else {
-        return status_inactive(b, place);
+    let place = find_attempt(&b.parts, t);
+    let Some(k) = live_place(place) else {
+        return inactive(b, place, SubmissionAttemptStatus::Stale);
     };
     abandon_live(b, k)
 }
 
-fn abandon_live(b: BookData, k: usize) -> StatusReply
-    requires { (soundb b ≡ true) × (k < length (view b).submitted) }
-    ensures { result ≡ status_reply b (run_book (abandon_live (at (view b) k)) (view b)) }
+// A place is one of this book only: a struct of both would lend or copy the book.
+fn abandon_live(b: SoundBook, k: usize) -> Reply<SubmissionAttemptStatus, BookData>
+    requires { k < length (view b.parts).submitted }
+    ensures { result ≡ reply b.parts (run_book (abandon_live (at (view b.parts) k)) (view b.parts)) }
 {
-    let s = submitted_at(&b, k);
-    let id = s.entry.id;
-    let rest = remove_submitted(b, id);
-    let retired = retire(rest, id);
-    if retired.full {
-        return status_refused(b, FULL);
+    let id = submitted_at(&b.parts, k).entry.id;
+    let rest = remove_submitted(b.parts, id);
+    match retire(rest, id) {
+        Ok(left) => done(left, SubmissionAttemptStatus::Applied),
+        Err(why) => refused(b.parts, why),
     }
-    let left = retired.book;
-    status_done(left, SubmissionAttemptStatus::Applied)
 }

@@ -28,7 +28,7 @@ use Rattle.rules.specs.Calls.AbsentOutputsForIds.{absent_outputs, absent_outputs
 use Rattle.part_coin_lists.specs.declared.Placed.{Placed}
 use Rattle.part_coin_lists.specs.Writing.{PutCoins, Listed, put_none, put_join, encode_coins_lem}
 use Rattle.part_written_answers.specs.Answers.{let_in, turned_away_lem}
-use Rattle.book.specs.Refusals as refusals
+use Rattle.book.specs.declared.refusal.Refusal.TheVariants as refusals
 
 -- the absent outputs of a submission, if it is listed
 abbrev pub absent_of : List ℕ → List (List ℕ) → SubmittedTx → List (List ℕ)
@@ -113,12 +113,12 @@ short_of p = omega (arith, p.few, p.listed.count, p.listed.put.short)
 
 -- ---- the answers
 module _ (is absent : List ℕ) (room : ℕ) (m : Book) where
-  pub many_ids : 64 < length is → run_book (absent_outputs_for_ids is absent room) m ≡ undone refusals.bad_list
+  pub many_ids : 64 < length is → run_book (absent_outputs_for_ids is absent room) m ≡ undone refusals.BadList
   unfolding absent_outputs_for_ids
   many_ids h = turned_away_lem (λ b. writing room (encode_coins (absent_of_all is (coins_in absent) b.submitted))) m (ap (λ (t : Bool). t && coin_listb absent) (lt-leb (length is) 64 h))
 
   module _ (h : length is ≤ 64) where
-    pub outputs_bad : coin_listb absent ≡ false → run_book (absent_outputs_for_ids is absent room) m ≡ undone refusals.bad_list
+    pub outputs_bad : coin_listb absent ≡ false → run_book (absent_outputs_for_ids is absent room) m ≡ undone refusals.BadList
     unfolding absent_outputs_for_ids
     outputs_bad e = turned_away_lem (λ b. writing room (encode_coins (absent_of_all is (coins_in absent) b.submitted))) m (ap (λ (t : Bool). t && coin_listb absent) (le-leb (length is) 64 h) ∙ e)
 

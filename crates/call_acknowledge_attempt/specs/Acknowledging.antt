@@ -16,15 +16,15 @@ use Rattle.rules.specs.Steps.{with_entry, with_slots, note_book, on_book, run_bo
 use Rattle.rules.specs.Steps.Entry.{revised}
 use Rattle.rules.specs.Steps.Slots.{slots_aside, resolved}
 use Rattle.rules.specs.Calls.AcknowledgeAttempt.{acknowledge_live}
-use Rattle.part_replies.specs.Reply.{status_reply}
-use Rattle.part_replies.specs.declared.CallAnswer.TheVariants.{Done}
+use Rattle.part_replies.specs.Reply.{reply}
+use Rattle.std.specs.Prelude.{Ok}
 use Rattle.part_lookup.specs.Normal.{view_of}
 use Rattle.part_change.specs.Changes.{stored_at}
 use Rattle.part_sound_laws.specs.Holds.{holds_sound, holds_lists}
-use Rattle.part_attempt_answers.specs.Answers.{status_ended, of_read}
+use Rattle.part_attempt_answers.specs.Answers.{done_reply, of_read}
 use Rattle.part_attempt_answers.specs.Live.{at}
 use Rattle.part_attempt_answers.specs.Stored.{revise_mark}
-use Rattle.book.specs.Refusals as refusals
+use Rattle.book.specs.declared.refusal.Refusal.TheVariants as refusals
 
 -- the attempt of a submission
 abbrev finalised : SubmittedTx → Bool
@@ -45,17 +45,17 @@ acknowledging s = do
   done Applied
 
 module _ (s : SubmittedTx) (m : Book) where
-  unfinalised_run : finalised s ≡ false → undone refusals.not_finalized ≡ run_book (acknowledge_live s) m
+  unfinalised_run : finalised s ≡ false → undone refusals.NotFinalized ≡ run_book (acknowledge_live s) m
   unfolding acknowledge_live run
-  unfinalised_run e = sym (ap (λ (t : Bool). run_book (cond (not t) (undo refusals.not_finalized) (cond (eqs (current_fingerprint s.entry) (final s)) (acknowledging s) (undo refusals.stale_variant))) m) e)
+  unfinalised_run e = sym (ap (λ (t : Bool). run_book (cond (not t) (undo refusals.NotFinalized) (cond (eqs (current_fingerprint s.entry) (final s)) (acknowledging s) (undo refusals.StaleVariant))) m) e)
 
-  tested : {t : Bool} → finalised s ≡ true → eqs (current_fingerprint s.entry) (final s) ≡ t → run_book (acknowledge_live s) m ≡ run_book (cond t (acknowledging s) (undo refusals.stale_variant)) m
+  tested : {t : Bool} → finalised s ≡ true → eqs (current_fingerprint s.entry) (final s) ≡ t → run_book (acknowledge_live s) m ≡ run_book (cond t (acknowledging s) (undo refusals.StaleVariant)) m
   unfolding acknowledge_live
   tested e q =
-      ap (λ (x : Bool). run_book (cond (not x) (undo refusals.not_finalized) (cond (eqs (current_fingerprint s.entry) (final s)) (acknowledging s) (undo refusals.stale_variant))) m) e
-      ∙ ap (λ (x : Bool). run_book (cond x (acknowledging s) (undo refusals.stale_variant)) m) q
+      ap (λ (x : Bool). run_book (cond (not x) (undo refusals.NotFinalized) (cond (eqs (current_fingerprint s.entry) (final s)) (acknowledging s) (undo refusals.StaleVariant))) m) e
+      ∙ ap (λ (x : Bool). run_book (cond x (acknowledging s) (undo refusals.StaleVariant)) m) q
 
-  other_run : finalised s ≡ true → eqs (current_fingerprint s.entry) (final s) ≡ false → undone refusals.stale_variant ≡ run_book (acknowledge_live s) m
+  other_run : finalised s ≡ true → eqs (current_fingerprint s.entry) (final s) ≡ false → undone refusals.StaleVariant ≡ run_book (acknowledge_live s) m
   unfolding run
   other_run e q = sym (tested e q)
 
@@ -68,12 +68,12 @@ module _ (b : BookData) (sound : soundb b ≡ true) (k : ℕ) (within : k < leng
       (sym (revise_mark (view b) k (holds_lists (holds_sound b sound)).ids within (acknowledge (final (at (view b) k))) slots_aside))
 
   module _ {s : SubmittedTx} (read : s ≡ at (view b) k) where
-    pub acknowledge_unfinalised : finalised s ≡ false → status_reply b (undone refusals.not_finalized) ≡ status_reply b (run_book (acknowledge_live (at (view b) k)) (view b))
-    acknowledge_unfinalised e = ap (status_reply b) (of_read acknowledge_live (view b) read (unfinalised_run s (view b) e))
+    pub acknowledge_unfinalised : finalised s ≡ false → reply b (undone refusals.NotFinalized) ≡ reply b (run_book (acknowledge_live (at (view b) k)) (view b))
+    acknowledge_unfinalised e = ap (reply b) (of_read acknowledge_live (view b) read (unfinalised_run s (view b) e))
 
     pub acknowledge_other : finalised s ≡ true → eqs (current_fingerprint s.entry) (final s) ≡ false
-        → status_reply b (undone refusals.stale_variant) ≡ status_reply b (run_book (acknowledge_live (at (view b) k)) (view b))
-    acknowledge_other e q = ap (status_reply b) (of_read acknowledge_live (view b) read (other_run s (view b) e q))
+        → reply b (undone refusals.StaleVariant) ≡ reply b (run_book (acknowledge_live (at (view b) k)) (view b))
+    acknowledge_other e q = ap (reply b) (of_read acknowledge_live (view b) read (other_run s (view b) e q))
 
     acknowledge_run : finalised s ≡ true → eqs (current_fingerprint s.entry) (final s) ≡ true
         → ended (note_book (unqueue (id_of s)) (stored_at k (acknowledged_aside (final s) s) (view b))) [] Applied ≡ run_book (acknowledge_live (at (view b) k)) (view b)
@@ -85,9 +85,9 @@ module _ (b : BookData) (sound : soundb b ≡ true) (k : ℕ) (within : k < leng
     pub acknowledge_answer : finalised s ≡ true → eqs (current_fingerprint s.entry) (final s) ≡ true
         → {f : List ℕ} {x : SubmittedTx} {stored out : BookData} → f ≡ final s → x ≡ acknowledged_aside f s → stored ≡ back (stored_at k x (view b))
         → out ≡ back (note_book (unqueue (id_of s)) (view stored))
-        → record { answer = Done; status = Applied; book = out } ≡ status_reply b (run_book (acknowledge_live (at (view b) k)) (view b))
+        → record { answer = Ok Applied; book = out } ≡ reply b (run_book (acknowledge_live (at (view b) k)) (view b))
     acknowledge_answer e q {f} {x} f-is x-is stored_is out-is =
-        status_ended b Applied
+        done_reply b Applied
         (out-is
         ∙ ap (λ (n : Book). back (note_book (unqueue (id_of s)) n)) (view_of (stored_at k x (view b)) stored_is)
         ∙ ap (λ (y : SubmittedTx). back (note_book (unqueue (id_of s)) (stored_at k y (view b)))) (x-is ∙ ap (λ (g : List ℕ). acknowledged_aside g s) f-is))

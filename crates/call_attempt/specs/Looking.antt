@@ -12,8 +12,8 @@ use Rattle.rules.specs.Calls.Attempt.{attempt, attempt_by}
 use Rattle.rules.specs.Rule.{Outcome, ended, run}
 use Rattle.rules.specs.Steps.{run_book}
 use Rattle.part_replies.specs.Reply.{attempt_in, attempt_reply}
-use Rattle.part_replies.specs.declared.AttemptReply.{AttemptReply}
-use Rattle.part_replies.specs.declared.CallAnswer.TheVariants.{Done}
+use Rattle.part_replies.specs.declared.Reply.{Reply}
+use Rattle.std.specs.Prelude.{Ok}
 use Rattle.part_lookup.specs.Normal.{Normal}
 use Rattle.part_lookup.specs.declared.AttemptPlace.{AttemptPlace}
 use Rattle.part_lookup.specs.declared.AttemptPlace.TheVariants.{Live, SetAside, Gone, NeverIssued}
@@ -44,8 +44,8 @@ module _ (t : ℕ) (m : Book) {p : AttemptPlace} (here : p ≡ attempt_place t m
 
 -- an attempt, or none, of a book that stays
 pub attempt_ended : (b : BookData) → Normal b → {a : OptionalAttempt} (v : Option DeliveryAttempt) {o : Outcome Book (Option DeliveryAttempt)} → a ≡ attempt_in v
-    → ended (view b) [] v ≡ o → record { answer = Done; attempt = a; book = b } ≡ attempt_reply b o
+    → ended (view b) [] v ≡ o → record { answer = Ok a; book = b } ≡ attempt_reply b o
 attempt_ended b n v e q =
-    ap {B = AttemptReply} (λ (x : OptionalAttempt). record { answer = Done; attempt = x; book = b }) e
-    ∙ ap {B = AttemptReply} (λ (x : BookData). record { answer = Done; attempt = attempt_in v; book = x }) n.held
+    ap {B = Reply OptionalAttempt BookData} (λ (x : OptionalAttempt). record { answer = Ok x; book = b }) e
+    ∙ ap {B = Reply OptionalAttempt BookData} (λ (x : BookData). record { answer = Ok (attempt_in v); book = x }) n.held
     ∙ ap (attempt_reply b) q

@@ -13,9 +13,9 @@ use Rattle.rules.specs.Rule.{done, note, begin_epoch, act, run}
 use Rattle.rules.specs.Steps.{on_book, run_book, note_book}
 use Rattle.rules.specs.Steps.Notes.{noted}
 use Rattle.rules.specs.Calls.Replay.{is_at, begin_replay}
-use Rattle.part_replies.specs.Reply.{flag_reply}
-use Rattle.part_replies.specs.declared.CallAnswer.TheVariants.{Done}
-use Rattle.part_replies.specs.declared.FlagReply.{FlagReply}
+use Rattle.part_replies.specs.Reply.{reply}
+use Rattle.std.specs.Prelude.{Ok}
+use Rattle.part_replies.specs.declared.Reply.{Reply}
 use Rattle.part_replay.specs.Epoch as Epoch
 use Rattle.part_replay.specs.Epoch.{epoch, begun, replayed_of}
 use Rattle.part_replay.specs.EpochLaws.{normal_epoch}
@@ -30,8 +30,8 @@ module _ (b : BookData) where
   by h t = cond t (record { started = false; epoch = b.replay_epoch }) (record { started = true; epoch = epoch (Some h) [] })
 
   -- the reply with the epoch put into the book
-  abbrev reply_of : Begun → FlagReply
-  reply_of y = record { answer = Done; flag = y.started; book = back (with_epoch_of y.epoch.rollback_height (replayed_of y.epoch) (view b)) }
+  abbrev reply_of : Begun → Reply Bool BookData
+  reply_of y = record { answer = Ok y.started; book = back (with_epoch_of y.epoch.rollback_height (replayed_of y.epoch) (view b)) }
 
   module _ (h : Height) {x : Begun} (e : x ≡ begun b.replay_epoch h) where
     pub begun_normal : soundb b ≡ true → Epoch.Normal x.epoch
@@ -43,12 +43,12 @@ module _ (b : BookData) where
         go false = normal_epoch (Some h) [] (omega arith)
 
     pub begin_is : {out : BookData} → out ≡ back (with_epoch_of x.epoch.rollback_height (replayed_of x.epoch) (view b))
-        → record { answer = Done; flag = x.started; book = out } ≡ flag_reply b (run_book (begin_replay h) (view b))
+        → record { answer = Ok x.started; book = out } ≡ reply b (run_book (begin_replay h) (view b))
     unfolding begun begin_replay run on_book note_book noted view
     begin_is f =
-        ap {B = FlagReply} (λ (o : BookData). record { answer = Done; flag = x.started; book = o }) f
+        ap {B = Reply Bool BookData} (λ (o : BookData). record { answer = Ok x.started; book = o }) f
         ∙ ap reply_of e ∙ go (is_at b.replay_epoch.rollback_height h.0)
       where
-        go : (t : Bool) → reply_of (by h t) ≡ flag_reply b (run_book (cond t (done false) (act (note (begin_epoch h)) (done true))) (view b))
+        go : (t : Bool) → reply_of (by h t) ≡ reply b (run_book (cond t (done false) (act (note (begin_epoch h)) (done true))) (view b))
         go true = refl
         go false = refl

@@ -1,29 +1,22 @@
 // `begin_replay`: a replay epoch begins at a height, unless it is the one held.
 #![tactic(auto)]
 
-ghost use Rattle.std.specs.Prelude.{◌≡◌, true};
+ghost use Rattle.std.specs.Prelude.{◌≡◌};
 ghost use Rattle.book.specs.Model.{view};
-ghost use Rattle.book.specs.Sound.{soundb};
 ghost use Rattle.rules.specs.Steps.{run_book};
 ghost use Rattle.rules.specs.Calls.Replay.{begin_replay};
-ghost use Rattle.part_replies.specs.Reply.{flag_reply};
+ghost use Rattle.part_replies.specs.Reply.{reply};
 
+use book::sound::SoundBook;
 use book::{BookData, Height};
 use part_change::set_epoch;
 use part_replay::begin;
-use part_replies::{CallAnswer, FlagReply};
+use part_replies::{Reply, done};
 
-pub fn begin_replay_sound(b: BookData, h: Height) -> FlagReply
-    requires { soundb b ≡ true }
-    ensures { result ≡ flag_reply b (run_book (begin_replay h) (view b)) }
+pub fn begin_replay_sound(b: SoundBook, h: Height) -> Reply<bool, BookData>
+    ensures { result ≡ reply b.parts (run_book (begin_replay h) (view b.parts)) }
 {
-    let held = b.replay_epoch;
-    let begun = begin(held, h);
-    let next = begun.epoch;
-    let out = set_epoch(b, next);
-    FlagReply {
-        answer: CallAnswer::Done,
-        flag: begun.started,
-        book: out,
-    }
+    let begun = begin(b.parts.replay_epoch, h);
+    let out = set_epoch(b.parts, begun.epoch);
+    done(out, begun.started)
 }

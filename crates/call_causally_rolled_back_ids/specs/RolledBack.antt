@@ -19,8 +19,8 @@ use Rattle.rules.specs.Steps.{run_book}
 use Rattle.rules.specs.Calls.CausallyRolledBackIds.{rolled_back, causally_rolled_back_ids}
 use Rattle.part_ids.specs.IdLaws.{counted_ids, list_is}
 use Rattle.part_replies.specs.Reply.{ids_reply}
-use Rattle.part_replies.specs.declared.CallAnswer.TheVariants.{Done}
-use Rattle.book.specs.Refusals as refusals
+use Rattle.std.specs.Prelude.{Ok}
+use Rattle.book.specs.declared.refusal.Refusal.TheVariants as refusals
 
 abbrev pub is_rolled_back : List (List ℕ) → List (List ℕ) → SubmittedTx → Bool
 is_rolled_back absent inputs t = rolled_back absent inputs t.entry
@@ -55,12 +55,12 @@ module _ (absent inputs : List ℕ) where
   answer m = rising (rolled_back_ids (coins_in absent) (ids_in inputs) m)
 
   abbrev by_doors : Book → Bool → Outcome Book (List ℕ)
-  by_doors m t = run_book (cond t (look (λ b. done (answer b))) (undo refusals.bad_list)) m
+  by_doors m t = run_book (cond t (look (λ b. done (answer b))) (undo refusals.BadList)) m
 
   pub lists_told : {c l t : Bool} → c ≡ coin_listb absent → l ≡ id_listb inputs → (c && l) ≡ t → doors ≡ t
   lists_told p q h = sym (λ j. p j && q j) ∙ h
 
-  pub rolled_back_shut : (m : Book) → doors ≡ false → undone refusals.bad_list ≡ run_book (causally_rolled_back_ids absent inputs) m
+  pub rolled_back_shut : (m : Book) → doors ≡ false → undone refusals.BadList ≡ run_book (causally_rolled_back_ids absent inputs) m
   unfolding run causally_rolled_back_ids
   rolled_back_shut m e = sym (ap (by_doors m) e)
 
@@ -69,5 +69,5 @@ module _ (absent inputs : List ℕ) where
   rolled_back_open m e = sym (ap (by_doors m) e)
 
   pub rolled_back_reply : (b : BookData) (x : Ids 64) → soundb b ≡ true → doors ≡ true → x ≡ id_cells 64 (rising (rolled_back_ids (coins_in absent) (ids_in inputs) (view b)))
-      → record { answer = Done; ids = x; book = b } ≡ ids_reply b (run_book (causally_rolled_back_ids absent inputs) (view b))
-  rolled_back_reply b x s e h = (λ j. record { answer = Done; ids = h j; book = sym (back_view b s) j }) ∙ ap (ids_reply b) (rolled_back_open (view b) e)
+      → record { answer = Ok x; book = b } ≡ ids_reply b (run_book (causally_rolled_back_ids absent inputs) (view b))
+  rolled_back_reply b x s e h = (λ j. record { answer = Ok (h j); book = sym (back_view b s) j }) ∙ ap (ids_reply b) (rolled_back_open (view b) e)

@@ -1,5 +1,5 @@
 -- The named ids of a book, and the two rounds over them.
-use Rattle.std.specs.Prelude.{ℕ, ◌≤◌, ◌<◌, Bool, true, false, cond, not, List, [], ◌∷◌, map, ◌≡◌, refl, length, Option}
+use Rattle.std.specs.Prelude.{ℕ, ◌≤◌, ◌<◌, Bool, true, false, cond, not, List, [], ◌∷◌, map, ◌≡◌, refl, length}
 use Rattle.std.proofs.Math.Path.{ap}
 use Rattle.std.proofs.Common.{sym, ◌∙◌, arith, le-leb}
 use Rattle.std.proofs.lemmas.List.{length-map}
@@ -15,16 +15,15 @@ use Rattle.book.specs.declared.SubmissionDeliveryGoal.TheVariants.{EnsureBroadca
 use Rattle.book.specs.Model.{Book, view, id_list, id_cells}
 use Rattle.book.specs.Sound.{id_of, soundb}
 use Rattle.rules.specs.Doors.{ids_ok}
-use Rattle.rules.specs.Rule.{Rule, done, undo, book, ◌>>=◌, ◌>>◌, undone, run}
+use Rattle.rules.specs.Rule.{Rule, done, undo, book, ◌>>=◌, ◌>>◌, Outcome, ended, undone, run}
 use Rattle.rules.specs.Steps.{run_book}
 use Rattle.rules.specs.Calls.Offer.{offer}
 use Rattle.rules.specs.Calls.CollectRollbackReplayIds.{mark_each, offer_again, collect_rollback_replay_ids}
 use Rattle.part_ids.specs.Ids.{without_ids}
 use Rattle.part_lookup.specs.Normal.{sound_normal}
-use Rattle.part_offer.specs.Ends.{Reached, Ends, ends_as, bind_on, bind_turn}
-use Rattle.part_offer.specs.Each.{Each}
+use Rattle.part_sound_laws.specs.Outcomes.{Each, bind_on, bind_turn}
 use Rattle.call_collect_rollback_replay_ids.specs.Marking.{mark_one}
-use Rattle.book.specs.Refusals as refusals
+use Rattle.book.specs.declared.refusal.Refusal.TheVariants as refusals
 
 -- "all named ones": the retained ids that the list has, in retained order
 abbrev pub named_in : List ℕ → Book → List ℕ
@@ -83,22 +82,19 @@ module _ (is : List ℕ) (m : Book) where
   abbrev rounds : Rule (Unit {0})
   rounds = book >>= (λ b. mark_each b (named_in is b) >>= (λ _. offer_again (named_in is b)))
 
-  pub collect_long : 64 < length is → run_book (collect_rollback_replay_ids is) m ≡ undone refusals.bad_list
+  pub collect_long : 64 < length is → run_book (collect_rollback_replay_ids is) m ≡ undone refusals.BadList
   unfolding collect_rollback_replay_ids ids_ok run
-  collect_long l = ap (λ (t : Bool). run_book (cond t rounds (undo refusals.bad_list)) m) (lt-leb (length is) 64 l)
+  collect_long l = ap (λ (t : Bool). run_book (cond t rounds (undo refusals.BadList)) m) (lt-leb (length is) 64 l)
 
   collect_within : length is ≤ 64 → run_book (collect_rollback_replay_ids is) m ≡ run_book (mark_each m (named_in is m) >>= (λ _. offer_again (named_in is m))) m
   unfolding collect_rollback_replay_ids ids_ok run
-  collect_within l = ap (λ (t : Bool). run_book (cond t rounds (undo refusals.bad_list)) m) (le-leb (length is) 64 l)
+  collect_within l = ap (λ (t : Bool). run_book (cond t rounds (undo refusals.BadList)) m) (le-leb (length is) 64 l)
 
-  -- by the answer of the offers, the cells of the ids offered, which are the named ones, and of the fresh ones, and the book after the marks
-  pub collect_taken : length is ≤ 64 → {offered fresh : Ids 16} {q : BookData} (r : Option BookData) → Ends tt r (run_book (offer_again (id_list offered)) (view q))
-      → offered ≡ id_cells 16 (named_in is m) → fresh ≡ id_cells 16 (without_ids m.replayed (id_list offered)) → Reached tt q (run_book (mark_all (id_list fresh)) m)
-      → Ends tt r (run_book (collect_rollback_replay_ids is) m)
-  collect_taken l {offered} {fresh} {q} r k e f h =
-      ends_as tt r (run_book (offer_again (id_list offered)) (view q))
-      (collect_within l
-      ∙ ap (λ (ns : List ℕ). run_book (mark_each m ns >>= (λ _. offer_again ns)) m) (sym (list_is (named_in is m) e))
-      ∙ ap (λ (w : Rule (Unit {0})). run_book (w >>= (λ _. offer_again (id_list offered))) m) (marks_are m (id_list offered) ∙ ap mark_all (sym (list_is (without_ids m.replayed (id_list offered)) f)))
-      ∙ bind_on (mark_all (id_list fresh)) (λ _. offer_again (id_list offered)) m h.outcome)
-      k
+  -- by the answer of the offers, the ids offered, which are the named ones, the fresh ones, and the book after the marks
+  pub collect_taken : length is ≤ 64 → {offered fresh : List ℕ} {q : Book} {o : Outcome Book (Unit {0})} → run_book (offer_again offered) q ≡ o
+      → offered ≡ named_in is m → fresh ≡ without_ids m.replayed offered → run_book (mark_all fresh) m ≡ ended q [] tt → run_book (collect_rollback_replay_ids is) m ≡ o
+  collect_taken l {offered} {fresh} k e f h =
+      collect_within l
+      ∙ ap (λ (ns : List ℕ). run_book (mark_each m ns >>= (λ _. offer_again ns)) m) (sym e)
+      ∙ ap (λ (w : Rule (Unit {0})). run_book (w >>= (λ _. offer_again offered)) m) (marks_are m offered ∙ ap mark_all (sym f))
+      ∙ bind_on (mark_all fresh) (λ _. offer_again offered) m h ∙ k

@@ -31,7 +31,6 @@ use Rattle.part_change.specs.Changes.{stored_at, with_epoch_of}
 use Rattle.part_change.specs.ChangeLaws.{revise_at}
 use Rattle.part_sound_laws.specs.Acts.{act_silent}
 use Rattle.part_sound_laws.specs.Holds.{Holds, holds_sound, holds_view, holds_soundb, holds_quiet, sound_stepped}
-use Rattle.part_offer.specs.Ends.{Reached}
 
 -- `mark_each` of one id that was not marked before
 abbrev pub mark_one : ℕ → Rule (Unit {0})
@@ -102,7 +101,12 @@ module _ (b : BookData) (h : soundb b ≡ true) (i : ℕ) where
         ∙ ap (λ (u : SubmittedTx). back (stored_at k (with_entry (revised reopen) u) (view b))) at
         ∙ ap back (sym (revise_at (view b) (sound b h).lists.ids i k f.within (eqb-true (id_of (get_or (view b).submitted k zero_submitted)) i (first_passes (has_id i) (view b).submitted zero_submitted f)) reopen))
 
-  -- the first step leaves a sound book
+  -- each step leaves a sound book
+  module _ {q : BookData} (s : q ≡ back (revise_book i reopen (view b))) where
+    pub revised_sound : soundb q ≡ true
+    unfolding on_book
+    revised_sound = holds_soundb (holds_quiet (holds_sound b h) (revise i reopen) refl s)
+
   module _ {q : BookData} (s : q ≡ back (replay_book i (view b))) where
     replayed_holds : Holds q (replay_book i (view b))
     unfolding on_book
@@ -117,12 +121,9 @@ module _ (b : BookData) (h : soundb b ≡ true) (i : ℕ) where
       unfolding on_book
       opened_holds = holds_quiet replayed_holds (revise i reopen) refl u
 
-      pub mark_is : Reached tt r (run_book (mark_one i) (view b))
+      pub mark_is : run_book (mark_one i) (view b) ≡ ended (view r) [] tt
       unfolding on_book run
-      mark_is = record {
-        sound = holds_soundb opened_holds;
-        outcome =
-            act_silent (replay i) (step (revise i reopen)) (view b) refl refl
-            ∙ act_silent (revise i reopen) (done tt) (replay_book i (view b)) refl refl
-            ∙ ap (λ (m : Book). ended m [] tt) (sym (holds_view opened_holds));
-      }
+      mark_is =
+          act_silent (replay i) (step (revise i reopen)) (view b) refl refl
+          ∙ act_silent (revise i reopen) (done tt) (replay_book i (view b)) refl refl
+          ∙ ap (λ (m : Book). ended m [] tt) (sym (holds_view opened_holds))

@@ -7,13 +7,12 @@ use Rattle.book.specs.Model.{id_list, id_cells}
 use Rattle.book.specs.SoundLaws.{Counted}
 use Rattle.book.specs.declared.Ids.{Ids}
 use Rattle.book.specs.declared.SubmissionId.{SubmissionId}
-use Rattle.book.specs.declared.BookData.{BookData}
 use Rattle.part_ids.specs.Counted.{counted_push}
 use Rattle.rules.specs.Calls.Plan.{Memory}
-use Rattle.part_replies.specs.declared.CallAnswer.TheVariants.{Done}
 use Rattle.book_answers.specs.declared.DrainedSubmission.{DrainedSubmission}
 use Rattle.book_answers.specs.Zero.{zero_drained, zero_failure}
-use Rattle.part_drain_answers.specs.declared.DrainReply.{DrainReply}
+use Rattle.part_drain_answers.specs.declared.Drained.{Drained}
+use Rattle.part_drain_answers.specs.DrainReply.{drained_of}
 use Rattle.book_answers.specs.declared.SubmissionDrainFailure.{SubmissionDrainFailure}
 use Rattle.part_plan.specs.declared.PlanAction.{PlanAction}
 use Rattle.part_plan.specs.declared.PlanAction.TheVariants.{Passed, Failed, Removed, Stored, Issued}
@@ -22,45 +21,33 @@ use Rattle.call_drain.specs.declared.DrainAnswers.{DrainAnswers}
 use Rattle.call_drain.specs.Carried.{memory_by, drained_in}
 
 abbrev pub answers_of : List DrainedSubmission → Memory → DrainAnswers
-answers_of xs a = record {
-  emitted = id_cells 16 a.emitted;
-  removed = id_cells 16 a.removed;
-  submission_count = length xs;
-  submissions = cells 16 zero_drained xs;
-  failure_count = length a.failed;
-  failures = cells 16 zero_failure a.failed;
-}
+answers_of xs a = record { emitted = id_cells 16 a.emitted; removed = id_cells 16 a.removed; drained = drained_of xs a.failed }
 
 -- ---- the cells after a plan
-abbrev pub with_submission : SubmissionId → DrainedSubmission → DrainAnswers → DrainAnswers
-with_submission i x a = record {
-  emitted = id_cells 16 (id_list a.emitted ++ i.0 ∷ []);
-  removed = a.removed;
-  submission_count = a.submission_count + 1;
-  submissions = set a.submissions a.submission_count x;
-  failure_count = a.failure_count;
-  failures = a.failures;
+abbrev pub one_issued : DrainedSubmission → Drained → Drained
+one_issued x d = record {
+  submission_count = d.submission_count + 1;
+  submissions = set d.submissions d.submission_count x;
+  failure_count = d.failure_count;
+  failures = d.failures;
 }
+
+abbrev pub one_failed : SubmissionDrainFailure → Drained → Drained
+one_failed f d = record {
+  submission_count = d.submission_count;
+  submissions = d.submissions;
+  failure_count = d.failure_count + 1;
+  failures = set d.failures d.failure_count f;
+}
+
+abbrev pub with_submission : SubmissionId → DrainedSubmission → DrainAnswers → DrainAnswers
+with_submission i x a = record { emitted = id_cells 16 (id_list a.emitted ++ i.0 ∷ []); removed = a.removed; drained = one_issued x a.drained }
 
 abbrev pub with_failed : SubmissionDrainFailure → DrainAnswers → DrainAnswers
-with_failed f a = record {
-  emitted = a.emitted;
-  removed = a.removed;
-  submission_count = a.submission_count;
-  submissions = a.submissions;
-  failure_count = a.failure_count + 1;
-  failures = set a.failures a.failure_count f;
-}
+with_failed f a = record { emitted = a.emitted; removed = a.removed; drained = one_failed f a.drained }
 
 abbrev pub with_removal : SubmissionDrainFailure → DrainAnswers → DrainAnswers
-with_removal f a = record {
-  emitted = a.emitted;
-  removed = id_cells 16 (id_list a.removed ++ f.candidate_id.0 ∷ []);
-  submission_count = a.submission_count;
-  submissions = a.submissions;
-  failure_count = a.failure_count + 1;
-  failures = set a.failures a.failure_count f;
-}
+with_removal f a = record { emitted = a.emitted; removed = id_cells 16 (id_list a.removed ++ f.candidate_id.0 ∷ []); drained = one_failed f a.drained }
 
 abbrev pub answers_by : PlanAction → SubmissionPlanDelta → DrainAnswers → DrainAnswers
 answers_by Passed p a = a
@@ -69,24 +56,14 @@ answers_by Removed p a = with_removal p.failure a
 answers_by Stored p a = a
 answers_by Issued p a = with_submission p.tx.entry.id p.submission a
 
-abbrev pub finished_with : BookData → DrainAnswers → DrainReply
-finished_with b a = record {
-  answer = Done;
-  submission_count = a.submission_count;
-  submissions = a.submissions;
-  failure_count = a.failure_count;
-  failures = a.failures;
-  book = b;
-}
-
 -- ---- one more of each has room
 pub record Room (a : DrainAnswers) : Type 0 where
   pub emitted : (a.emitted.count < 16) × (a.emitted ≡ id_cells 16 (id_list a.emitted))
   pub removed : (a.removed.count < 16) × (a.removed ≡ id_cells 16 (id_list a.removed))
-  pub submissions : a.submission_count < 16
-  pub submissions_long : length a.submissions ≡ 16
-  pub failures : a.failure_count < 16
-  pub failures_long : length a.failures ≡ 16
+  pub submissions : a.drained.submission_count < 16
+  pub submissions_long : length a.drained.submissions ≡ 16
+  pub failures : a.drained.failure_count < 16
+  pub failures_long : length a.drained.failures ≡ 16
 
 -- at most n of each
 pub record Few (n : ℕ) (xs : List DrainedSubmission) (a : Memory) : Type 0 where
@@ -102,15 +79,15 @@ ids_room is {x} e h =
 
 pub room : (xs : List DrainedSubmission) (a : Memory) {d : DrainAnswers} → d ≡ answers_of xs a → {n : ℕ} → Few n xs a → n < 16 → Room d
 room xs a {d} e {n} k h =
-    let s : d.submission_count ≡ length xs = ap (λ (y : DrainAnswers). y.submission_count) e in
-    let f : d.failure_count ≡ length a.failed = ap (λ (y : DrainAnswers). y.failure_count) e in
+    let s : d.drained.submission_count ≡ length xs = ap (λ (y : DrainAnswers). y.drained.submission_count) e in
+    let f : d.drained.failure_count ≡ length a.failed = ap (λ (y : DrainAnswers). y.drained.failure_count) e in
     record {
       emitted = ids_room a.emitted (ap (λ (y : DrainAnswers). y.emitted) e) (let l = k.emitted in omega arith);
       removed = ids_room a.removed (ap (λ (y : DrainAnswers). y.removed) e) (let l = k.removed in omega arith);
       submissions = let l = k.issued in omega arith;
-      submissions_long = ap (λ (y : DrainAnswers). length y.submissions) e ∙ length_cells 16 zero_drained xs (let l = k.issued in omega arith);
+      submissions_long = ap (λ (y : DrainAnswers). length y.drained.submissions) e ∙ length_cells 16 zero_drained xs (let l = k.issued in omega arith);
       failures = let l = k.failed in omega arith;
-      failures_long = ap (λ (y : DrainAnswers). length y.failures) e ∙ length_cells 16 zero_failure a.failed (let l = k.failed in omega arith);
+      failures_long = ap (λ (y : DrainAnswers). length y.drained.failures) e ∙ length_cells 16 zero_failure a.failed (let l = k.failed in omega arith);
     }
 
 -- ---- the lists after a plan
@@ -122,35 +99,30 @@ push_ids : (is : List ℕ) (i : ℕ) → id_cells 16 (id_list (id_cells 16 is) +
 push_ids is i = ap (λ (js : List ℕ). id_cells 16 (js ++ i ∷ [])) (take_cells 16 0 is)
 
 module _ (p : SubmissionPlanDelta) (xs : List DrainedSubmission) (a : Memory) where
-  issued_after : length xs < 16 → with_submission p.tx.entry.id p.submission (answers_of xs a) ≡ answers_of (xs ++ p.submission ∷ []) (memory_by Issued p a)
-  issued_after h = λ i. record {
-    emitted = push_ids a.emitted p.tx.entry.id.0 i;
-    removed = id_cells 16 a.removed;
+  issued_drained : length xs < 16 → one_issued p.submission (drained_of xs a.failed) ≡ drained_of (xs ++ p.submission ∷ []) a.failed
+  issued_drained h = λ i. record {
     submission_count = sym (length_snoc xs p.submission) i;
     submissions = push zero_drained xs p.submission h i;
     failure_count = length a.failed;
     failures = cells 16 zero_failure a.failed;
   }
 
-  failed_after : length a.failed < 16 → with_failed p.failure (answers_of xs a) ≡ answers_of xs (memory_by Failed p a)
-  failed_after h = λ i. record {
-    emitted = id_cells 16 a.emitted;
-    removed = id_cells 16 a.removed;
+  failed_drained : length a.failed < 16 → one_failed p.failure (drained_of xs a.failed) ≡ drained_of xs (a.failed ++ p.failure ∷ [])
+  failed_drained h = λ i. record {
     submission_count = length xs;
     submissions = cells 16 zero_drained xs;
     failure_count = sym (length_snoc a.failed p.failure) i;
     failures = push zero_failure a.failed p.failure h i;
   }
 
+  issued_after : length xs < 16 → with_submission p.tx.entry.id p.submission (answers_of xs a) ≡ answers_of (xs ++ p.submission ∷ []) (memory_by Issued p a)
+  issued_after h = λ i. record { emitted = push_ids a.emitted p.tx.entry.id.0 i; removed = id_cells 16 a.removed; drained = issued_drained h i }
+
+  failed_after : length a.failed < 16 → with_failed p.failure (answers_of xs a) ≡ answers_of xs (memory_by Failed p a)
+  failed_after h = λ i. record { emitted = id_cells 16 a.emitted; removed = id_cells 16 a.removed; drained = failed_drained h i }
+
   removed_after : length a.failed < 16 → with_removal p.failure (answers_of xs a) ≡ answers_of xs (memory_by Removed p a)
-  removed_after h = λ i. record {
-    emitted = id_cells 16 a.emitted;
-    removed = push_ids a.removed p.failure.candidate_id.0 i;
-    submission_count = length xs;
-    submissions = cells 16 zero_drained xs;
-    failure_count = sym (length_snoc a.failed p.failure) i;
-    failures = push zero_failure a.failed p.failure h i;
-  }
+  removed_after h = λ i. record { emitted = id_cells 16 a.emitted; removed = push_ids a.removed p.failure.candidate_id.0 i; drained = failed_drained h i }
 
   none_more : answers_of xs a ≡ answers_of (xs ++ []) a
   none_more = ap (λ (ys : List DrainedSubmission). answers_of ys a) (sym (append-nil xs))

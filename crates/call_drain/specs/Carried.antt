@@ -1,7 +1,5 @@
 -- What carrying out a plan makes of the book: of its cells, of its lists, and of the rules' outcome.
-use Rattle.std.specs.Prelude.{ℕ, ◌≤◌, ◌<◌, List, [], ◌∷◌, ◌++◌, Bool, true, false, ◌≡◌, refl, length, set}
-use Rattle.std.proofs.Common.{true≢false}
-use Rattle.std.proofs.lemmas.Bool.{false≢true}
+use Rattle.std.specs.Prelude.{ℕ, ◌≤◌, ◌<◌, List, [], ◌∷◌, ◌++◌, ◌≡◌, length, set}
 use Rattle.base_lists.specs.Lists.{push_new}
 use Rattle.book.specs.Model.{Book, view, back}
 use Rattle.book.specs.Sound.{id_of}
@@ -20,7 +18,7 @@ use Rattle.part_plan.specs.declared.SubmittedPlace.{SubmittedPlace}
 use Rattle.part_plan.specs.declared.SubmissionPlanDelta.{SubmissionPlanDelta}
 use Rattle.part_change.specs.Parts.{put_submitted}
 use Rattle.call_drain.specs.ListLaws.{put_at}
-use Rattle.book.specs.Refusals as refusals
+use Rattle.book.specs.declared.refusal.Refusal.TheVariants as refusals
 
 -- ---- the lists
 -- t in the place p, and the numbers with it
@@ -64,10 +62,10 @@ drained_in Stored p = []
 drained_in Issued p = p.submission ∷ []
 
 -- what the rules come to where the plan is carried out: 10, nothing is left; 11, the submission is stored
-abbrev pub outcome_by : PlanAnswer → SubmissionPlanDelta → Memory → Book → Outcome Book Memory
-outcome_by Full p a m = undone refusals.full
-outcome_by Exhausted p a m = stopped (placed p.place p.tx m) [] refusals.no_token
-outcome_by (Planned k) p a m = ended (book_by k p m) (drained_in k p) (memory_by k p a)
+abbrev pub planned_outcome : PlanAnswer → SubmissionPlanDelta → Memory → Book → Outcome Book Memory
+planned_outcome Full p a m = undone refusals.Full
+planned_outcome Exhausted p a m = stopped (placed p.place p.tx m) [] refusals.NoToken
+planned_outcome (Planned k) p a m = ended (book_by k p m) (drained_in k p) (memory_by k p a)
 
 -- ---- the cells
 pub record InPlace (p : SubmittedPlace) (m : Book) : Type 0 where
@@ -97,40 +95,3 @@ carried_by Failed p b = b
 carried_by Removed p b = back (withdrawn p.failure.candidate_id.0 (view b))
 carried_by Stored p b = stored_in p b
 carried_by Issued p b = stored_in p b
-
--- the same by whether the plan stores a submission
-abbrev pub is_storing : PlanAction → Bool
-is_storing Passed = false
-is_storing Failed = false
-is_storing Removed = false
-is_storing Stored = true
-is_storing Issued = true
-
-abbrev pub unstored_by : PlanAction → SubmissionPlanDelta → BookData → BookData
-unstored_by Passed p b = b
-unstored_by Failed p b = b
-unstored_by Removed p b = back (withdrawn p.failure.candidate_id.0 (view b))
-unstored_by Stored p b = b
-unstored_by Issued p b = b
-
-module _ (p : SubmissionPlanDelta) (b : BookData) where
-  pub stored_carried : (k : PlanAction) → is_storing k ≡ true → stored_in p b ≡ carried_by k p b
-  stored_carried Passed e = absurd (false≢true e)
-  stored_carried Failed e = absurd (false≢true e)
-  stored_carried Removed e = absurd (false≢true e)
-  stored_carried Stored e = refl
-  stored_carried Issued e = refl
-
-  pub unstored_carried : (k : PlanAction) → is_storing k ≡ false → unstored_by k p b ≡ carried_by k p b
-  unstored_carried Passed e = refl
-  unstored_carried Failed e = refl
-  unstored_carried Removed e = refl
-  unstored_carried Stored e = absurd (true≢false e)
-  unstored_carried Issued e = absurd (true≢false e)
-
-pub stored_fits : (p : SubmissionPlanDelta) (m : Book) (k : PlanAction) → is_storing k ≡ true → FitsBy k p m → InPlace p.place m
-stored_fits p m Passed e f = absurd (false≢true e)
-stored_fits p m Failed e f = absurd (false≢true e)
-stored_fits p m Removed e f = absurd (false≢true e)
-stored_fits p m Stored e f = f
-stored_fits p m Issued e f = f

@@ -1,6 +1,6 @@
 -- The loop of a drain: what is done and what is left make the whole.
-use Rattle.std.specs.Prelude.{ℕ, suc, ◌+◌, ◌≤◌, ◌<◌, Bool, true, false, ◌≡◌, eqb, length, drop, get_or, set}
-use Rattle.std.proofs.Common.{true≢false, sym, ◌∙◌, add-one, eqb-true}
+use Rattle.std.specs.Prelude.{ℕ, suc, ◌+◌, ◌≤◌, ◌<◌, Bool, true, false, ◌≡◌, eqb, length, drop, get_or, set, Ok}
+use Rattle.std.proofs.Common.{sym, ◌∙◌, add-one, eqb-true}
 use mathlib.Core.List.{List, [], ◌∷◌, ◌++◌, append-nil}
 use Rattle.std.proofs.Math.Path.{refl, ap, subst}
 use native.Mathlib.Omega.{arith}
@@ -25,8 +25,9 @@ use Rattle.rules_laws.specs.Sound.Run.{SoundBook, sound_left}
 use Rattle.part_lookup.specs.Normal.{Normal, sizes, submitted_are}
 use Rattle.part_change.specs.Parts.{submitted_back}
 use Rattle.part_sound_laws.specs.Holds.{Holds, holds_sound, holds_view, holds_normal, holds_quiet}
-use Rattle.part_drain_answers.specs.DrainReply.{drain_reply}
-use Rattle.part_drain_answers.specs.declared.DrainReply.{DrainReply}
+use Rattle.part_replies.specs.declared.Reply.{Reply}
+use Rattle.part_drain_answers.specs.DrainReply.{drain_reply, drained_of}
+use Rattle.part_drain_answers.specs.declared.Drained.{Drained}
 use Rattle.part_plan.specs.declared.PlanAction.{PlanAction}
 use Rattle.part_plan.specs.declared.PlanAction.TheVariants.{Passed, Failed, Removed, Stored, Issued}
 use Rattle.part_plan.specs.declared.PlanAnswer.{PlanAnswer}
@@ -35,10 +36,10 @@ use Rattle.part_plan.specs.declared.SubmissionPlanDelta.{SubmissionPlanDelta}
 use Rattle.call_drain.specs.declared.DrainAnswers.{DrainAnswers}
 use Rattle.call_drain.specs.ListLaws.{put_at, put_set, put_end}
 use Rattle.call_drain.specs.Planned.{candidate_plan}
-use Rattle.call_drain.specs.Carried.{placed, book_by, memory_by, drained_in, outcome_by, InPlace, FitsBy, AnswerFits, stored_in, carried_by, is_storing, stored_fits}
-use Rattle.call_drain.specs.Answers.{answers_of, answers_by, finished_with, Room, room, Few, few_more, after_is}
+use Rattle.call_drain.specs.Carried.{placed, book_by, memory_by, drained_in, planned_outcome, InPlace, FitsBy, AnswerFits, stored_in, carried_by}
+use Rattle.call_drain.specs.Answers.{answers_of, answers_by, Room, room, Few, few_more, after_is}
 use Rattle.call_drain.specs.Rules.{Carries, one_carries}
-use Rattle.book.specs.Refusals as refusals
+use Rattle.book.specs.declared.refusal.Refusal.TheVariants as refusals
 
 -- ---- the cells that a plan leaves
 module _ (b : BookData) (h : Normal b) where
@@ -79,19 +80,8 @@ carried_is {b} {m} h k p f =
     carried_view b (holds_normal h) k p (subst (FitsBy k p) (sym (holds_view h)) f) ∙ ap (λ (x : Book). back (book_by k p x)) (holds_view h)
 
 -- ---- the whole
-abbrev pub whole : BookData → DrainReply
+abbrev pub whole : BookData → Reply Drained BookData
 whole b = drain_reply b (run_book drain (view b))
-
--- what a candidate that is not planned leaves: 10, the book as it was; 11, the book so far with its submission
-abbrev pub away_by : PlanAnswer → SubmissionPlanDelta → BookData → BookData → DrainReply
-away_by Full p b book = drain_reply b (undone refusals.full)
-away_by Exhausted p b book = drain_reply (stored_in p book) (undone refusals.no_token)
-away_by (Planned k) p b book = drain_reply b (undone refusals.full)
-
-abbrev pub is_planned : PlanAnswer → Bool
-is_planned Full = false
-is_planned Exhausted = false
-is_planned (Planned k) = true
 
 -- the drain of b stands at i: the book and the answers so far, and what is left
 pub record Running (b book : BookData) (answers : DrainAnswers) (i : ℕ) : Type 0 where
@@ -159,14 +149,17 @@ module _ {b book : BookData} {answers : DrainAnswers} {i : ℕ} (v : Running b b
   pub planned_fits : {k : PlanAction} → p.answer ≡ Planned k → FitsBy k p (view book)
   planned_fits e = subst (λ (x : PlanAnswer). AnswerFits x p (view book)) e plan_fits
 
-  -- a planned submission goes into a cell of the book
-  pub store_below : {k : PlanAction} → p.answer ≡ Planned k → is_storing k ≡ true → (p.place.index < 16) × (length book.submitted ≡ 16)
-  store_below {k} q e = ((stored_fits p (view book) k e (planned_fits q)).below, (sizes book (holds_normal v.holds)).submitted_long)
+  -- where no token is left, the submission goes into a cell of the book
+  place_fits : p.answer ≡ Exhausted → InPlace p.place (view book)
+  place_fits e = subst (λ (x : PlanAnswer). AnswerFits x p (view book)) e plan_fits
+
+  pub store_below : p.answer ≡ Exhausted → (p.place.index < 16) × (length book.submitted ≡ 16)
+  store_below e = ((place_fits e).below, (sizes book (holds_normal v.holds)).submitted_long)
 
   abbrev more : Memory → Rule (List SubmissionDrainFailure)
   more a = turn (candidates (suc i) (drop (i + 1) (view b).pending) a)
 
-  cut : whole b ≡ drain_reply b (logged v.xs (followed (λ x. x) on_book more (outcome_by p.answer p v.a v.m)))
+  cut : whole b ≡ drain_reply b (logged v.xs (followed (λ x. x) on_book more (planned_outcome p.answer p v.a v.m)))
   unfolding candidates
   cut =
       v.rest
@@ -175,25 +168,28 @@ module _ {b book : BookData} {answers : DrainAnswers} {i : ℕ} (v : Running b b
       ∙ ap (λ (o : Outcome Book Memory). drain_reply b (logged v.xs (followed (λ x. x) on_book more o))) carries.outcome
 
   -- the book left is sound
-  left_sound : SoundBook (left v.m (outcome_by p.answer p v.a v.m))
+  left_sound : SoundBook (left v.m (planned_outcome p.answer p v.a v.m))
   left_sound = subst (λ (o : Outcome Book Memory). SoundBook (left v.m o)) carries.outcome (sound_left (one_candidate i c v.a) v.m v.holds.sound)
 
-  -- 10 or 11
-  pub turned_away_lem : (x : PlanAnswer) → p.answer ≡ x → is_planned x ≡ false → away_by x p b book ≡ whole b
-  turned_away_lem Full e h = sym (cut ∙ ap (λ (y : PlanAnswer). drain_reply b (logged v.xs (followed (λ x. x) on_book more (outcome_by y p v.a v.m)))) e)
-  turned_away_lem Exhausted e h =
-      let f = subst (λ (y : PlanAnswer). AnswerFits y p (view book)) e plan_fits in
-      let q : stored_in p book ≡ back (placed p.place p.tx v.m) = stored_is book (holds_normal v.holds) p f ∙ ap (λ (m : Book). back (placed p.place p.tx m)) (holds_view v.holds) in
-      ap (λ (y : BookData). drain_reply y (undone refusals.no_token)) q
-      ∙ sym (cut ∙ ap (λ (y : PlanAnswer). drain_reply b (logged v.xs (followed (λ x. x) on_book more (outcome_by y p v.a v.m)))) e)
-  turned_away_lem (Planned k) e h = absurd (true≢false h)
+  -- 10, the book as it was; 11, the book so far with the submission
+  over : {x : PlanAnswer} → p.answer ≡ x → whole b ≡ drain_reply b (logged v.xs (followed (λ x. x) on_book more (planned_outcome x p v.a v.m)))
+  over e = cut ∙ ap (λ (y : PlanAnswer). drain_reply b (logged v.xs (followed (λ x. x) on_book more (planned_outcome y p v.a v.m)))) e
+
+  pub full_over : p.answer ≡ Full → drain_reply b (undone refusals.Full) ≡ whole b
+  full_over e = sym (over e)
+
+  pub token_over : p.answer ≡ Exhausted → drain_reply (stored_in p book) (undone refusals.NoToken) ≡ whole b
+  token_over e =
+      let q : stored_in p book ≡ back (placed p.place p.tx v.m) =
+      stored_is book (holds_normal v.holds) p (place_fits e) ∙ ap (λ (m : Book). back (placed p.place p.tx m)) (holds_view v.holds) in
+      ap (λ (y : BookData). drain_reply y (undone refusals.NoToken)) q ∙ sym (over e)
 
   -- the candidate is planned
   pub turned : {k : PlanAction} → p.answer ≡ Planned k → i < 16 → {next : BookData} → next ≡ carried_by k p book
       → {after : DrainAnswers} → after ≡ answers_by k p answers → Running b next after (i + 1)
   unfolding run
   turned {k} e l {next} h {after} q =
-      let o : outcome_by p.answer p v.a v.m ≡ ended (book_by k p v.m) (drained_in k p) (memory_by k p v.a) = ap (λ (y : PlanAnswer). outcome_by y p v.a v.m) e in
+      let o : planned_outcome p.answer p v.a v.m ≡ ended (book_by k p v.m) (drained_in k p) (memory_by k p v.a) = ap (λ (y : PlanAnswer). planned_outcome y p v.a v.m) e in
       let f = subst (λ (y : PlanAnswer). AnswerFits y p v.m) e carries.fits in
       record {
         m = book_by k p v.m;
@@ -211,13 +207,16 @@ module _ {b book : BookData} {answers : DrainAnswers} {i : ℕ} (v : Running b b
       }
 
 -- no candidate is left
-pub ends : {b book : BookData} {answers : DrainAnswers} {i : ℕ} → Running b book answers i → drop i (view b).pending ≡ [] → finished_with book answers ≡ whole b
+pub ends : {b book : BookData} {answers : DrainAnswers} {i : ℕ} → Running b book answers i → drop i (view b).pending ≡ [] → record { answer = Ok answers.drained; book = book } ≡ whole b
 unfolding candidates run
 ends {b} {book} {answers} {i} v e =
-    ap (λ (d : DrainAnswers). finished_with book d) v.held
-    ∙ ap (λ (x : BookData). finished_with x (answers_of v.xs v.a)) v.holds.cells
+    ap (λ (d : DrainAnswers). reply_with book d.drained) v.held
+    ∙ ap (λ (x : BookData). reply_with x (drained_of v.xs v.a.failed)) v.holds.cells
     ∙ ap (λ (ys : List DrainedSubmission). drain_reply b (ended v.m ys v.a.failed)) (sym (append-nil v.xs))
     ∙ sym (v.rest ∙ ap (λ (l : List PendingDelivery). drain_reply b (logged v.xs (run_book (candidates i l v.a) v.m))) e)
+  where
+    reply_with : BookData → Drained → Reply Drained BookData
+    reply_with x d = record { answer = Ok d; book = x }
 
 -- ---- the queue that the loop goes through
 module _ (b : BookData) (s : soundb b ≡ true) where

@@ -35,23 +35,25 @@ abbrev pub place_in : ℕ → BookData → SubmittedPlace
 place_in k b = record { index = k; count = b.submitted_count; next_id = b.next_submission_id; next_token = b.next_delivery_attempt_token }
 
 module _ (b : BookData) (h : Normal b) (emitted : List ℕ) (n : ℕ) (c : PendingDelivery) (f : List ℕ) {r : SubmissionPlanDelta} where
-  pub known_on : (k : ℕ) {t : SubmittedTx} → t ≡ get_or (view b).submitted k zero_submitted
-      → r ≡ known_plan (place_in k b) emitted (id_list b.retired_submission_ids) n c f t
+  pub known_on : (k : ℕ) {p : SubmittedPlace} → p ≡ place_in k b → {t : SubmittedTx} → t ≡ get_or (view b).submitted k zero_submitted
+      → r ≡ known_plan p emitted (id_list b.retired_submission_ids) n c f t
       → r ≡ known_plan (place_on k (view b)) emitted (view b).retired n c f (get_or (view b).submitted k zero_submitted)
   unfolding view
-  known_on k e q =
+  known_on k o {t} e q =
       q
+      ∙ ap (λ (x : SubmittedPlace). known_plan x emitted (id_list b.retired_submission_ids) n c f t) o
       ∙ (λ i. known_plan
       (record { index = k; count = (submitted_are b h).count i; next_id = b.next_submission_id; next_token = b.next_delivery_attempt_token })
       emitted (id_list b.retired_submission_ids) n c f (e i))
 
-  pub unknown_on : {ids : Ids 16} → ids ≡ id_cells 16 (map id_of (view b).submitted)
-      → r ≡ unknown_plan (place_in b.submitted_count b) emitted (id_list ids) n c f
+  pub unknown_on : {p : SubmittedPlace} → p ≡ place_in b.submitted_count b → {ids : Ids 16} → ids ≡ id_cells 16 (map id_of (view b).submitted)
+      → r ≡ unknown_plan p emitted (id_list ids) n c f
       → r ≡ unknown_plan (place_on (length (view b).submitted) (view b)) emitted (map id_of (view b).submitted) n c f
   unfolding view
-  unknown_on {ids} e q =
+  unknown_on o {ids} e q =
       let l : id_list ids ≡ map id_of (view b).submitted = ap id_list e ∙ take_cells 16 0 (map id_of (view b).submitted) in
       q
+      ∙ ap (λ (x : SubmittedPlace). unknown_plan x emitted (id_list ids) n c f) o
       ∙ (λ i. unknown_plan
       (record {
         index = (submitted_are b h).count i;

@@ -50,12 +50,12 @@ use Rattle.part_plan.specs.declared.SubmissionPlanDelta.{SubmissionPlanDelta}
 use Rattle.part_plan.specs.Plan.{failing, storing, failure_at, token_taken, issue_plan, deliver_plan, tightened_by, met_plan, removal_plan, known_plan_by, known_plan, new_submitted, id_taken, retain_plan, unknown_plan}
 use Rattle.call_drain.specs.ListLaws.{put_at, put_set, put_end, put_within, get_put, set_put}
 use Rattle.call_drain.specs.Planned.{place_on, found_plan, unnamed_plan, plan_by, candidate_plan}
-use Rattle.call_drain.specs.Carried.{placed, outcome_by, InPlace, AnswerFits}
-use Rattle.book.specs.Refusals as refusals
+use Rattle.call_drain.specs.Carried.{placed, planned_outcome, InPlace, AnswerFits}
+use Rattle.book.specs.declared.refusal.Refusal.TheVariants as refusals
 
 -- the rules come to what carrying out the plan q makes, and q can be carried out
 pub record Carries (o : Outcome Book Memory) (q : SubmissionPlanDelta) (a : Memory) (m : Book) : Type 0 where
-  pub outcome : o ≡ outcome_by q.answer q a m
+  pub outcome : o ≡ planned_outcome q.answer q a m
   pub fits : AnswerFits q.answer q m
 
 carries_by : {o o' : Outcome Book Memory} {q : SubmissionPlanDelta} {a : Memory} {m : Book} → o ≡ o' → Carries o' q a m → Carries o q a m
@@ -104,7 +104,7 @@ module _ (p : SubmittedPlace) (t : SubmittedTx) (g : SubmissionDeliveryGoal) (a 
         out = handed_out ∷ [];
       })
 
-  emitted_is : run_book (act (emit (id_of t) g) (done (with_emitted (id_of t) a))) (placed p t m) ≡ outcome_by (Planned Issued) (issue_plan p t g) a m
+  emitted_is : run_book (act (emit (id_of t) g) (done (with_emitted (id_of t) a))) (placed p t m) ≡ planned_outcome (Planned Issued) (issue_plan p t g) a m
   unfolding run on_book issue_plan
   emitted_is = ap (λ (e : Effect Book). ended e.after (e.out ++ []) (with_emitted (id_of t) a)) emit_is
 
@@ -116,11 +116,11 @@ module _ (p : SubmittedPlace) (t : SubmittedTx) (g : SubmissionDeliveryGoal) (a 
   unfolding deliver deliver_plan run
   deliver_carries = by_emitted (elemb (id_of t) a.emitted)
     where
-      by_token : (u : Bool) → Carries (run_book (cond u (stop refusals.no_token) (act (emit (id_of t) g) (done (with_emitted (id_of t) a)))) (placed p t m)) (cond u (storing Exhausted p t) (issue_plan p t g)) a m
+      by_token : (u : Bool) → Carries (run_book (cond u (stop refusals.NoToken) (act (emit (id_of t) g) (done (with_emitted (id_of t) a)))) (placed p t m)) (cond u (storing Exhausted p t) (issue_plan p t g)) a m
       by_token true = record { outcome = refl; fits = fits }
       by_token false = issue_carries
 
-      by_emitted : (u : Bool) → Carries (run_book (cond u (done a) (look (λ b. cond (eqb b.next_token.0 last64) (stop refusals.no_token) (act (emit (id_of t) g) (done (with_emitted (id_of t) a)))))) (placed p t m))
+      by_emitted : (u : Bool) → Carries (run_book (cond u (done a) (look (λ b. cond (eqb b.next_token.0 last64) (stop refusals.NoToken) (act (emit (id_of t) g) (done (with_emitted (id_of t) a)))))) (placed p t m))
           (cond u (storing (Planned Stored) p t) (cond (eqb p.next_token.0 last64) (storing Exhausted p t) (issue_plan p t g))) a m
       by_emitted true = record { outcome = refl; fits = fits }
       by_emitted false = by_token (eqb p.next_token.0 last64)

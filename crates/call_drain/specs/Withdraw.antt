@@ -1,5 +1,5 @@
 -- A removal and its retirement on the cells.
-use Rattle.std.specs.Prelude.{ℕ, ◌≤◌, Bool, not, cond, ◌≡◌, refl, eqb, length}
+use Rattle.std.specs.Prelude.{ℕ, ◌≤◌, Bool, not, cond, ◌≡◌, refl, eqb, length, Result, Ok, Err}
 use Rattle.std.proofs.Math.Path.{ap}
 use Rattle.std.proofs.Common.{◌∙◌, arith}
 use mathlib.Core.List.{List}
@@ -17,7 +17,8 @@ use Rattle.rules.specs.Steps.{note_book, remove_book}
 use Rattle.rules.specs.Steps.Notes.{is_id, unqueued, unreplayed, forgotten}
 use Rattle.part_lookup.specs.Normal.{Normal, view_of, normal_of}
 use Rattle.part_change.specs.Changes.{retiring}
-use Rattle.part_change.specs.declared.Retired.{Retired}
+use Rattle.book.specs.declared.refusal.Refusal.{Refusal}
+use Rattle.book.specs.declared.refusal.Refusal.TheVariants as refusals
 
 removed_fits : (i : ℕ) (m : Book) → Fits m → Fits (remove_book i m)
 unfolding remove_book forgotten without unqueued unreplayed
@@ -36,11 +37,11 @@ module _ (b : BookData) (i : ℕ) (h : Normal b) where
   pub removed_normal : {k : BookData} → k ≡ back (remove_book i (view b)) → Normal k
   removed_normal e = normal_of (remove_book i (view b)) e (removed_fits i (view b) h.fits)
 
-  pub withdrawn_is : length (push_new (view b).retired i) ≤ 64 → {k : BookData} → k ≡ back (remove_book i (view b)) → {r : Retired} → r ≡ retiring i (view k)
-      → r.book ≡ back (note_book (retire i) (remove_book i (view b)))
+  pub withdrawn_is : length (push_new (view b).retired i) ≤ 64 → {k : BookData} → k ≡ back (remove_book i (view b)) → {r : Result BookData Refusal} → r ≡ retiring i (view k)
+      → r ≡ Ok (back (note_book (retire i) (remove_book i (view b))))
   unfolding retiring
   withdrawn_is l {k} e {r} q =
-      ap (λ (x : Retired). x.book) q
-      ∙ ap (λ (m : Book). back (cond (ltb 64 (length (push_new m.retired i))) m (note_book (retire i) m))) (view_of (remove_book i (view b)) e)
-      ∙ ap (λ (u : Bool). back (cond u (remove_book i (view b)) (note_book (retire i) (remove_book i (view b)))))
+      q
+      ∙ ap (retiring i) (view_of (remove_book i (view b)) e)
+      ∙ ap (λ (u : Bool). cond u (Err refusals.Full) (Ok (back (note_book (retire i) (remove_book i (view b))))))
       (ap (λ (is : List ℕ). ltb 64 (length (push_new is i))) (kept_retired i (view b)) ∙ le-ltb 64 (length (push_new (view b).retired i)) l)

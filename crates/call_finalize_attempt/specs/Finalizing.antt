@@ -1,7 +1,7 @@
 -- The steps of `finalize_attempt` on the submission at a place: finalise, or attach and finalise, is one store.
-use Rattle.std.specs.Prelude.{ℕ, true, false, ◌≡◌}
+use Rattle.std.specs.Prelude.{ℕ, ◌≡◌}
 use mathlib.Core.List.{[]}
-use Rattle.std.specs.Prelude.{Option, None, Some}
+use Rattle.std.specs.Prelude.{Option, Some}
 use Rattle.std.proofs.Common.{sym, ◌∙◌}
 use Rattle.std.proofs.Math.Path.{ap}
 use Rattle.book.specs.Model.{Book, view, back}
@@ -17,11 +17,9 @@ use Rattle.rules.specs.Steps.Entry.{revised}
 use Rattle.rules.specs.Steps.Slots.{slots_final}
 use Rattle.rules.specs.Calls.FinalizeAttempt.{finalize_as}
 use Rattle.rules.specs.Calls.Finalized.{attached_final}
-use Rattle.part_replies.specs.Reply.{finalize_reply}
-use Rattle.book_answers.specs.Zero.{zero_final}
-use Rattle.part_replies.specs.declared.FinalizeReply.{FinalizeReply}
-use Rattle.part_replies.specs.declared.CallAnswer.TheVariants.{Done}
-use Rattle.part_lookup.specs.Normal.{Normal}
+use Rattle.part_replies.specs.Reply.{reply}
+use Rattle.part_replies.specs.declared.Reply.{Reply}
+use Rattle.std.specs.Prelude.{Ok}
 use Rattle.part_change.specs.Changes.{stored_at}
 use Rattle.part_change.specs.ChangeLaws.{mark_at}
 use Rattle.part_sound_laws.specs.Holds.{holds_sound, holds_lists}
@@ -30,8 +28,8 @@ use Rattle.part_attempt_answers.specs.Stored.{revise_mark}
 use Rattle.call_finalize_attempt.specs.Ready.{Standing}
 
 -- what the code answers where s is stored at k with the final fingerprint of r
-abbrev pub finalized_reply : BookData → ℕ → SubmittedTx → FinalizedSubmission → FinalizeReply
-finalized_reply b k s r = record { answer = Done; present = true; finalized = r; book = back (stored_at k (with_slots (slots_final r.variant_fingerprint) s) (view b)) }
+abbrev pub finalized_reply : BookData → ℕ → SubmittedTx → FinalizedSubmission → Reply (Option FinalizedSubmission) BookData
+finalized_reply b k s r = record { answer = Ok (Some (r)); book = back (stored_at k (with_slots (slots_final r.variant_fingerprint) s) (view b)) }
 
 -- the rules where the fee is attached
 abbrev pub attaching : SpendBundle → SubmittedTx → Rule (Option FinalizedSubmission)
@@ -42,7 +40,7 @@ module _ (b : BookData) (k : ℕ) (s : SubmittedTx) where
   abbrev final : FinalizedSubmission → SubmittedTx → Outcome Book (Option FinalizedSubmission)
   final x y = ended (stored_at k (with_slots (slots_final x.variant_fingerprint) y) (view b)) [] (Some x)
 
-  replied : {r : FinalizedSubmission} (x : FinalizedSubmission) → r ≡ x → finalized_reply b k s r ≡ finalize_reply b (final x s)
+  replied : {r : FinalizedSubmission} (x : FinalizedSubmission) → r ≡ x → finalized_reply b k s r ≡ reply b (final x s)
   replied x e = ap (finalized_reply b k s) e
 
   module _ (h : Standing b k s) where
@@ -53,8 +51,8 @@ module _ (b : BookData) (k : ℕ) (s : SubmittedTx) where
         ∙ ap {B = Outcome Book (Option FinalizedSubmission)} (λ (n : Book). ended n [] (Some x))
         (sym (mark_at (view b) (holds_lists (holds_sound b h.sound)).ids (id_of s) k h.within (ap id_of (sym h.read)) (slots_final x.variant_fingerprint)))
 
-    pub finalize_answer_lem : {r : FinalizedSubmission} (x : FinalizedSubmission) → r ≡ x → finalized_reply b k s r ≡ finalize_reply b (run_book (finalize_as (id_of s) x) (view b))
-    finalize_answer_lem x e = replied x e ∙ ap (finalize_reply b) (final_run x)
+    pub finalize_answer_lem : {r : FinalizedSubmission} (x : FinalizedSubmission) → r ≡ x → finalized_reply b k s r ≡ reply b (run_book (finalize_as (id_of s) x) (view b))
+    finalize_answer_lem x e = replied x e ∙ ap (reply b) (final_run x)
 
 -- attached and finalised
 module _ (b : BookData) (k : ℕ) (s : SubmittedTx) (h : Standing b k s) (j : SpendBundle) where
@@ -70,8 +68,8 @@ module _ (b : BookData) (k : ℕ) (s : SubmittedTx) (h : Standing b k s) (j : Sp
       ∙ attach_base ∙ ap (λ (y : SubmittedTx). run_book (attaching j y) (view b)) (sym h.read)
 
   pub attach_answer : {r : FinalizedSubmission} {e : SubmittedEntry} → r ≡ attached_final j s.entry → e ≡ revised (attach j) s.entry
-      → finalized_reply b k (record { slots = s.slots; entry = e }) r ≡ finalize_reply b (run_book (attaching j s) (view b))
+      → finalized_reply b k (record { slots = s.slots; entry = e }) r ≡ reply b (run_book (attaching j s) (view b))
   attach_answer {r} p q =
       ap (λ (x : SubmittedEntry). finalized_reply b k (record { slots = s.slots; entry = x }) r) q
       ∙ replied b k (with_entry (revised (attach j)) s) (attached_final j s.entry) p
-      ∙ ap (finalize_reply b) attach_run
+      ∙ ap (reply b) attach_run

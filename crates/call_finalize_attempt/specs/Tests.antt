@@ -19,7 +19,7 @@ use Rattle.rules.specs.Calls.Common.{with_live}
 use Rattle.rules.specs.Calls.Finalized.{unused_fee, current_final}
 use Rattle.rules.specs.Calls.FinalizeAttempt.{is_joined, is_not_requested, finalize_as, finalize_with, finalize_live, sound_source, finalize_attempt}
 use Rattle.call_finalize_attempt.specs.Finalizing.{attaching}
-use Rattle.book.specs.Refusals as refusals
+use Rattle.book.specs.declared.refusal.Refusal.TheVariants as refusals
 
 -- ---- the joined bundle
 module _ (source : SubmissionFeeSource) (j : SpendBundle) where
@@ -32,11 +32,11 @@ module _ (source : SubmissionFeeSource) (j : SpendBundle) where
   unjoined_zero p e = ap (λ (x : Bool). cond x (sound_bundle j) (is_zero_bundle j)) (sym e ∙ p)
 
   module _ (t : ℕ) (m : Book) where
-    by_source : {x : Bool} → sound_source source j ≡ x → run_book (finalize_attempt t source j) m ≡ run_book (cond x (with_live t None (finalize_live source j)) (undo refusals.bad_value)) m
+    by_source : {x : Bool} → sound_source source j ≡ x → run_book (finalize_attempt t source j) m ≡ run_book (cond x (with_live t None (finalize_live source j)) (undo refusals.BadValue)) m
     unfolding finalize_attempt
-    by_source e = ap (λ (x : Bool). run_book (cond x (with_live t None (finalize_live source j)) (undo refusals.bad_value)) m) e
+    by_source e = ap (λ (x : Bool). run_book (cond x (with_live t None (finalize_live source j)) (undo refusals.BadValue)) m) e
 
-    pub source_unsound : sound_source source j ≡ false → undone refusals.bad_value ≡ run_book (finalize_attempt t source j) m
+    pub source_unsound : sound_source source j ≡ false → undone refusals.BadValue ≡ run_book (finalize_attempt t source j) m
     unfolding run
     source_unsound e = sym (by_source e)
 
@@ -52,24 +52,24 @@ module _ (source : SubmissionFeeSource) (j : SpendBundle) (s : SubmittedTx) (m :
   unchanged = eqs (current_fingerprint s.entry) s.slots.active_attempt.attempt.drained_variant_fingerprint
 
   by_tests_lem : {a v e : Bool} → finalised ≡ a → validate s.entry ≡ v → unchanged ≡ e
-      → run_book (finalize_live source j s) m ≡ run_book (cond a (undo refusals.already_finalized) (cond (not v) (undo refusals.invalid_submission) (cond e (finalize_with source j s) (undo refusals.stale_variant)))) m
+      → run_book (finalize_live source j s) m ≡ run_book (cond a (undo refusals.AlreadyFinalized) (cond (not v) (undo refusals.InvalidSubmission) (cond e (finalize_with source j s) (undo refusals.StaleVariant)))) m
   unfolding finalize_live
   by_tests_lem {a} {v} p q r =
-      ap (λ (x : Bool). run_book (cond x (undo refusals.already_finalized) (cond (not (validate s.entry)) (undo refusals.invalid_submission) (cond unchanged (finalize_with source j s) (undo refusals.stale_variant)))) m) p
-      ∙ ap (λ (x : Bool). run_book (cond a (undo refusals.already_finalized) (cond (not x) (undo refusals.invalid_submission) (cond unchanged (finalize_with source j s) (undo refusals.stale_variant)))) m) q
-      ∙ ap (λ (x : Bool). run_book (cond a (undo refusals.already_finalized) (cond (not v) (undo refusals.invalid_submission) (cond x (finalize_with source j s) (undo refusals.stale_variant)))) m) r
+      ap (λ (x : Bool). run_book (cond x (undo refusals.AlreadyFinalized) (cond (not (validate s.entry)) (undo refusals.InvalidSubmission) (cond unchanged (finalize_with source j s) (undo refusals.StaleVariant)))) m) p
+      ∙ ap (λ (x : Bool). run_book (cond a (undo refusals.AlreadyFinalized) (cond (not x) (undo refusals.InvalidSubmission) (cond unchanged (finalize_with source j s) (undo refusals.StaleVariant)))) m) q
+      ∙ ap (λ (x : Bool). run_book (cond a (undo refusals.AlreadyFinalized) (cond (not v) (undo refusals.InvalidSubmission) (cond x (finalize_with source j s) (undo refusals.StaleVariant)))) m) r
 
-  pub live_finalised : finalised ≡ true → undone refusals.already_finalized ≡ run_book (finalize_live source j s) m
+  pub live_finalised : finalised ≡ true → undone refusals.AlreadyFinalized ≡ run_book (finalize_live source j s) m
   unfolding run
   live_finalised p = sym (by_tests_lem p refl refl)
 
   module _ (p : finalised ≡ false) where
-    pub live_invalid : validate s.entry ≡ false → undone refusals.invalid_submission ≡ run_book (finalize_live source j s) m
+    pub live_invalid : validate s.entry ≡ false → undone refusals.InvalidSubmission ≡ run_book (finalize_live source j s) m
     unfolding run
     live_invalid q = sym (by_tests_lem p q refl)
 
     module _ (q : validate s.entry ≡ true) where
-      pub live_other : unchanged ≡ false → undone refusals.stale_variant ≡ run_book (finalize_live source j s) m
+      pub live_other : unchanged ≡ false → undone refusals.StaleVariant ≡ run_book (finalize_live source j s) m
       unfolding run
       live_other r = sym (by_tests_lem p q r)
 
@@ -84,12 +84,12 @@ module _ (source : SubmissionFeeSource) (j : SpendBundle) (s : SubmittedTx) (m :
   current = finalize_as (id_of s) (current_final s.slots.active_attempt.attempt.goal s.entry)
 
   by_fee : {o t n : Bool} → fee_unresolved s.entry ≡ o → is_joined source ≡ t → is_not_requested source ≡ n
-      → run_book (finalize_with source j s) m ≡ run_book (cond o (cond t (attaching j s) unused) (cond n current (undo refusals.unrequested_fee))) m
+      → run_book (finalize_with source j s) m ≡ run_book (cond o (cond t (attaching j s) unused) (cond n current (undo refusals.UnrequestedFee))) m
   unfolding finalize_with
   by_fee {o} {t} p q r =
-      ap (λ (x : Bool). run_book (cond x (cond (is_joined source) (attaching j s) unused) (cond (is_not_requested source) current (undo refusals.unrequested_fee))) m) p
-      ∙ ap (λ (x : Bool). run_book (cond o (cond x (attaching j s) unused) (cond (is_not_requested source) current (undo refusals.unrequested_fee))) m) q
-      ∙ ap (λ (x : Bool). run_book (cond o (cond t (attaching j s) unused) (cond x current (undo refusals.unrequested_fee))) m) r
+      ap (λ (x : Bool). run_book (cond x (cond (is_joined source) (attaching j s) unused) (cond (is_not_requested source) current (undo refusals.UnrequestedFee))) m) p
+      ∙ ap (λ (x : Bool). run_book (cond o (cond x (attaching j s) unused) (cond (is_not_requested source) current (undo refusals.UnrequestedFee))) m) q
+      ∙ ap (λ (x : Bool). run_book (cond o (cond t (attaching j s) unused) (cond x current (undo refusals.UnrequestedFee))) m) r
 
   pub fee_attached_lem : fee_unresolved s.entry ≡ true → is_joined source ≡ true → run_book (attaching j s) m ≡ run_book (finalize_with source j s) m
   fee_attached_lem p q = sym (by_fee p q refl)
@@ -100,6 +100,6 @@ module _ (source : SubmissionFeeSource) (j : SpendBundle) (s : SubmittedTx) (m :
   pub fee_current : fee_unresolved s.entry ≡ false → is_not_requested source ≡ true → run_book current m ≡ run_book (finalize_with source j s) m
   fee_current p r = sym (by_fee p refl r)
 
-  pub fee_unasked : fee_unresolved s.entry ≡ false → is_not_requested source ≡ false → undone refusals.unrequested_fee ≡ run_book (finalize_with source j s) m
+  pub fee_unasked : fee_unresolved s.entry ≡ false → is_not_requested source ≡ false → undone refusals.UnrequestedFee ≡ run_book (finalize_with source j s) m
   unfolding run
   fee_unasked p r = sym (by_fee p refl r)

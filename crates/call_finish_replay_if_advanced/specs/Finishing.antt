@@ -14,9 +14,9 @@ use Rattle.rules.specs.Rule.{done, note, end_epoch, act, run}
 use Rattle.rules.specs.Steps.{on_book, run_book, note_book}
 use Rattle.rules.specs.Steps.Notes.{noted}
 use Rattle.rules.specs.Calls.Replay.{is_before, finish_replay_if_advanced}
-use Rattle.part_replies.specs.Reply.{done_reply}
-use Rattle.part_replies.specs.declared.CallAnswer.TheVariants.{Done}
-use Rattle.part_replies.specs.declared.DoneReply.{DoneReply}
+use Rattle.part_replies.specs.Reply.{reply}
+use Rattle.std.specs.Prelude.{Ok}
+use Rattle.part_replies.specs.declared.Reply.{Reply}
 use Rattle.part_replay.specs.Epoch as Epoch
 use Rattle.part_replay.specs.Epoch.{epoch, finished, replayed_of}
 use Rattle.part_replay.specs.EpochLaws.{normal_epoch}
@@ -30,8 +30,8 @@ module _ (b : BookData) where
   by t = cond t (epoch None []) b.replay_epoch
 
   -- the reply with the epoch put into the book
-  abbrev reply_of : ReplayEpoch → DoneReply
-  reply_of y = record { answer = Done; book = back (with_epoch_of y.rollback_height (replayed_of y) (view b)) }
+  abbrev reply_of : ReplayEpoch → Reply (Unit {0}) BookData
+  reply_of y = record { answer = Ok tt; book = back (with_epoch_of y.rollback_height (replayed_of y) (view b)) }
 
   module _ (h : Height) {x : ReplayEpoch} (e : x ≡ finished b.replay_epoch h) where
     pub finished_normal : soundb b ≡ true → Epoch.Normal x
@@ -43,12 +43,12 @@ module _ (b : BookData) where
         go false = epoch_normal b (sound_normal b s)
 
     pub finish_is : {out : BookData} → out ≡ back (with_epoch_of x.rollback_height (replayed_of x) (view b))
-        → record { answer = Done; book = out } ≡ done_reply b (run_book (finish_replay_if_advanced h) (view b))
+        → record { answer = Ok tt; book = out } ≡ reply b (run_book (finish_replay_if_advanced h) (view b))
     unfolding finished finish_replay_if_advanced run on_book note_book noted view
     finish_is f =
-        ap {B = DoneReply} (λ (o : BookData). record { answer = Done; book = o }) f
+        ap {B = Reply (Unit {0}) BookData} (λ (o : BookData). record { answer = Ok tt; book = o }) f
         ∙ ap reply_of e ∙ go (is_before b.replay_epoch.rollback_height h.0)
       where
-        go : (t : Bool) → reply_of (by t) ≡ done_reply b (run_book (cond t (act (note end_epoch) (done tt)) (done tt)) (view b))
+        go : (t : Bool) → reply_of (by t) ≡ reply b (run_book (cond t (act (note end_epoch) (done tt)) (done tt)) (view b))
         go true = refl
         go false = refl

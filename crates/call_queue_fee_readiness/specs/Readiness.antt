@@ -11,8 +11,7 @@ use Rattle.rules.specs.Rule.{Rule, done, ◌>>=◌, ended, run}
 use Rattle.rules.specs.Steps.{run_book}
 use Rattle.rules.specs.Calls.Offer.{offer, goal_for}
 use Rattle.rules.specs.Calls.QueueFeeReadiness.{offer_each, queue_fee_readiness}
-use Rattle.part_offer.specs.Ends.{bind_turn}
-use Rattle.part_offer.specs.Each.{Each}
+use Rattle.part_sound_laws.specs.Outcomes.{Each, bind_turn}
 
 abbrev pub is_ready : SubmittedTx → Bool
 is_ready t = active_entry t.entry && fee_unresolved t.entry

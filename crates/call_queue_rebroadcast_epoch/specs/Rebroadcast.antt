@@ -20,9 +20,8 @@ use Rattle.rules.specs.Rule.{Rule, undo, book, ◌>>=◌, ended, undone, run}
 use Rattle.rules.specs.Steps.{run_book}
 use Rattle.rules.specs.Calls.Offer.{offer, goal_for}
 use Rattle.rules.specs.Calls.QueueRebroadcastEpoch.{rebroadcast_of, rebroadcast, queue_rebroadcast_epoch}
-use Rattle.part_offer.specs.Ends.{bind_turn}
-use Rattle.part_offer.specs.Each.{Each}
-use Rattle.book.specs.Refusals as refusals
+use Rattle.part_sound_laws.specs.Outcomes.{Each, bind_turn}
+use Rattle.book.specs.declared.refusal.Refusal.TheVariants as refusals
 
 -- one id of the list
 abbrev pub rebroadcast_one : DeliveryTrigger → ℕ → Rule (Unit {0})
@@ -47,10 +46,10 @@ module _ (b : BookData) (trigger : DeliveryTrigger) (i : ℕ) where
       ∙ ap (λ (j : ℕ). run_book (offer j trigger (goal_for t.entry)) (view b)) (eqb-true (id_of t) i (first_passes (has_id i) (view b).submitted zero_submitted f))
 
 module _ (is : List ℕ) (trigger : DeliveryTrigger) (m : Book) where
-  pub epoch_long : 64 < length is → run_book (queue_rebroadcast_epoch is trigger) m ≡ undone refusals.bad_list
+  pub epoch_long : 64 < length is → run_book (queue_rebroadcast_epoch is trigger) m ≡ undone refusals.BadList
   unfolding queue_rebroadcast_epoch ids_ok run
-  epoch_long l = ap (λ (t : Bool). run_book (cond t (rebroadcast trigger is) (undo refusals.bad_list)) m) (lt-leb (length is) 64 l)
+  epoch_long l = ap (λ (t : Bool). run_book (cond t (rebroadcast trigger is) (undo refusals.BadList)) m) (lt-leb (length is) 64 l)
 
   pub epoch_taken : length is ≤ 64 → run_book (queue_rebroadcast_epoch is trigger) m ≡ run_book (rebroadcast trigger is) m
   unfolding queue_rebroadcast_epoch ids_ok
-  epoch_taken l = ap (λ (t : Bool). run_book (cond t (rebroadcast trigger is) (undo refusals.bad_list)) m) (le-leb (length is) 64 l)
+  epoch_taken l = ap (λ (t : Bool). run_book (cond t (rebroadcast trigger is) (undo refusals.BadList)) m) (le-leb (length is) 64 l)

@@ -1,55 +1,55 @@
 // `queue_rebroadcast_epoch`: the submissions of a list of ids are offered again, in its order.
 #![tactic(auto)]
 
-ghost use Rattle.std.specs.Prelude.{true, ◌≡◌};
+ghost use Rattle.std.specs.Prelude.{◌≡◌};
 ghost use Rattle.book.specs.Model.{view};
-ghost use Rattle.book.specs.Sound.{soundb};
 ghost use Rattle.rules.specs.Steps.{run_book};
 ghost use Rattle.rules.specs.Calls.QueueRebroadcastEpoch.{rebroadcast as rebroadcastAll, queue_rebroadcast_epoch};
-ghost use Rattle.part_replies.specs.Reply.{done_reply};
-ghost use Rattle.part_offer.specs.Ends.{Ends};
+ghost use Rattle.part_replies.specs.Reply.{reply, outcome_by};
 ghost use Rattle.call_queue_rebroadcast_epoch.specs.Rebroadcast.{rebroadcast_one};
 
-use book::refusals::BAD_LIST;
+use book::refusal::Refusal;
+use book::sound::SoundBook;
 use book::{BookData, DeliveryTrigger, SubmissionId};
 use part_lookup::{position_of, submitted_at};
-use part_offer::{goal_for, offer, refused, settled};
-use part_replies::DoneReply;
+use part_offer::{goal_for, offer};
+use part_replies::{Reply, refused, settled};
 
 // One id of the list.
-fn rebroadcast_one(b: BookData, id: SubmissionId, trigger: DeliveryTrigger) -> Option<BookData>
-    requires { soundb b ≡ true }
-    ensures { Ends tt result (run_book (rebroadcast_one trigger id.0) (view b)) }
+fn rebroadcast_one(
+    b: SoundBook,
+    id: SubmissionId,
+    trigger: DeliveryTrigger,
+) -> Result<SoundBook, Refusal>
+    ensures { run_book (rebroadcast_one trigger id.0) (view b.parts) ≡ outcome_by tt result }
 {
-    let place = position_of(&b, id);
+    let place = position_of(&b.parts, id);
     let Some(k) = place else {
-        return Some(b);
+        return Ok(b);
     };
-    let t = submitted_at(&b, k);
+    let t = submitted_at(&b.parts, k);
     offer(b, id, trigger, goal_for(t.entry))
 }
 
-fn rebroadcast(b: BookData, ids: &[u64], trigger: DeliveryTrigger) -> Option<BookData>
-    requires { soundb b ≡ true }
-    ensures { Ends tt result (run_book (rebroadcastAll trigger ids.now) (view b)) }
+fn rebroadcast(b: SoundBook, ids: &[u64], trigger: DeliveryTrigger) -> Result<SoundBook, Refusal>
+    ensures { run_book (rebroadcastAll trigger ids.now) (view b.parts) ≡ outcome_by tt result }
 {
     let mut out = b;
     for id in ids {
         out = rebroadcast_one(out, SubmissionId(*id), trigger)?;
     }
-    Some(out)
+    Ok(out)
 }
 
 pub fn queue_rebroadcast_epoch_sound(
-    b: BookData,
+    b: SoundBook,
     ids: &[u64],
     trigger: DeliveryTrigger,
-) -> DoneReply
-    requires { soundb b ≡ true }
-    ensures { result ≡ done_reply b (run_book (queue_rebroadcast_epoch ids.now trigger) (view b)) }
+) -> Reply<(), BookData>
+    ensures { result ≡ reply b.parts (run_book (queue_rebroadcast_epoch ids.now trigger) (view b.parts)) }
 {
     if ids.len() > 64 {
-        return refused(b, BAD_LIST);
+        return refused(b.parts, Refusal::BadList);
     }
-    settled(b, rebroadcast(b, ids, trigger))
+    settled(b.parts, rebroadcast(b, ids, trigger), ())
 }

@@ -1,8 +1,7 @@
 -- Halting the submission at a place, and making it Active again: what the rules do, and what the cells are then.
-use Rattle.std.specs.Prelude.{◌≡◌, Bool, true, false, cond, not, ℕ, ◌+◌, ◌≤◌, ◌<◌, eqb, length, set, drop}
+use Rattle.std.specs.Prelude.{◌≡◌, Bool, true, false, cond, not, ℕ, ◌+◌, ◌≤◌, ◌<◌, eqb, length, set, drop, Result, Ok, Err}
 use Rattle.std.proofs.Math.Path.{refl, ap, subst}
 use Rattle.std.proofs.Common.{sym, ◌∙◌, arith, length-set, drop-set-lt}
-use Rattle.std.proofs.lemmas.Bool.{false≢true}
 use mathlib.Core.List.{List, [], ◌∷◌, map}
 use Rattle.std.proofs.Math.ListN.{get_or}
 use Rattle.base_lists.specs.Lists.{distinctb}
@@ -18,24 +17,24 @@ use Rattle.book.specs.declared.SubmissionChainTerminality.TheVariants.{Active}
 use Rattle.book.specs.declared.SubmittedEntry.{SubmittedEntry}
 use Rattle.book.specs.declared.SubmittedTx.{SubmittedTx}
 use Rattle.rules.specs.Keyed.{change}
-use Rattle.rules.specs.Rule.{done, terminality, unqueue, retire, unreplay, note, revise, set_aside, Rule, step, Outcome, ended, undone, logged, guarded, full, run, left}
+use Rattle.rules.specs.Rule.{done, terminality, unqueue, retire, unreplay, note, revise, set_aside, Rule, step, Outcome, ended, undone, logged, guarded, full, run, left, act}
 use Rattle.rules.specs.Steps.{with_submitted, with_entry, with_slots, note_book, revise_book, mark_book, on_book, run_book}
 use Rattle.rules.specs.Steps.Entry.{revised}
 use Rattle.rules.specs.Steps.Notes.{noted, unreplayed}
 use Rattle.rules.specs.Steps.Slots.{slots_aside}
 use Rattle.rules.specs.Calls.ReconcileChainTerminality.{halt}
-use Rattle.rules_laws.specs.Sound.Run.{SoundBook, sound_left}
+use Rattle.rules_laws.specs.Sound.Run.{SoundBook}
 use Rattle.part_replay.specs.Epoch as Epoch
 use Rattle.part_replay.specs.Epoch.{replayed_of, removed}
 use Rattle.part_replay.specs.EpochLaws.{normal_epoch}
 use Rattle.part_lookup.specs.Normal.{Normal, view_of, normal_of}
 use Rattle.part_lookup.specs.PlaceLaws.{change_at}
 use Rattle.part_change.specs.Changes.{stored_at, with_epoch_of, retiring}
-use Rattle.part_change.specs.ChangeLaws.{unqueued_fits, revise_at}
-use Rattle.part_change.specs.declared.Retired.{Retired}
-use Rattle.part_sound_laws.specs.Holds.{Holds, holds_sound, holds_view, holds_lists, holds_soundb, holds_quiet, sound_stepped}
-use Rattle.part_sound_laws.specs.RetireLaws.{retire_limit, retire_book}
-use Rattle.book.specs.Refusals as refusals
+use Rattle.part_change.specs.ChangeLaws.{revise_at}
+use Rattle.part_sound_laws.specs.Holds.{Holds, holds_sound, holds_view, holds_normal, holds_lists, holds_soundb, holds_step, holds_quiet, sound_stepped}
+use Rattle.part_sound_laws.specs.Acts.{logged_none}
+use Rattle.part_sound_laws.specs.RetireLaws.{run_full, run_retired, retire_limit, retire_book}
+use Rattle.book.specs.declared.refusal.Refusal.{Refusal}
 
 -- the terminality anew, and the live attempt set aside
 abbrev pub halted_tx : SubmissionChainTerminality → SubmittedTx → SubmittedTx
@@ -44,28 +43,20 @@ halted_tx c t = with_slots slots_aside (with_entry (revised (terminality c)) t)
 abbrev pub reactivate_rule : ℕ → Rule (Unit {0})
 reactivate_rule i = step (revise i (terminality Active))
 
--- ---- what a judgement of the submission at k answers: the book that the rules leave, whose later submissions are as before, or full
-pub record Kept (r : Rule (Unit {0})) (k : ℕ) (b out : BookData) : Type 0 where
-  pub sound : soundb out ≡ true
-  pub run : run_book r (view b) ≡ ended (view out) [] tt
-  pub count : length (view out).submitted ≡ length (view b).submitted
-  pub later : drop (k + 1) (view out).submitted ≡ drop (k + 1) (view b).submitted
+-- ---- the submissions behind the place k are as before
+pub record Later (k : ℕ) (m n : Book) : Type 0 where
+  pub count : length n.submitted ≡ length m.submitted
+  pub later : drop (k + 1) n.submitted ≡ drop (k + 1) m.submitted
 
-pub record Judged (r : Rule (Unit {0})) (k : ℕ) (b : BookData) (x : Retired) : Type 0 where
-  pub kept : x.full ≡ false → Kept r k b x.book
-  pub over : x.full ≡ true → run_book r (view b) ≡ undone refusals.full
+pub later_same : (k : ℕ) (m : Book) → Later k m m
+later_same k m = record { count = refl; later = refl }
 
--- a judgement that stores at k and keeps the book sound
-pub kept_store : (r : Rule (Unit {0})) (k : ℕ) (b : BookData) {out : BookData} {m : Book} (u : SubmittedTx)
-    → Holds out m → run_book r (view b) ≡ ended m [] tt → m.submitted ≡ set (view b).submitted k u → Kept r k b out
-kept_store r k b {out} {m} u h e s =
-    let v : (view out).submitted ≡ set (view b).submitted k u = ap (λ (n : Book). n.submitted) (holds_view h) ∙ s in
-    record {
-      sound = holds_soundb h;
-      run = e ∙ ap (λ (n : Book). ended n [] tt) (sym (holds_view h));
-      count = ap length v ∙ length-set (view b).submitted k u;
-      later = ap (drop (k + 1)) v ∙ drop-set-lt (k + 1) (view b).submitted k u (omega arith);
-    }
+-- a store at k
+later_store : (k : ℕ) (m n : Book) (u : SubmittedTx) → n.submitted ≡ set m.submitted k u → Later k m n
+later_store k m n u v = record {
+  count = ap length v ∙ length-set m.submitted k u;
+  later = ap (drop (k + 1)) v ∙ drop-set-lt (k + 1) m.submitted k u (omega arith);
+}
 
 -- ---- halting, on lists
 -- two changes of one element are one
@@ -85,17 +76,12 @@ module _ (i : ℕ) (c : SubmissionChainTerminality) (m : Book) where
   abbrev retired_book : Book
   retired_book = note_book (retire i) (halted_book i c m)
 
-  -- what the five steps come to, by whether the last makes the book full
-  abbrev by_room : Bool → Outcome Book (Unit {0})
-  by_room t = logged [] (logged [] (logged [] (logged [] (guarded t (logged [] (ended retired_book [] tt))))))
-
-  halt_over : full retired_book ≡ true → run_book (halt i c) m ≡ undone refusals.full
+  -- the first four steps are never refused
+  halt_retires : run_book (halt i c) m ≡ run_book (act (note (retire i)) (done tt)) (halted_book i c m)
   unfolding run halt on_book
-  halt_over e = ap by_room e
-
-  halt_ends : full retired_book ≡ false → run_book (halt i c) m ≡ ended retired_book [] tt
-  unfolding run halt on_book
-  halt_ends e = ap by_room e
+  halt_retires =
+      let o = run_book (act (note (retire i)) (done tt)) (halted_book i c m) in
+      logged_none (logged [] (logged [] (logged [] o))) ∙ logged_none (logged [] (logged [] o)) ∙ logged_none (logged [] o) ∙ logged_none o
 
   halted_sound : SoundBook m → SoundBook (halted_book i c m)
   unfolding on_book
@@ -104,9 +90,6 @@ module _ (i : ℕ) (c : SubmissionChainTerminality) (m : Book) where
       let s2 = sound_stepped (note (unreplay i)) (revise_book i (terminality c) m) s1 refl in
       let s3 = sound_stepped (note (unqueue i)) (note_book (unreplay i) (revise_book i (terminality c) m)) s2 refl in
       sound_stepped (set_aside i) (note_book (unqueue i) (note_book (unreplay i) (revise_book i (terminality c) m))) s3 refl
-
-  retired_sound : SoundBook m → full retired_book ≡ false → SoundBook retired_book
-  retired_sound s e = subst (λ (o : Outcome Book (Unit {0})). SoundBook (left m o)) (halt_ends e) (sound_left (halt i c) m s)
 
   module _ (distinct : distinctb (map id_of m.submitted) ≡ true) (k : ℕ) (within : k < length m.submitted) (here : id_of (get_or m.submitted k zero_submitted) ≡ i) where
     -- both changes of the submission are one store at its place
@@ -125,29 +108,15 @@ module _ (i : ℕ) (c : SubmissionChainTerminality) (m : Book) where
     unfolding mark_book note_book noted revise_book
     halted_stored = ap (λ (ts : List SubmittedTx). with_submitted ts (note_book (unqueue i) (note_book (unreplay i) m))) one_store
 
+    pub halt_later : Later k m (left m (run_book (halt i c) m))
+    unfolding run on_book
+    halt_later = subst (λ (o : Outcome Book (Unit {0})). Later k m (left m o)) (sym halt_retires) (go (full retired_book))
+      where
+        go : (t : Bool) → Later k m (left m (guarded t (logged [] (ended retired_book [] (tt {0})))))
+        go true = later_same k m
+        go false = later_store k m retired_book (halted_tx c (get_or m.submitted k zero_submitted)) halted_submitted
+
 -- ---- halting, in cells
--- a retirement of what is halted but for it
-module _ (i : ℕ) (c : SubmissionChainTerminality) (b : BookData) (sound : soundb b ≡ true) (k : ℕ) (within : k < length (view b).submitted) (here : id_of (get_or (view b).submitted k zero_submitted) ≡ i) where
-  still : SoundBook (view b)
-  still = (holds_sound b sound).sound
-
-  retired_by : (r : Retired) → r ≡ retiring i (halted_book i c (view b)) → Judged (halt i c) k b r
-  unfolding retiring
-  retired_by r e = record { kept = fits; over = λ q. halt_over i c (view b) (room q) }
-    where
-      short : Fits (halted_book i c (view b))
-      short = (halted_sound i c (view b) still).fits
-
-      room : {t : Bool} → r.full ≡ t → full (note_book (retire i) (halted_book i c (view b))) ≡ t
-      room q = retire_limit i (halted_book i c (view b)) short e q
-
-      fits : r.full ≡ false → Kept (halt i c) k b r.book
-      fits q =
-          kept_store (halt i c) k b (halted_tx c (get_or (view b).submitted k zero_submitted))
-          (record { cells = retire_book i (halted_book i c (view b)) short e q; sound = retired_sound i c (view b) still (room q) })
-          (halt_ends i c (view b) (room q))
-          (halted_submitted i c (view b) (holds_lists (holds_sound b sound)).ids k within here)
-
 stored_fits : (k : ℕ) (u : SubmittedTx) (m : Book) → Fits m → Fits (stored_at k u m)
 stored_fits k u m f = record { submitted = omega (arith, length-set m.submitted k u, f.submitted); pending = f.pending; retired = f.retired; replayed = f.replayed }
 
@@ -217,44 +186,64 @@ module _ {b : BookData} {k : ℕ} {c : SubmissionChainTerminality} {t : Submitte
       unqueued_is : q ≡ back (note_book (unqueue (id_of t)) m2)
       unqueued_is = qe ∙ ap (λ (m : Book). back (note_book (unqueue (id_of t)) m)) (view_of m2 unmarked_is)
 
+      halted_holds : Holds q (halted_book (id_of t) c (view b))
+      halted_holds = record { cells = unqueued_is ∙ ap back (sym all_but); sound = halted_sound (id_of t) c (view b) (holds_sound b h.sound).sound }
+
       pub unqueued_normal : Normal q
-      unqueued_normal = normal_of (note_book (unqueue (id_of t)) m2) unqueued_is (unqueued_fits (id_of t) m2 (unmarked_fits (id_of t) m1 fits1))
+      unqueued_normal = holds_normal halted_holds
 
-      pub halted_by : (r : Retired) → r ≡ retiring (id_of t) (view q) → Judged (halt (id_of (get_or (view b).submitted k zero_submitted)) c) k b r
-      halted_by r e =
-          subst (λ (y : SubmittedTx). Judged (halt (id_of y) c) k b r) h.there
-          (retired_by (id_of t) c b h.sound k h.within (ap id_of (sym h.there)) r (e ∙ ap (retiring (id_of t)) (view_of (note_book (unqueue (id_of t)) m2) unqueued_is ∙ sym all_but)))
+      -- the halt's outcome is that of the retirement from q
+      halt_as : run_book (halt (id_of (get_or (view b).submitted k zero_submitted)) c) (view b) ≡ run_book (act (note (retire (id_of t))) (done tt)) (halted_book (id_of t) c (view b))
+      halt_as = ap (λ (y : SubmittedTx). run_book (halt (id_of y) c) (view b)) (sym h.there) ∙ halt_retires (id_of t) c (view b)
 
--- ---- Active again, or as it was
-module _ (b : BookData) (sound : soundb b ≡ true) (k : ℕ) where
-  pub reactivated_by : (t : SubmittedTx) → t ≡ get_or (view b).submitted k zero_submitted → k < length (view b).submitted → (e : SubmittedEntry) → e ≡ revised (terminality Active) t.entry
-      → (out : BookData) → out ≡ back (stored_at k (record { slots = t.slots; entry = e }) (view b))
-      → Judged (reactivate_rule (id_of (get_or (view b).submitted k zero_submitted))) k b (record { full = false; book = out })
+      retired_halted : {r : Result BookData Refusal} → r ≡ retiring (id_of t) (view q) → r ≡ retiring (id_of t) (halted_book (id_of t) c (view b))
+      retired_halted e = e ∙ ap (retiring (id_of t)) (holds_view halted_holds)
+
+      pub halt_full : {n : Refusal} → Err n ≡ retiring (id_of t) (view q) → run_book (halt (id_of (get_or (view b).submitted k zero_submitted)) c) (view b) ≡ undone n
+      halt_full e = halt_as ∙ run_full (id_of t) (halted_book (id_of t) c (view b)) halted_holds.sound.fits (retired_halted e) (done tt)
+
+      module _ {p : BookData} (e : Ok p ≡ retiring (id_of t) (view q)) where
+        kept_holds : Holds p (note_book (retire (id_of t)) (halted_book (id_of t) c (view b)))
+        unfolding on_book
+        kept_holds =
+            holds_step halted_holds (note (retire (id_of t))) (retire_limit (id_of t) (halted_book (id_of t) c (view b)) halted_holds.sound.fits (retired_halted e))
+            (retire_book (id_of t) (halted_book (id_of t) c (view b)) halted_holds.sound.fits (retired_halted e)
+            ∙ ap (λ (m : Book). back (note_book (retire (id_of t)) m)) (sym (holds_view halted_holds)))
+
+        pub halt_sound : soundb p ≡ true
+        halt_sound = holds_soundb kept_holds
+
+        pub halt_on : run_book (halt (id_of (get_or (view b).submitted k zero_submitted)) c) (view b) ≡ ended (view p) [] tt
+        unfolding run
+        halt_on =
+            halt_as ∙ run_retired (id_of t) (halted_book (id_of t) c (view b)) halted_holds.sound.fits (retired_halted e) (done tt)
+            ∙ ap (λ (m : Book). ended m [] tt) (sym (holds_view kept_holds))
+
+-- ---- Active again
+-- a revision of the submission at k leaves those behind it
+pub reactivate_later : (m : Book) → distinctb (map id_of m.submitted) ≡ true → (k : ℕ) → k < length m.submitted → Later k m (left m (run_book (reactivate_rule (id_of (get_or m.submitted k zero_submitted))) m))
+unfolding run on_book
+reactivate_later m d k within =
+    let u = get_or m.submitted k zero_submitted in
+    let i = id_of u in
+    later_store k m (revise_book i (terminality Active) m) (with_entry (revised (terminality Active)) u) (ap (λ (n : Book). n.submitted) (revise_at m d i k within refl (terminality Active)))
+
+module _ (b : BookData) (sound : soundb b ≡ true) (k : ℕ) (within : k < length (view b).submitted) {t : SubmittedTx} (there : t ≡ get_or (view b).submitted k zero_submitted)
+    {e : SubmittedEntry} (ee : e ≡ revised (terminality Active) t.entry) {out : BookData} (oe : out ≡ back (stored_at k (record { slots = t.slots; entry = e }) (view b))) where
+  abbrev u : SubmittedTx
+  u = get_or (view b).submitted k zero_submitted
+
+  active_holds : Holds out (revise_book (id_of u) (terminality Active) (view b))
+  unfolding on_book
+  active_holds = holds_quiet (holds_sound b sound) (revise (id_of u) (terminality Active)) refl
+      (oe
+      ∙ ap (λ (y : SubmittedEntry). back (stored_at k (record { slots = t.slots; entry = y }) (view b))) ee
+      ∙ ap (λ (y : SubmittedTx). back (stored_at k (with_entry (revised (terminality Active)) y) (view b))) there
+      ∙ ap back (sym (revise_at (view b) (holds_lists (holds_sound b sound)).ids (id_of u) k within refl (terminality Active))))
+
+  pub active_sound : soundb out ≡ true
+  active_sound = holds_soundb active_holds
+
+  pub active_on : run_book (reactivate_rule (id_of u)) (view b) ≡ ended (view out) [] tt
   unfolding run on_book
-  reactivated_by t there within e ee out oe = record {
-    kept = λ q. kept_store (reactivate_rule i) k b (with_entry (revised (terminality Active)) u) (holds_quiet held (revise i (terminality Active)) refl cells) refl (ap (λ (m : Book). m.submitted) stored);
-    over = λ q. absurd (false≢true q);
-  }
-    where
-      u : SubmittedTx
-      u = get_or (view b).submitted k zero_submitted
-
-      i : ℕ
-      i = id_of u
-
-      held : Holds b (view b)
-      held = holds_sound b sound
-
-      stored : revise_book i (terminality Active) (view b) ≡ stored_at k (with_entry (revised (terminality Active)) u) (view b)
-      stored = revise_at (view b) (holds_lists held).ids i k within refl (terminality Active)
-
-      cells : out ≡ back (revise_book i (terminality Active) (view b))
-      cells =
-          oe
-          ∙ ap (λ (y : SubmittedEntry). back (stored_at k (record { slots = t.slots; entry = y }) (view b))) ee
-          ∙ ap (λ (y : SubmittedTx). back (stored_at k (with_entry (revised (terminality Active)) y) (view b))) there
-          ∙ ap back (sym stored)
-
-  pub unchanged_by : Judged (done tt) k b (record { full = false; book = b })
-  unfolding run
-  unchanged_by = record { kept = λ q. record { sound = sound; run = refl; count = refl; later = refl }; over = λ q. absurd (false≢true q) }
+  active_on = ap (λ (n : Book). ended n [] tt) (sym (holds_view active_holds))

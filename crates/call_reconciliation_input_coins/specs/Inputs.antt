@@ -1,29 +1,25 @@
 -- `reconciliation_input_coins`: the loop over the submissions, and the answers.
-use Rattle.std.specs.Prelude.{◌≡◌, refl, Bool, true, false, cond, ◌||◌, ℕ, ◌+◌, ◌≤◌, length}
+use Rattle.std.specs.Prelude.{◌≡◌, refl, Bool, true, false, cond, ℕ, ◌+◌, ◌≤◌, length}
 use Rattle.std.proofs.Math.Path.{sym, ap}
 use Rattle.std.proofs.Common.{◌∙◌, arith}
-use Rattle.std.proofs.Math.Bool.{not}
 use mathlib.Core.List.{List, [], ◌∷◌, ◌++◌}
 use Rattle.std.specs.List.{filter, flat_map}
 use Rattle.codec_forms.specs.Wire.{be, enc_many}
 use Rattle.base_coin_string.specs.CoinList.{coins_in, coin_listb}
 use Rattle.book.specs.Model.{Book}
-use Rattle.book.specs.declared.SubmittedEntry.{SubmittedEntry}
 use Rattle.book.specs.declared.SubmittedTx.{SubmittedTx}
 use Rattle.book_coins.specs.Coins.{input_coins}
 use Rattle.rules.specs.CoinLists.{rising_coins, encode_coin, encode_coins}
-use Rattle.rules.specs.Parts.{is_landed}
 use Rattle.rules.specs.Rule.{undone}
 use Rattle.rules.specs.Steps.{run_book}
 use Rattle.rules.specs.Calls.Common.{writing}
-use Rattle.rules.specs.Calls.ReconcileChainTerminality.{output_observed}
 use Rattle.rules.specs.Calls.ReconciliationInputCoins.{is_reconciled, input_coins_to_reconcile, reconciliation_input_coins}
 use Rattle.part_coin_lists.specs.declared.Coins64.{Coins64}
 use Rattle.part_coin_lists.specs.Coins.{coins_of, insert_all, InsertedInputs, rising_none}
 use Rattle.part_coin_lists.specs.ListLaws.{fold_append}
 use Rattle.part_coin_lists.specs.Writing.{encode_coins_lem}
 use Rattle.part_written_answers.specs.Answers.{let_in, turned_away_lem}
-use Rattle.book.specs.Refusals as refusals
+use Rattle.book.specs.declared.refusal.Refusal.TheVariants as refusals
 
 abbrev pub inputs_of : SubmittedTx → List (List ℕ)
 inputs_of t = input_coins t.entry.intent.base_bundle
@@ -43,18 +39,6 @@ gathered_none t s e = record { is = sym (ap (λ (p : Bool). cond p (insert_all (
 
 pub gathered_some : {outputs : List (List ℕ)} (t : SubmittedTx) {s r : Coins64} → is_reconciled outputs t.entry ≡ true → InsertedInputs t.entry.intent.base_bundle s r → Gathered outputs t s r
 gathered_some t {s} e q = record { is = q.is ∙ sym (ap (λ (p : Bool). cond p (insert_all (coins_of s) (inputs_of t)) (coins_of s)) e); few = q.few }
-
--- ---- whether a submission is to be reconciled
-module _ (outputs : List (List ℕ)) (e : SubmittedEntry) where
-  asked : {t : Bool} → is_landed e.state.status.chain_terminality ≡ t → (not t || output_observed outputs e.intent) ≡ is_reconciled outputs e
-  unfolding is_reconciled output_observed
-  asked h = sym (ap (λ (t : Bool). not t || output_observed outputs e.intent) h)
-
-  pub not_landed : is_landed e.state.status.chain_terminality ≡ false → true ≡ is_reconciled outputs e
-  not_landed h = asked h
-
-  pub landed : is_landed e.state.status.chain_terminality ≡ true → output_observed outputs e.intent ≡ is_reconciled outputs e
-  landed h = asked h
 
 -- ---- the loop: acc holds what is passed, and ts are left of what makes w
 pub record Gathering (w : List (List ℕ)) (outputs : List (List ℕ)) (acc : Coins64) (ts : List SubmittedTx) : Type 0 where
@@ -88,7 +72,7 @@ to_reconcile outputs m = refl
 
 -- ---- the answers
 module _ (outputs : List ℕ) (room : ℕ) (m : Book) where
-  pub inputs_bad : coin_listb outputs ≡ false → run_book (reconciliation_input_coins outputs room) m ≡ undone refusals.bad_list
+  pub inputs_bad : coin_listb outputs ≡ false → run_book (reconciliation_input_coins outputs room) m ≡ undone refusals.BadList
   unfolding reconciliation_input_coins
   inputs_bad e = turned_away_lem (λ b. writing room (encode_coins (input_coins_to_reconcile (coins_in outputs) b))) m e
 

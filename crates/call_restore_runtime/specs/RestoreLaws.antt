@@ -16,9 +16,9 @@ use Rattle.rules.specs.Rule.{set_aside, run}
 use Rattle.rules.specs.Steps.{on_book, run_book, with_slots, mark_book}
 use Rattle.rules.specs.Steps.Slots.{slots_aside}
 use Rattle.rules.specs.Calls.RestoreRuntime.{set_aside_each, restore_runtime}
-use Rattle.part_replies.specs.Reply.{done_reply}
-use Rattle.part_replies.specs.declared.CallAnswer.TheVariants.{Done}
-use Rattle.part_replies.specs.declared.DoneReply.{DoneReply}
+use Rattle.part_replies.specs.Reply.{reply}
+use Rattle.std.specs.Prelude.{Ok}
+use Rattle.part_replies.specs.declared.Reply.{Reply}
 use Rattle.part_ids.specs.Counted.{counted_get}
 use Rattle.part_lookup.specs.Normal.{Normal, submitted_are}
 use Rattle.part_change.specs.Changes.{stored_at}
@@ -78,11 +78,11 @@ module _ {b out : BookData} {i : ℕ} (v : Restoring b out i) where
         left : drop (i + 1) after.submitted ≡ drop (i + 1) before
         left = ap (λ (m : Book). drop (i + 1) m.submitted) marked ∙ drop-set-lt (i + 1) before i next (omega arith)
 
-  pub restore_end : out.submitted_count ≤ i → record { answer = Done; book = out } ≡ done_reply b (run_book restore_runtime (view b))
+  pub restore_end : out.submitted_count ≤ i → record { answer = Ok tt; book = out } ≡ reply b (run_book restore_runtime (view b))
   unfolding set_aside_each run
   restore_end l =
-      ap {B = DoneReply} (λ (x : BookData). record { answer = Done; book = x }) (holds_sound out v.sound).cells
-      ∙ ap (done_reply b) (sym (v.rest ∙ ap (λ (ts : List SubmittedTx). run_book (set_aside_each (map id_of ts)) (view out)) (drop_of_length-le before {i = i} past)))
+      ap {B = Reply (Unit {0}) BookData} (λ (x : BookData). record { answer = Ok tt; book = x }) (holds_sound out v.sound).cells
+      ∙ ap (reply b) (sym (v.rest ∙ ap (λ (ts : List SubmittedTx). run_book (set_aside_each (map id_of ts)) (view out)) (drop_of_length-le before {i = i} past)))
     where
       past : length before ≤ i
       past = let c = (submitted_are out normal).count in omega arith

@@ -14,13 +14,13 @@ use Rattle.rules.specs.Rule.{Outcome, ended, run}
 use Rattle.rules.specs.Steps.{with_slots, on_book, run_book}
 use Rattle.rules.specs.Steps.Slots.{slots_aside}
 use Rattle.rules.specs.Calls.StopAttempt.{stop_live}
-use Rattle.part_replies.specs.Reply.{status_reply}
-use Rattle.part_replies.specs.declared.CallAnswer.TheVariants.{Done}
+use Rattle.part_replies.specs.Reply.{reply}
+use Rattle.std.specs.Prelude.{Ok}
 use Rattle.part_change.specs.Changes.{stored_at}
 use Rattle.part_change.specs.ChangeLaws.{mark_at}
 use Rattle.part_sound_laws.specs.Holds.{holds_sound, holds_lists}
 use Rattle.part_attempt_answers.specs.Live.{at}
-use Rattle.part_attempt_answers.specs.Answers.{status_ended}
+use Rattle.part_attempt_answers.specs.Answers.{done_reply}
 
 module _ (b : BookData) (sound : soundb b ≡ true) (k : ℕ) (within : k < length (view b).submitted) where
   stop_run : ended (stored_at k (with_slots slots_aside (at (view b) k)) (view b)) [] Applied ≡ run_book (stop_live (at (view b) k)) (view b)
@@ -30,9 +30,9 @@ module _ (b : BookData) (sound : soundb b ≡ true) (k : ℕ) (within : k < leng
 
   pub stop_answer : {s : SubmittedTx} {x : AttemptSlots} {out : BookData} → s ≡ at (view b) k → x ≡ slots_aside s.slots
       → out ≡ back (stored_at k (record { slots = x; entry = s.entry }) (view b))
-      → record { answer = Done; status = Applied; book = out } ≡ status_reply b (run_book (stop_live (at (view b) k)) (view b))
+      → record { answer = Ok Applied; book = out } ≡ reply b (run_book (stop_live (at (view b) k)) (view b))
   stop_answer {s} p q e =
-      status_ended b Applied
+      done_reply b Applied
       (e
       ∙ ap (λ (y : AttemptSlots). back (stored_at k (record { slots = y; entry = s.entry }) (view b))) q
       ∙ ap (λ (y : SubmittedTx). back (stored_at k (with_slots slots_aside y) (view b))) p)

@@ -1,43 +1,40 @@
 // `stop_attempt`: the live attempt is set aside.
 #![tactic(auto)]
 
-ghost use Rattle.std.specs.Prelude.{◌<◌, true, ◌≡◌, length};
+ghost use Rattle.std.specs.Prelude.{◌<◌, ◌≡◌, length};
 ghost use Rattle.book.specs.Model.{view};
-ghost use Rattle.book.specs.Sound.{soundb};
 ghost use Rattle.rules.specs.Steps.{run_book};
 ghost use Rattle.rules.specs.Calls.StopAttempt.{stop_live, stop_attempt};
-ghost use Rattle.part_replies.specs.Reply.{status_reply};
+ghost use Rattle.part_replies.specs.Reply.{reply};
 ghost use Rattle.part_attempt_answers.specs.Live.{at};
 
+use book::sound::SoundBook;
 use book::{BookData, Token};
 use book_answers::SubmissionAttemptStatus;
-use part_attempt_answers::{live_place, status_done, status_inactive};
+use part_attempt_answers::{inactive, live_place};
 use part_change::store_submitted;
 use part_lookup::{find_attempt, submitted_at};
-use part_replies::StatusReply;
-use part_slots::stop_lent;
+use part_replies::{Reply, done};
+use part_slots::stop_in_place;
 
-pub fn stop_attempt_sound(b: BookData, t: Token) -> StatusReply
-    requires { soundb b ≡ true }
-    ensures { result ≡ status_reply b (run_book (stop_attempt t.0) (view b)) }
+// The look-up of the token is that of the other attempt calls: a shared one would be told the rest of the call, with its contract.
+pub fn stop_attempt_sound(b: SoundBook, t: Token) -> Reply<SubmissionAttemptStatus, BookData>
+    ensures { result ≡ reply b.parts (run_book (stop_attempt t.0) (view b.parts)) }
 {
-    let place = find_attempt(&b, t);
-    let live = live_place(place);
-    let Some(k) = live else {
-        return status_inactive(b, place);
+    let place = find_attempt(&b.parts, t);
+    let Some(k) = live_place(place) else {
+        return inactive(b, place, SubmissionAttemptStatus::Stale);
     };
     stop_live(b, k)
 }
 
-fn stop_live(b: BookData, k: usize) -> StatusReply
-    requires { (soundb b ≡ true) × (k < length (view b).submitted) }
-    ensures { result ≡ status_reply b (run_book (stop_live (at (view b) k)) (view b)) }
+// A place is one of this book only: a struct of both would lend or copy the book.
+fn stop_live(b: SoundBook, k: usize) -> Reply<SubmissionAttemptStatus, BookData>
+    requires { k < length (view b.parts).submitted }
+    ensures { result ≡ reply b.parts (run_book (stop_live (at (view b.parts) k)) (view b.parts)) }
 {
-    let s = submitted_at(&b, k);
-    let old = s.slots;
-    let slots = stop_lent(old);
-    let mut next = s;
-    next.slots = slots;
-    let out = store_submitted(b, k, next);
-    status_done(out, SubmissionAttemptStatus::Applied)
+    let mut next = submitted_at(&b.parts, k);
+    stop_in_place(&mut next.slots);
+    let out = store_submitted(b.parts, k, next);
+    done(out, SubmissionAttemptStatus::Applied)
 }

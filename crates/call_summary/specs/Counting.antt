@@ -6,14 +6,13 @@ use Rattle.book.specs.declared.BookData.{BookData}
 use Rattle.rules.specs.Calls.Summary.{summary}
 use Rattle.rules.specs.Rule.{run}
 use Rattle.rules.specs.Steps.{run_book}
-use Rattle.part_replies.specs.Reply.{summary_reply}
-use Rattle.part_replies.specs.declared.CallAnswer.TheVariants.{Done}
+use Rattle.part_replies.specs.Reply.{reply}
+use Rattle.std.specs.Prelude.{Ok}
 use Rattle.part_lookup.specs.Normal.{Normal, sound_normal, submitted_are, pending_are, retired_are, replayed_are}
 
 pub summary_is_lem : (b : BookData) → soundb b ≡ true
     → record {
-      answer = Done;
-      summary = record {
+      answer = Ok (record {
         next_delivery_attempt_token = b.next_delivery_attempt_token;
         next_submission_id = b.next_submission_id;
         submitted_count = b.submitted_count;
@@ -21,15 +20,14 @@ pub summary_is_lem : (b : BookData) → soundb b ≡ true
         retired_count = b.retired_submission_ids.count;
         replayed_count = b.replay_epoch.replayed_submission_ids.count;
         rollback_height = b.replay_epoch.rollback_height;
-      };
+      });
       book = b;
-    } ≡ summary_reply b (run_book summary (view b))
+    } ≡ reply b (run_book summary (view b))
 unfolding summary run view
 summary_is_lem b s =
     let n : Normal b = sound_normal b s in
     λ i. record {
-      answer = Done;
-      summary = record {
+      answer = Ok (record {
         next_delivery_attempt_token = b.next_delivery_attempt_token;
         next_submission_id = b.next_submission_id;
         submitted_count = (submitted_are b n).count i;
@@ -37,6 +35,6 @@ summary_is_lem b s =
         retired_count = (retired_are b n).count i;
         replayed_count = (replayed_are b n).count i;
         rollback_height = b.replay_epoch.rollback_height;
-      };
+      });
       book = n.held i;
     }

@@ -4,18 +4,19 @@ use Rattle.std.proofs.Common.{ap, ◌∙◌, arith, length-append}
 use Rattle.archive_form.specs.Lengths.{id_size}
 use Rattle.codec_forms.specs.Wire.{be, enc_many}
 use Rattle.codec_forms.specs.Number.{be_length}
-use Rattle.codec_forms.specs.Puts.{Size}
+use Rattle.codec_forms.specs.Puts.{Size, opt_number_few}
 use Rattle.archive_bundle_form.specs.Forms.{encode_bundle, encode_height, encode_fee_intent}
 use Rattle.archive_form.specs.Encode.{encode_id}
 use Rattle.std.specs.Prelude.{Option, Some}
 use Rattle.book.specs.declared.SubmissionId.{SubmissionId}
 use Rattle.rules.specs.Call.{stage_of, retained_id}
 use Rattle.book.specs.declared.Token.{Token}
-use Rattle.std.specs.Prelude.{None, Some}
+use Rattle.std.specs.Prelude.{Some}
 use Rattle.book_answers.specs.declared.DrainedSubmission.{DrainedSubmission}
 use Rattle.book_answers.specs.declared.SubmissionDrainFailure.{SubmissionDrainFailure}
 use Rattle.book_answers.specs.declared.SubmissionDrainFailureStage.{SubmissionDrainFailureStage}
 use Rattle.book_answers.specs.declared.SubmissionDrainFailureStage.TheVariants as stage
+use Rattle.part_drain_answers.specs.declared.Drained.{Drained}
 use Rattle.codec_answers.specs.Forms.{relationship_number, encode_token, encode_drained}
 
 abbrev pub stage_number : SubmissionDrainFailureStage → ℕ
@@ -38,11 +39,15 @@ unfoldable pub encode_failures : ℕ → List SubmissionDrainFailure → List �
 unfolding be enc_many encode_failure
 encode_failures n a = be 1 (min n 16) ++ enc_many encode_failure (take n a)
 
+-- what a drain hands out: its submissions, then its failures
+unfoldable pub encode_handed_out : Drained → List ℕ
+unfolding encode_submissions encode_failures
+encode_handed_out d = encode_submissions d.submission_count d.submissions ++ encode_failures d.failure_count d.failures
+
 -- ---- lengths
 pub token_most : (t : Option Token) → length (encode_token t) ≤ 9
 unfolding encode_token
-token_most None = omega (arith, be_length 1 0)
-token_most (Some t) = omega (arith, length-append (be 1 1) (be 8 t.0), be_length 1 1, be_length 8 t.0)
+token_most = opt_number_few (λ t. t.0)
 
 pub drained_most : (d : DrainedSubmission) {i j k : ℕ} → Size (encode_bundle d.bundle) 1073 i → Size (encode_height d.expiry) 9 j → Size (encode_fee_intent d.fee_intent) 41 k → length (encode_drained d) ≤ 1149
 unfolding encode_drained

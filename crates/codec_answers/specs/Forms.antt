@@ -1,11 +1,11 @@
 -- The answers of docs/DRIVER.md that have no archive form.
-use Rattle.std.specs.Prelude.{◌≡◌, Bool, true, false, List, ◌++◌, ℕ, min, take}
-use Rattle.std.proofs.Common.{sym, ap}
-use Rattle.codec_forms.specs.Wire.{be, enc_many}
+use Rattle.std.specs.Prelude.{Bool, true, false, List, ◌++◌, ℕ, min, take}
+use Rattle.codec_forms.specs.Wire.{be, enc_many, enc_opt_number}
 use Rattle.archive_bundle_form.specs.Forms.{encode_bundle, encode_height, encode_fee_intent}
 use Rattle.book.specs.declared.Ids.{Ids}
-use Rattle.part_replies.specs.declared.CallAnswer.{CallAnswer}
-use Rattle.part_replies.specs.declared.CallAnswer.TheVariants.{Done, Refused}
+use Rattle.book.specs.Refusals.{refusal_number}
+use Rattle.book.specs.declared.refusal.Refusal.{Refusal}
+use Rattle.std.specs.Prelude.{Result, Ok, Err}
 use Rattle.archive_form.specs.Encode.{chain_number, resolution_number}
 use Rattle.book_answers.specs.declared.BookSummary.{BookSummary}
 use Rattle.book_answers.specs.declared.SubmissionLook.{SubmissionLook}
@@ -25,9 +25,15 @@ abbrev pub flag_number : Bool → ℕ
 flag_number false = 0
 flag_number true = 1
 
-abbrev pub refusal_number : CallAnswer → ℕ
-refusal_number Done = 0
-refusal_number (Refused n) = n
+-- 0, or the refusal's number
+abbrev pub answer_number : {A : Type 0} → Result A Refusal → ℕ
+answer_number (Ok v) = 0
+answer_number (Err n) = refusal_number n
+
+-- a value that may be absent: 0, or 1 and the value
+abbrev pub enc_option : {A : Type 0} → (A → List ℕ) → Option A → List ℕ
+enc_option form None = be 1 0
+enc_option form (Some x) = be 1 1 ++ form x
 
 abbrev pub status_number : SubmissionAttemptStatus → ℕ
 status_number Applied = 0
@@ -50,17 +56,7 @@ unfolding be enc_many
 encode_ids i = be 1 (min i.count 64) ++ enc_many (be 8) (take i.count i.items)
 
 unfoldable pub encode_token : Option Token → List ℕ
-unfolding be
-encode_token None = be 1 0
-encode_token (Some t) = be 1 1 ++ be 8 t.0
-
-pub token_no : (t : Option Token) → t ≡ None → be 1 0 ≡ encode_token t
-unfolding encode_token
-token_no t e = sym (ap encode_token e)
-
-pub token_of_lem : (t : Option Token) (x : Token) → t ≡ Some x → be 1 1 ++ be 8 x.0 ≡ encode_token t
-unfolding encode_token
-token_of_lem t x e = sym (ap encode_token e)
+encode_token = enc_opt_number (λ t. t.0)
 
 -- what a submission holds: chain, acknowledged, fee mark, applied fee, expiry, live token, set-aside token
 unfoldable pub encode_look : SubmissionLook → List ℕ

@@ -1,29 +1,23 @@
 // What a drain hands out: submissions and failures.
 ghost use Rattle.std.specs.Prelude.{List, ◌++◌, ℕ, ◌+◌, ◌*◌, min, take};
 ghost use Rattle.codec_forms.specs.Wire.{be, enc_many};
-ghost use Rattle.archive_form.specs.Encode.{encode_id};
 ghost use Rattle.codec_append.specs.Fits.{Fits, FitsWithin};
 ghost use Rattle.codec_answers.specs.Forms.{encode_token, encode_drained};
-ghost use Rattle.codec_answers.specs.Drain.{encode_failure, encode_submissions, encode_failures};
+ghost use Rattle.codec_answers.specs.Drain.{encode_failure, encode_submissions, encode_failures, encode_handed_out};
 
 use archive_bundle_size::{size_bundle, size_fee_intent, size_height};
 use archive_bundle_write::write::{append_bundle, append_fee_intent, append_height};
 use archive_entry_write::append_id;
-use book::{SubmissionId, Token};
+use book::Token;
 use book_answers::{DrainedSubmission, SubmissionDrainFailure};
-use codec_append::{append_byte, append_bytes, append_number};
-use part_drain_answers::{retained_id, stage_of};
+use codec_append::{append_byte, append_bytes, append_number, append_optional_number};
+use part_drain_answers::{Drained, retained_id, stage_of};
 
+// One call, as `append_id` is: each says in its contract which number it writes.
 pub fn append_token(out: &mut [u8], at: usize, t: Option<Token>) -> usize
     ensures { Fits (encode_token t) at out.old out.new result }
 {
-    match t {
-        None => append_byte(out, at, 0),
-        Some(x) => {
-            let e = append_byte(&mut *out, at, 1);
-            append_number(out, e, x.0)
-        }
-    }
+    append_optional_number(out, at, t.map(|x| x.0))
 }
 
 pub fn append_drained(out: &mut [u8], at: usize, d: &DrainedSubmission) -> usize
@@ -44,6 +38,7 @@ pub fn append_drained(out: &mut [u8], at: usize, d: &DrainedSubmission) -> usize
 
 // The count, and the first n of 16 parts. The caller names the function that appends one part; the ghost value is the form of a part,
 // and how long it is at most.
+// Apart from `append_list`, whose contract has no bound on the length. The clause with `IsAlwaysCallable` is std's form for a function that is lent.
 fn append_first<T, F: Fn(&mut [u8], usize, &T) -> usize>(
     out: &mut [u8],
     at: usize,
@@ -65,55 +60,36 @@ fn append_first<T, F: Fn(&mut [u8], usize, &T) -> usize>(
     e
 }
 
-pub fn append_submissions(out: &mut [u8], at: usize, a: [DrainedSubmission; 16], n: usize) -> usize
-    ensures { FitsWithin 18385 (encode_submissions n a) at out.old out.new result }
+// One call, as `append_failures` is: each names the writer of its parts, and its contract their form.
+fn append_submissions(out: &mut [u8], at: usize, a: &[DrainedSubmission; 16], n: usize) -> usize
+    ensures { FitsWithin 18385 (encode_submissions n a.now) at out.old out.new result }
 {
-    append_first(out, at, &a, n, append_drained)
+    append_first(out, at, a, n, append_drained)
 }
 
 // A failure of a drain. The stage is 0 Fingerprint, 1 RetainedState, 2 ExpectedOutputs, 3 SubmissionId.
-fn append_failure(
-    out: &mut [u8],
-    at: usize,
-    index: u64,
-    retained: Option<SubmissionId>,
-    candidate: Option<SubmissionId>,
-    fingerprint: [u8; 32],
-    stage: u8,
-) -> usize
-    ensures { FitsWithin 59 (be 8 index ++ encode_id retained ++ encode_id candidate ++ fingerprint ++ be 1 stage) at out.old out.new result }
-{
-    let index_end = append_number(&mut *out, at, index);
-    let retained_end = append_id(&mut *out, index_end, retained);
-    let candidate_end = append_id(&mut *out, retained_end, candidate);
-    let fingerprint_end = append_bytes(&mut *out, candidate_end, &fingerprint);
-    append_byte(out, fingerprint_end, stage)
-}
-
 fn append_drain_failure(out: &mut [u8], at: usize, f: &SubmissionDrainFailure) -> usize
     ensures { FitsWithin 59 (encode_failure f.now) at out.old out.new result }
 {
-    let fingerprint = f.intent_fingerprint;
     let stage = stage_of(f.cause);
     let retained = retained_id(*f);
-    append_failure(
-        out,
-        at,
-        f.candidate_index as u64,
-        retained,
-        Some(f.candidate_id),
-        fingerprint,
-        stage as u8,
-    )
+    let index_end = append_number(&mut *out, at, f.candidate_index as u64);
+    let retained_end = append_id(&mut *out, index_end, retained);
+    let candidate_end = append_id(&mut *out, retained_end, Some(f.candidate_id));
+    let fingerprint_end = append_bytes(&mut *out, candidate_end, &f.intent_fingerprint);
+    append_byte(out, fingerprint_end, stage as u8)
 }
 
-pub fn append_failures(
-    out: &mut [u8],
-    at: usize,
-    a: [SubmissionDrainFailure; 16],
-    n: usize,
-) -> usize
-    ensures { FitsWithin 945 (encode_failures n a) at out.old out.new result }
+fn append_failures(out: &mut [u8], at: usize, a: &[SubmissionDrainFailure; 16], n: usize) -> usize
+    ensures { FitsWithin 945 (encode_failures n a.now) at out.old out.new result }
 {
-    append_first(out, at, &a, n, append_drain_failure)
+    append_first(out, at, a, n, append_drain_failure)
+}
+
+// What a drain hands out: its submissions, then its failures.
+pub fn append_handed_out(out: &mut [u8], at: usize, d: &Drained) -> usize
+    ensures { FitsWithin 19330 (encode_handed_out d.now) at out.old out.new result }
+{
+    let e = append_submissions(&mut *out, at, &d.submissions, d.submission_count);
+    append_failures(out, e, &d.failures, d.failure_count)
 }

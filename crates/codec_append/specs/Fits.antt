@@ -1,9 +1,10 @@
 -- Parts appended to a buffer: written where there is room for them.
-use Rattle.std.specs.Prelude.{◌≡◌, refl, Bool, true, false, not, List, [], ◌++◌, ℕ, ◌+◌, ◌-◌, ◌*◌, ◌≤◌, ◌<◌, min, length, get_or, take, drop}
+use Rattle.std.specs.Option.{option_map}
+use Rattle.std.specs.Prelude.{Option, None, Some, ◌≡◌, refl, Bool, true, false, not, List, [], ◌++◌, ℕ, ◌+◌, ◌-◌, ◌*◌, ◌≤◌, ◌<◌, min, length, get_or, take, drop}
 use Rattle.std.proofs.Common.{sym, ap, ◌∙◌, subst, zero-le, arith, add-zero, one-mul, add-mul, length-append, length-drop, drop_of_length-le, length-take-le}
 use Rattle.std.proofs.lemmas.Bool.{not-true, not-false}
 use Rattle.base_lists.specs.Laws.{take_cut, part_to_end}
-use Rattle.codec_forms.specs.Wire.{be, enc_many, enc_opt}
+use Rattle.codec_forms.specs.Wire.{be, enc_many, enc_opt, enc_opt_number}
 use Rattle.codec_forms.specs.Number.{be_length}
 use Rattle.codec_forms.specs.Puts.{Puts, Room, room_first, room_next, puts_join, puts_long, splice_none, many_suc, rest_room, rest_puts}
 
@@ -69,6 +70,20 @@ fits_absent_part b l {at} {d} {d'} {e} q f = subst (λ (x : Bool). Fits (enc_opt
 pub fits_present_part : (b : Bool) {l : List ℕ} {at : ℕ} {d d₁ d₂ : List ℕ} {e₁ e₂ : ℕ} → not b ≡ false → Fits (be 1 1) at d d₁ e₁ → Fits l e₁ d₁ d₂ e₂ → Fits (enc_opt b l) at d d₂ e₂
 unfolding enc_opt
 fits_present_part b {l} {at} {d} {d₁} {d₂} {e₁} {e₂} q f g = subst (λ (x : Bool). Fits (enc_opt x l) at d d₂ e₂) (sym (not-false b q)) (fits_join f g)
+
+-- an optional number, by cases, and one in a type of its own
+pub fits_no_number : {n : Option ℕ} {at : ℕ} {d d' : List ℕ} {e : ℕ} → n ≡ None → Fits (be 1 0) at d d' e → Fits (enc_opt_number (λ x. x) n) at d d' e
+fits_no_number {n} q f = fits_as (sym (ap (enc_opt_number (λ x. x)) q)) f
+
+pub fits_some_number : {n : Option ℕ} {x at : ℕ} {d d₁ d₂ : List ℕ} {e₁ e₂ : ℕ} → n ≡ Some x → Fits (be 1 1) at d d₁ e₁ → Fits (be 8 x) e₁ d₁ d₂ e₂ → Fits (enc_opt_number (λ x. x) n) at d d₂ e₂
+fits_some_number {n} {x} q f g = fits_as (sym (ap (enc_opt_number (λ x. x)) q)) (fits_join f g)
+
+pub fits_number_of : {A : Type 0} (number : A → ℕ) (o : Option A) {n : Option ℕ} {at : ℕ} {d d' : List ℕ} {e : ℕ} → n ≡ option_map number o → Fits (enc_opt_number (λ x. x) n) at d d' e → Fits (enc_opt_number number o) at d d' e
+fits_number_of {A} number o {n} q f = fits_as (ap (enc_opt_number (λ x. x)) q ∙ same o) f
+  where
+    same : (o : Option A) → enc_opt_number (λ x. x) (option_map number o) ≡ enc_opt_number number o
+    same None = refl
+    same (Some x) = refl
 
 -- ---- parts whose greatest length is known
 pub record FitsWithin (most : ℕ) (l : List ℕ) (at : ℕ) (d d' : List ℕ) (e : ℕ) : Type 0 where

@@ -7,9 +7,3 @@ pub fn has(s: &[u8], at: usize, n: usize) -> bool
 {
     at <= s.len() && n <= s.len() - at
 }
-
-pub fn wide(x: u8) -> u64
-    ensures { result ≡ x }
-{
-    u64::from(x)
-}

@@ -1,9 +1,10 @@
 -- A cursor is one number: below `far` the place where the next item starts, from `far` on a refusal whose place is what it has above `far`.
 -- A reader moves the cursor and hands out a value; from a refusal nothing is read, so that readers stand one behind the other without a test.
 use Prim.Native.Nat.{ℕ, zero, suc, ◌+◌, ◌-◌, ◌≤◌, ◌<◌}
-use Rattle.std.specs.Prelude.{◌≡◌, refl, Bool, true, false, List, ltb}
+use Rattle.std.specs.Prelude.{Option, None, Some, ◌≡◌, refl, Bool, true, false, List, ltb}
+use Rattle.std.specs.Option.{option_map}
 use Rattle.std.proofs.Common.{sym, ap, ◌∙◌, arith, lt-ltb, le-ltb}
-use Rattle.codec_forms.specs.Wire.{Ans, got, bad, and_then, Parser, ◌>>=◌, done, pick, up_to, checked, mapped, chosen, optional}
+use Rattle.codec_forms.specs.Wire.{Ans, got, bad, and_then, Parser, ◌>>=◌, done, pick, up_to, checked, number, mapped, chosen, optional, opt_number}
 
 -- longer than any slice
 abbrev pub far : ℕ
@@ -83,6 +84,26 @@ module _ {A : Type 0} (z : A) where
       go : (k : ℕ) → (k ≡ 0 → ⊥) → Reads (chosen z p k) s m v e
       go zero q = absurd (q refl)
       go (suc k) q = g
+
+-- an optional number in a type of its own, as the reader of a plain one finds it
+pub reads_number_of : {A : Type 0} (of : ℕ → A) {s : List ℕ} {c e : ℕ} {n : Option ℕ} {o : Option A} → Reads (opt_number (λ n. n)) s c n e → o ≡ option_map of n → Reads (opt_number of) s c o e
+unfolding optional chosen mapped
+reads_number_of {A} of {s} {c} {e} {n} {o} h q = reads_as same (reads_mapped (option_map of) h q)
+  where
+    inner : (r : Ans ℕ) → and_then r (λ n d. got (Some (of n)) d) ≡ and_then (and_then r (λ n d. got (Some n) d)) (λ o d. got (option_map of o) d)
+    inner (got n d) = refl
+    inner (bad d) = refl
+
+    behind : (k d : ℕ) → chosen None (number 8 >>= λ n. done (Some (of n))) k s d ≡ and_then (chosen None (number 8 >>= λ n. done (Some n)) k s d) (λ o d. got (option_map of o) d)
+    behind zero d = refl
+    behind (suc k) d = inner (number 8 s d)
+
+    first : (r : Ans ℕ) → and_then r (λ k d. chosen None (number 8 >>= λ n. done (Some (of n))) k s d) ≡ and_then (and_then r (λ k d. chosen None (number 8 >>= λ n. done (Some n)) k s d)) (λ o d. got (option_map of o) d)
+    first (got k d) = behind k d
+    first (bad d) = refl
+
+    same : (d : ℕ) → opt_number of s d ≡ mapped (option_map of) (opt_number (λ n. n)) s d
+    same d = first (up_to 1 s d)
 
 -- ---- an item that must pass a test
 -- the cursor of a refusal at the place c; a refusal stays as it is

@@ -3,15 +3,16 @@
 // value means nothing, so readers stand one behind the other without a test, and one test at the end tells.
 #![tactic(auto)]
 
-ghost use Rattle.std.specs.Prelude.{◌≡◌, Bool, ◌+◌, ◌≤◌, length, take, drop};
-ghost use Rattle.codec_forms.specs.Wire.{run, number, be_from, overlay};
+ghost use Rattle.std.specs.Prelude.{◌≡◌, ◌+◌, ◌≤◌, length, take, drop};
+ghost use Rattle.codec_forms.specs.Wire.{run, number, opt_number, be_from, overlay};
 ghost use Rattle.codec_cursor.specs.Cursor.{Reads, passed, refused_at};
 ghost use Rattle.codec_cursor.specs.Items.{Counts, ReadsCell};
 
 use codec_bytes::put;
 use codec_bytes::read::has;
 
-// A byte run of at most 73 bytes in its cell.
+// A byte run of at most 73 bytes in its cell: the library has no heap.
+// No `CoinString`, though of its shape: an item of a form is no coin yet, and this crate stands below SHA-256.
 #[derive(Clone, Copy)]
 pub struct Cell73 {
     pub len: u8,
@@ -22,6 +23,7 @@ pub struct Cell73 {
 pub const FAR: usize = 9223372036854775808;
 
 // The cursor of a refusal at `at`; a refusal stays as it is.
+// Slice and cursor are two parameters of every reader and no struct: the cursor alone moves, and contracts name it on its own.
 pub fn refused(at: usize) -> usize
     ensures { result ≡ refused_at at }
 {
@@ -84,6 +86,17 @@ pub fn read_number(s: &[u8], at: &mut usize) -> u64
     }
     *at = start + 8;
     number_at(s, start)
+}
+
+// A number behind a mark that tells whether it is there.
+pub fn read_optional_number(s: &[u8], at: &mut usize) -> Option<u64>
+    ensures { Reads (opt_number (λ n. n)) s.now at.old result at.new }
+{
+    let mark = read_count(s, &mut *at, 1);
+    if mark == 0 {
+        return None;
+    }
+    Some(read_number(s, at))
 }
 
 // Copies the n bytes from `at` to the start of dst.

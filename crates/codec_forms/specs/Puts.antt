@@ -1,8 +1,10 @@
 -- Bytes written at a place of a buffer: what they leave, and the same for parts written one after the other.
-use Rattle.std.specs.Prelude.{ℕ, zero, suc, ◌+◌, ◌-◌, ◌*◌, ◌≤◌, ◌<◌, ◌≡◌, refl, List, [], ◌∷◌, ◌++◌, length, get_or, take, drop}
+use Rattle.std.specs.Prelude.{Option, None, Some, is_none, true, false, ℕ, zero, suc, ◌+◌, ◌-◌, ◌*◌, ◌≤◌, ◌<◌, ◌≡◌, refl, List, [], ◌∷◌, ◌++◌, length, get_or, take, drop}
 use Rattle.std.proofs.Common.{zero-le, sym, ap, ◌∙◌, subst, append_assoc, append-nil, zero-add, add-zero, one-mul, add-mul, arith, length-append, length-drop, drop_of_length-le, take-append-drop, take_at, drop_at, drop-drop, length-take-le}
 use Rattle.base_lists.specs.Laws.{part_to_end}
-use Rattle.codec_forms.specs.Wire.{overlay, enc_many}
+use Rattle.std.proofs.lemmas.Bool.{false≢true}
+use Rattle.codec_forms.specs.Wire.{be, overlay, enc_many, enc_opt_number}
+use Rattle.codec_forms.specs.Number.{be_length}
 
 -- d with the bytes of l from place `at` on: all others stay
 unfoldable pub splice : ℕ → List ℕ → List ℕ → List ℕ
@@ -126,6 +128,20 @@ size_as {a} {b} {most} {r} q s = subst (λ (l : List ℕ). Size l most r) q s
 
 pub size_join : {a b : List ℕ} {m n x y : ℕ} → Size a m x → Size b n y → Size (a ++ b) (m + n) (x + y)
 size_join {a} {b} s t = record { is = omega (arith, s.is, t.is, length-append a b); few = omega (arith, s.few, t.few) }
+
+-- an optional number: its mark, and the eight bytes where it is there
+module _ {A : Type 0} (number : A → ℕ) where
+  pub opt_number_few : (o : Option A) → length (enc_opt_number number o) ≤ 9
+  opt_number_few None = omega (arith, be_length 1 0)
+  opt_number_few (Some x) = omega (arith, length-append (be 1 1) (be 8 (number x)), be_length 1 1, be_length 8 (number x))
+
+  pub no_number_size : (o : Option A) → is_none o ≡ true → Size (enc_opt_number number o) 9 1
+  no_number_size None e = record { is = sym (be_length 1 0); few = omega arith }
+  no_number_size (Some x) e = absurd (false≢true e)
+
+  pub some_number_size : (o : Option A) → is_none o ≡ false → Size (enc_opt_number number o) 9 9
+  some_number_size None e = absurd (false≢true (sym e))
+  some_number_size (Some x) e = record { is = omega (arith, length-append (be 1 1) (be 8 (number x)), be_length 1 1, be_length 8 (number x)); few = omega arith }
 
 -- of the first n elements of l, each of at most m bytes, the first i take r bytes
 pub record Sizing {A : Type 0} (enc : A → List ℕ) (l : List A) (m n r i : ℕ) : Type 0 where

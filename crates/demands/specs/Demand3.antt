@@ -2,14 +2,14 @@
 -- demand 3". The book is the program's; the ledger is computed from the two numbers and the calls alone. Words used, and where they are defined:
 --   Call                   a call with its arguments (rules/Call)
 --   after, opened_book      the book that `open` gives, and the one that the methods leave, each called on the one before (submission/Calls)
---   outcome, drain_answer   what a call comes to, and the answer of `drain` (submission/Book, submission/Answers)
+--   outcome, drain_reply_to what a call comes to, and the reply of `drain` (submission/Book, submission/Answers)
 --   begun, ledger_after     the ledger at first, and after calls (rules_ledger/Ledger, rules_ledger/Theorem); its steps are in rules_ledger/Steps
 --   down_to, count          numbers one after the other (rules_ledger/Account/Tokens), how many rows have a fate (rules_ledger/Account/Counts)
 --   fates_of, fates_by       the fates of a submission's tokens in the rows, and by what was emitted, removed and halted (rules_ledger/Events)
 --   Fits, Exact            rows against the submissions retained (rules_ledger/Tidy), rows against slots (rules_ledger/Account/Exact)
 --   history                the tokens issued and to whom, the last first; `grown` adds some, `Chained` is about their predecessors (rules_ledger/Tidy)
 --   handed_out              the submissions in a drain's answer (Predecessors)
-use Rattle.std.specs.Prelude.{ℕ, ◌+◌, ◌-◌, ◌≤◌, false, ◌⊎◌, ◌≡◌, length}
+use Rattle.std.specs.Prelude.{ℕ, ◌+◌, ◌-◌, ◌≤◌, true, false, ◌⊎◌, ◌≡◌, length}
 use mathlib.Core.List.{List, [], ◌∷◌, ◌++◌, map, Memᴰ}
 use Rattle.book.specs.declared.SubmittedTx.{SubmittedTx}
 use Rattle.book.specs.Model.{Book, view}
@@ -20,7 +20,9 @@ use Rattle.rules.specs.Calls.Drain.{drain}
 use Rattle.rules.specs.Keyed.{pick}
 use Rattle.book_answers.specs.declared.DrainedSubmission.{DrainedSubmission}
 use Rattle.rules.specs.Rule.{issued_by}
-use Rattle.part_replies.specs.declared.CallAnswer.TheVariants.{Done}
+use Rattle.part_drain_answers.specs.declared.Drained.{Drained}
+use Rattle.part_replies.specs.declared.Reply.{Reply}
+use Rattle.std.specs.Result.{is_ok}
 use Rattle.rules_ledger.specs.Account.Counts.{count}
 use Rattle.rules_ledger.specs.Account.Exact.{Exact}
 use Rattle.rules_ledger.specs.Account.Tokens.{down_to}
@@ -29,8 +31,7 @@ use Rattle.rules_ledger.specs.Ledger.{live, aside, displaced, struck, Row, Ledge
 use Rattle.rules_ledger.specs.Theorem.{ledger_after, events_after}
 use Rattle.rules_ledger.specs.Tidy.{Fits, Open, Issue, history, grown, Chained}
 use Rattle.submission.specs.declared.SubmissionBook.{SubmissionBook}
-use Rattle.submission.specs.declared.DrainAnswer.{DrainAnswer}
-use Rattle.submission.specs.Answers.{drain_answer}
+use Rattle.submission.specs.Answers.{drain_reply_to}
 use Rattle.submission.specs.Book.{outcome}
 use Rattle.submission.specs.Calls.{after, opened_book}
 use Rattle.demands.specs.Predecessors.{handed_out}
@@ -49,8 +50,8 @@ module _ (token id : ℕ) where
   abbrev pub issued_at : List Call → Call → List DrainedSubmission
   issued_at before c = issued_by (outcome (program_book before) c)
 
-  abbrev pub drain_at : List Call → DrainAnswer
-  drain_at before = drain_answer (program_book before) drain
+  abbrev pub drain_at : List Call → Reply Drained SubmissionBook
+  drain_at before = drain_reply_to (program_book before) drain
 
   module _ (calls : List Call) where
     -- the book's lists; the ledger's next token, and its rows, the last issued first; what was emitted, removed and halted
@@ -74,7 +75,7 @@ module _ (token id : ℕ) where
       -- what a call issues, and nothing else, becomes rows; of a drain refused 11 too
       pub issued : (before : List Call) (c : Call) (rest : List Call) → calls ≡ before ++ c ∷ rest → tokens_at (before ++ c ∷ []) ≡ grown (issued_at before c) (tokens_at before)
       -- the answer of an accepted drain hands out what it issued
-      pub handed : (before rest : List Call) → calls ≡ before ++ Drain ∷ rest → (drain_at before).answer ≡ Done
+      pub handed : (before rest : List Call) → calls ≡ before ++ Drain ∷ rest → is_ok (drain_at before).answer ≡ true
           → tokens_at (before ++ Drain ∷ []) ≡ grown (handed_out (drain_at before)) (tokens_at before)
       -- Fates. Of one submission's tokens all but the last are displaced; the last is struck out exactly where the submission was removed since,
       -- else set aside or live

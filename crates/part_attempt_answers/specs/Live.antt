@@ -14,7 +14,7 @@ use Rattle.part_lookup.specs.declared.AttemptPlace.{AttemptPlace}
 use Rattle.part_lookup.specs.declared.AttemptPlace.TheVariants.{Live, SetAside, Gone, NeverIssued}
 use Rattle.part_lookup.specs.Lookup.{attempt_place}
 use Rattle.part_lookup.specs.LookupLaws.{found_at, find_is, live_found}
-use Rattle.book.specs.Refusals as refusals
+use Rattle.book.specs.declared.refusal.Refusal.TheVariants as refusals
 
 -- ---- what is asked of a place
 abbrev pub live_place : AttemptPlace → Option ℕ
@@ -31,14 +31,14 @@ is_never_issued NeverIssued = true
 
 -- a token that is not live: the value of an inactive one; 4, not live and not below next token
 abbrev pub inactive : {A : Type 0} → Book → A → AttemptPlace → Outcome Book A
-inactive m v p = cond (is_never_issued p) (undone refusals.unknown_token) (ended m [] v)
+inactive m v p = cond (is_never_issued p) (undone refusals.UnknownToken) (ended m [] v)
 
 module _ {A : Type 0} (m : Book) (v : A) (p : AttemptPlace) {t : Bool} (told : t ≡ is_never_issued p) where
-  pub inactive_never : t ≡ true → undone refusals.unknown_token ≡ inactive m v p
-  inactive_never e = ap {B = Outcome Book A} (λ (x : Bool). cond x (undone refusals.unknown_token) (ended m [] v)) (sym e ∙ told)
+  pub inactive_never : t ≡ true → undone refusals.UnknownToken ≡ inactive m v p
+  inactive_never e = ap {B = Outcome Book A} (λ (x : Bool). cond x (undone refusals.UnknownToken) (ended m [] v)) (sym e ∙ told)
 
   pub inactive_issued : t ≡ false → ended m [] v ≡ inactive m v p
-  inactive_issued e = ap {B = Outcome Book A} (λ (x : Bool). cond x (undone refusals.unknown_token) (ended m [] v)) (sym e ∙ told)
+  inactive_issued e = ap {B = Outcome Book A} (λ (x : Bool). cond x (undone refusals.UnknownToken) (ended m [] v)) (sym e ∙ told)
 
 -- the submission at a place
 abbrev pub at : Book → ℕ → SubmittedTx

@@ -1,20 +1,16 @@
-// What the calls of one attempt token share: the place of a live attempt, and the answers that are a status.
+// What the calls of one attempt token share: the place of a live attempt, and the answer where there is none.
 #![tactic(auto)]
 
 ghost use Rattle.std.specs.Prelude.{◌≡◌};
 ghost use Rattle.book.specs.Model.{view};
-ghost use Rattle.book_answers.specs.declared.SubmissionAttemptStatus.TheVariants.{Stale};
-ghost use Rattle.rules.specs.Rule.{undone};
-ghost use Rattle.part_replies.specs.Reply.{status_reply};
-ghost use Rattle.part_replies.specs.declared.CallAnswer.TheVariants.{Done};
-ghost use Rattle.part_lookup.specs.Normal.{Normal};
+ghost use Rattle.part_replies.specs.Reply.{reply};
 ghost use Rattle.part_attempt_answers.specs.Live.{live_place, is_never_issued, inactive};
 
 use book::BookData;
-use book::refusals::UNKNOWN_TOKEN;
-use book_answers::SubmissionAttemptStatus;
+use book::refusal::Refusal;
+use book::sound::SoundBook;
 use part_lookup::AttemptPlace;
-use part_replies::{CallAnswer, StatusReply};
+use part_replies::{Reply, done, refused};
 
 pub fn live_place(p: AttemptPlace) -> Option<usize>
     ensures { result ≡ live_place p }
@@ -31,33 +27,12 @@ pub fn is_never_issued(p: AttemptPlace) -> bool
     matches!(p, AttemptPlace::NeverIssued)
 }
 
-pub fn status_refused(b: BookData, n: u8) -> StatusReply
-    ensures { result ≡ status_reply b (undone n) }
-{
-    StatusReply {
-        answer: CallAnswer::Refused(n),
-        status: SubmissionAttemptStatus::Stale,
-        book: b,
-    }
-}
-
-pub fn status_done(b: BookData, status: SubmissionAttemptStatus) -> StatusReply
-    ensures { result ≡ record { answer = Done; status = status; book = b } }
-{
-    StatusReply {
-        answer: CallAnswer::Done,
-        status,
-        book: b,
-    }
-}
-
-// A token that is not live: `Stale`, or refusal 4.
-pub fn status_inactive(b: BookData, place: AttemptPlace) -> StatusReply
-    requires { Normal b }
-    ensures { result ≡ status_reply b (inactive (view b) Stale place) }
+// A token that is not live: the value of an inactive one, or refusal 4.
+pub fn inactive<T: Copy>(b: SoundBook, place: AttemptPlace, value: T) -> Reply<T, BookData>
+    ensures { result ≡ reply b.parts (inactive (view b.parts) value place) }
 {
     if is_never_issued(place) {
-        return status_refused(b, UNKNOWN_TOKEN);
+        return refused(b.parts, Refusal::UnknownToken);
     }
-    status_done(b, SubmissionAttemptStatus::Stale)
+    done(b.parts, value)
 }

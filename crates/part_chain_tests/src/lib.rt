@@ -28,6 +28,7 @@ pub fn output_observed(p: RetainedIntent, observed: &[u8]) -> bool
     first_output_among(p.base_bundle, observed).is_some()
 }
 
+// One chain for each type, here and below: a shared one would be told its test, with what that test must promise.
 // One of the ids is listed.
 fn any_listed(ids: &[[u8; 32]], listed: &[u8]) -> bool
     ensures { result ≡ list_any (is_in (ids_in listed.now)) ids.now }
@@ -35,6 +36,7 @@ fn any_listed(ids: &[[u8; 32]], listed: &[u8]) -> bool
     ids.iter().any(|id| has_id(listed, id))
 }
 
+// Counts beside arrays, as the book has them (no heap): here and below the cells in use are taken by `at_most_four`.
 // The id of an input is one of those spent.
 pub fn input_spent(p: RetainedIntent, spent: &[u8]) -> bool
     ensures { result ≡ input_spent (ids_in spent.now) p }
@@ -109,20 +111,15 @@ fn outer_inputs_live(b: SpendBundle, inputs: &[u8]) -> bool
 pub fn is_landed(c: SubmissionChainTerminality) -> bool
     ensures { result ≡ is_landed c }
 {
-    matches!(c, SubmissionChainTerminality::Landed)
-}
-
-fn is_input_spent(c: SubmissionChainTerminality) -> bool
-    ensures { result ≡ is_input_spent c }
-{
-    matches!(c, SubmissionChainTerminality::InputSpent)
+    c == SubmissionChainTerminality::Landed
 }
 
 // InputSpent, or an expected output is absent.
 fn spent_or_absent(e: SubmittedEntry, absent: &[u8]) -> bool
     ensures { result ≡ (is_input_spent e.state.status.chain_terminality || output_observed (coins_in absent.now) e.intent) }
 {
-    is_input_spent(e.state.status.chain_terminality) || output_observed(e.intent, absent)
+    e.state.status.chain_terminality == SubmissionChainTerminality::InputSpent
+        || output_observed(e.intent, absent)
 }
 
 // The chain no longer holds what made the submission terminal, and every input from outside is live.

@@ -2,6 +2,8 @@
 use Rattle.std.specs.Prelude.{◌≡◌, true, false, cond, not, ℕ, ◌+◌, ◌<◌, eqb, length, get_or, set, replicate}
 use Rattle.std.proofs.Math.Path.{refl, ap}
 use Rattle.std.proofs.Common.{sym, ◌∙◌, arith}
+use Rattle.std.proofs.lemmas.Option.{none-some}
+use Rattle.std.specs.Result.{result_ok, result_map_both}
 use Rattle.std.proofs.Math.Bool.{Bool}
 use mathlib.Core.List.{List, [], ◌∷◌, ◌++◌, map}
 use Rattle.std.proofs.Math.Dec.{ltb}
@@ -18,7 +20,7 @@ use Rattle.book.specs.declared.PendingDelivery.{PendingDelivery}
 use Rattle.book.specs.declared.ReplayEpoch.{ReplayEpoch}
 use Rattle.book.specs.declared.BookData.{BookData}
 use Rattle.rules.specs.Keyed.{without}
-use Rattle.rules.specs.Rule.{Revision, enqueue, unqueue, unqueue_all, unretire_all}
+use Rattle.rules.specs.Rule.{Revision, enqueue, unqueue, unqueue_all, unretire_all, retire}
 use Rattle.rules.specs.Steps.{with_submitted, with_entry, with_slots, rest_of, with_rest, note_book, revise_book, mark_book, remove_book}
 use Rattle.rules.specs.Steps.Entry.{revised}
 use Rattle.rules.specs.Steps.Notes.{is_id, with_pending, with_retired, noted, unqueued, unreplayed, forgotten}
@@ -29,7 +31,9 @@ use Rattle.part_replay.specs.Epoch as Epoch
 use Rattle.part_replay.specs.Epoch.{replayed_of, removed}
 use Rattle.part_lookup.specs.Normal.{Normal, view_of, normal_of, sizes, submitted_are, pending_are, replayed_are}
 use Rattle.part_lookup.specs.PlaceLaws.{change_at}
-use Rattle.part_change.specs.declared.Retired.{Retired}
+use Rattle.std.specs.Prelude.{Result, Ok, Err}
+use Rattle.book.specs.declared.refusal.Refusal.{Refusal}
+use Rattle.book.specs.declared.refusal.Refusal.TheVariants as refusals
 use Rattle.part_change.specs.Changes.{stored_at, with_epoch_of, retiring}
 use Rattle.part_change.specs.Parts.{put_cells, put_pending, put_rest, cells_back, pending_back, retired_back, epoch_back}
 
@@ -70,21 +74,33 @@ module _ (b : BookData) (h : Normal b) where
   unfolding note_book noted
   unretire_is {x} e = retired_back b h x [] (counted_ids x [] e)
 
-  -- a retirement: the list with the id once, or full
-  pub retire_is : (i : ℕ) {f : Bool} {x : Ids 64} → f ≡ ltb 64 (length (push_new (view b).retired i)) → x ≡ id_cells 64 (push_within 64 (view b).retired i)
-      → record { full = f; book = put_rest x b.replay_epoch b } ≡ retiring i (view b)
-  unfolding retiring push_within note_book noted
-  retire_is i {f} {x} q e =
-      ap (λ (y : Ids 64). record { full = f; book = put_rest y b.replay_epoch b }) e
-      ∙ ap (λ (t : Bool). record { full = t; book = put_rest (id_cells 64 (push_within 64 (view b).retired i)) b.replay_epoch b }) q
-      ∙ ap {B = Retired} (λ (y : BookData). record { full = over; book = y }) (go over)
-    where
-      over : Bool
-      over = ltb 64 (length (push_new (view b).retired i))
+  -- a retirement: full, or the list with the id once
+  module _ (i : ℕ) {p : Result (Unit {0}) Refusal} (q : p ≡ cond (ltb 64 (length (push_new (view b).retired i))) (Err refusals.Full) (Ok tt)) where
+    abbrev over : Bool
+    over = ltb 64 (length (push_new (view b).retired i))
 
-      go : (t : Bool) → put_rest (id_cells 64 (cond t (view b).retired (push_new (view b).retired i))) b.replay_epoch b ≡ back (cond t (view b) (with_rest (with_retired (push_new (view b).retired i) (rest_of (view b))) (view b)))
-      go true = retired_back b h (id_cells 64 (view b).retired) (view b).retired (record { count = refl; held = refl })
-      go false = retired_back b h (id_cells 64 (push_new (view b).retired i)) (push_new (view b).retired i) (record { count = refl; held = refl })
+    abbrev next : BookData
+    next = back (note_book (retire i) (view b))
+
+    pub retire_full : {n : Refusal} → p ≡ Err n → Err n ≡ retiring i (view b)
+    unfolding retiring
+    retire_full w = ap (result_map_both (λ (u : Unit {0}). next) (λ (r : Refusal). r)) (sym w ∙ q) ∙ go over
+      where
+        go : (t : Bool) → result_map_both (λ (u : Unit {0}). next) (λ (r : Refusal). r) (cond t (Err refusals.Full) (Ok tt)) ≡ cond t (Err refusals.Full) (Ok next)
+        go true = refl
+        go false = refl
+
+    pub retire_is : {u : Unit {0}} → p ≡ Ok u → {x : Ids 64} → x ≡ id_cells 64 (push_within 64 (view b).retired i) → Ok (put_rest x b.replay_epoch b) ≡ retiring i (view b)
+    unfolding retiring push_within note_book noted
+    retire_is {u} w {x} k = go over (sym w ∙ q) k
+      where
+        put : put_rest (id_cells 64 (push_new (view b).retired i)) b.replay_epoch b ≡ next
+        put = retired_back b h (id_cells 64 (push_new (view b).retired i)) (push_new (view b).retired i) (record { count = refl; held = refl })
+
+        go : (t : Bool) → Ok u ≡ cond t (Err refusals.Full) (Ok tt) → x ≡ id_cells 64 (cond t (view b).retired (push_new (view b).retired i))
+            → Ok (put_rest x b.replay_epoch b) ≡ cond t (Err refusals.Full) (Ok next)
+        go true e k = absurd (none-some u (ap result_ok (sym e)))
+        go false e k = ap {B = Result BookData Refusal} (λ (y : BookData). Ok y) (ap (λ (y : Ids 64). put_rest y b.replay_epoch b) k ∙ put)
 
 -- ---- removal: what is left fits, step by step
 module _ (i : ℕ) (m : Book) (f : Fits m) where

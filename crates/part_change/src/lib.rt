@@ -14,17 +14,12 @@ ghost use Rattle.part_replay.specs.Epoch.{replayed_of};
 ghost use Rattle.part_lookup.specs.Normal.{Normal};
 ghost use Rattle.part_change.specs.Changes.{stored_at, with_epoch_of, retiring};
 
+use book::refusal::Refusal;
 use book::{BookData, PendingDelivery, ReplayEpoch, SubmissionId, SubmittedTx};
 use part_ids::{empty, push_new};
 use part_lookup::is_id;
 
-// The book with one more retirement; full where that would be a 65th, and then the book as it was.
-#[derive(Clone, Copy)]
-pub struct Retired {
-    pub full: bool,
-    pub book: BookData,
-}
-
+// A count beside an array, as in the book: the library has no heap.
 // Up to 16 queue entries.
 #[derive(Clone, Copy)]
 struct Deliveries {
@@ -33,6 +28,8 @@ struct Deliveries {
 }
 
 // ---- submissions
+// `Normal b`, here and below: between two changes of a call a book is normal but not known to be sound, so no type of a book says it.
+// A place is one of this book only: a struct of both would lend or copy the book.
 pub fn store_submitted(b: BookData, k: usize, t: SubmittedTx) -> BookData
     requires { Normal b × (k < length (view b).submitted) }
     ensures { result ≡ back (stored_at k t (view b)) }
@@ -42,6 +39,8 @@ pub fn store_submitted(b: BookData, k: usize, t: SubmittedTx) -> BookData
     out
 }
 
+// By index, here and in `keep_others`: a turn reads one cell of an array and writes others of the same one. Two functions, since one over both
+// would be told the zero and the test of a cell, and lent a field, and be no plainer.
 // The submission of the id goes. Those before it stay where they are.
 fn drop_submitted(b: BookData, id: SubmissionId) -> BookData
     requires { Normal b }
@@ -149,14 +148,14 @@ pub fn unqueue(b: BookData, id: SubmissionId) -> BookData
 }
 
 // ---- retirements and replay epoch
-// `emit_retirement`.
-pub fn retire(b: BookData, id: SubmissionId) -> Retired
+// `emit_retirement`; full where the retirement would be a 65th.
+pub fn retire(b: BookData, id: SubmissionId) -> Result<BookData, Refusal>
     requires { Normal b }
     ensures { result ≡ retiring id.0 (view b) }
 {
     let mut out = b;
-    let full = push_new(&mut out.retired_submission_ids, id);
-    Retired { full, book: out }
+    push_new(&mut out.retired_submission_ids, id)?;
+    Ok(out)
 }
 
 pub fn clear_retired(b: BookData) -> BookData

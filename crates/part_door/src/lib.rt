@@ -1,19 +1,19 @@
-// The door of every call: the number by which the book is refused, or 0.
+// The door of every call.
 #![tactic(auto)]
 
-ghost use Rattle.std.specs.Prelude.{◌≡◌};
-ghost use Rattle.part_door.specs.Door.{door_number};
+ghost use Rattle.part_door.specs.Door.{Opens};
 
 use book::BookData;
-use book::refusals::NO_BOOK;
+use book::refusal::Refusal;
+use book::sound::SoundBook;
 use book_sound::is_sound;
 
-pub fn door(b: BookData) -> u8
-    ensures { result ≡ door_number b }
+// The book as a sound one, or refused 1.
+pub fn door(b: BookData) -> Result<SoundBook, Refusal>
+    ensures { Opens b result }
 {
-    let sound = is_sound(&b);
-    if !sound {
-        return NO_BOOK;
+    if is_sound(&b) {
+        return Ok(SoundBook { parts: b });
     }
-    0
+    Err(Refusal::NoBook)
 }

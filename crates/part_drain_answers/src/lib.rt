@@ -1,25 +1,22 @@
-// What a drain answers: the submissions handed out, the candidates that failed, and the book.
+// What a drain answers: the submissions handed out and the candidates that failed.
 #![tactic(auto)]
 
 ghost use Rattle.std.specs.Prelude.{◌≡◌};
 ghost use Rattle.rules.specs.Call.{removes, retained_id, stage_of as stageBy};
-ghost use Rattle.rules.specs.Rule.{undone};
-ghost use Rattle.part_drain_answers.specs.DrainReply.{drain_reply};
 
-use book::{BookData, SubmissionId};
+use book::SubmissionId;
 use book_answers::{
     DrainFailureCause, DrainedSubmission, SubmissionDrainFailure, SubmissionDrainFailureStage,
 };
-use part_replies::CallAnswer;
 
+// Counts beside arrays: the library has no heap.
+// What a drain hands out: the first `submission_count` cells and the first `failure_count`.
 #[derive(Clone, Copy)]
-pub struct DrainReply {
-    pub answer: CallAnswer,
+pub struct Drained {
     pub submission_count: usize,
     pub submissions: [DrainedSubmission; 16],
     pub failure_count: usize,
     pub failures: [SubmissionDrainFailure; 16],
-    pub book: BookData,
 }
 
 pub fn stage_of(cause: DrainFailureCause) -> SubmissionDrainFailureStage
@@ -57,18 +54,4 @@ pub fn retained_id(f: SubmissionDrainFailure) -> Option<SubmissionId>
         return Some(f.candidate_id);
     }
     None
-}
-
-// A refusal: its number, nothing beside it, and the book that it leaves.
-pub fn refused(n: u8, b: BookData) -> DrainReply
-    ensures { result ≡ drain_reply b (undone n) }
-{
-    DrainReply {
-        answer: CallAnswer::Refused(n),
-        submission_count: 0,
-        submissions: [DrainedSubmission::zero(); 16],
-        failure_count: 0,
-        failures: [SubmissionDrainFailure::zero(); 16],
-        book: b,
-    }
 }

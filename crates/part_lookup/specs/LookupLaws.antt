@@ -1,9 +1,8 @@
 -- The places of the code's lookup are what the rules find.
 use Rattle.std.proofs.Math.Path.{◌≡◌, refl, ap}
-use Rattle.std.proofs.Common.{sym, ◌∙◌, arith}
-use Rattle.std.specs.Prelude.{Bool, [], ℕ, ◌≤◌, ◌<◌, ltb, get_or}
+use Rattle.std.proofs.Common.{◌∙◌, arith}
+use Rattle.std.specs.Prelude.{Bool, [], ℕ, ltb, get_or}
 use Rattle.std.proofs.Math.Bool.{true, false}
-use borrow.Author.Tests.{le-ltb, lt-ltb}
 use Rattle.std.specs.List.{filter, list_any}
 use Rattle.book.specs.Zero.{zero_submitted}
 use Rattle.book.specs.Model.{Book}

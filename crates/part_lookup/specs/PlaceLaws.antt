@@ -7,7 +7,7 @@ use Rattle.std.proofs.lemmas.Bool.{false≢true}
 use mathlib.Core.List.{List, [], ◌∷◌, map}
 use Prim.Native.Nat.{ℕ, zero, suc, ◌≤◌, ◌<◌}
 use Rattle.std.proofs.Math.Dec.{ltb}
-use borrow.Author.Tests.{eq-eqb, ne_eqb, not-true, lt-ltb, le-ltb, ltb-true, ltb-false}
+use borrow.Author.Tests.{eq-eqb, ne_eqb, not-true, lt-ltb, ltb-true, ltb-false}
 use Rattle.std.proofs.Math.ListN.{length}
 use Rattle.base_lists.specs.Lists.{elemb, distinctb, index_of}
 use Rattle.std.specs.List.{filter, list_any, prefix_len}

@@ -1,7 +1,7 @@
 // Looking into a book: places of submissions, and what stands there.
 #![tactic(auto)]
 
-ghost use Rattle.std.specs.Prelude.{◌≡◌, ◌<◌, length, get_or, map};
+ghost use Rattle.std.specs.Prelude.{◌≡◌, ◌<◌, length, get_or, map, cond};
 ghost use Rattle.book.specs.Model.{view, id_cells};
 ghost use Rattle.book.specs.Sound.{id_of};
 ghost use Rattle.book.specs.Zero.{zero_submitted};
@@ -10,11 +10,12 @@ ghost use Rattle.rules.specs.Calls.Common.{has_token};
 ghost use Rattle.rules.specs.Calls.Offer.{is_queued};
 ghost use Rattle.part_lookup.specs.Normal.{Normal};
 ghost use Rattle.part_lookup.specs.Place.{place_of, place_of_id, has_intent};
-ghost use Rattle.part_lookup.specs.Lookup.{has_live, has_set_aside, attempt_place};
+ghost use Rattle.part_lookup.specs.Lookup.{attempt_place};
 
 use book::{BookData, Ids, OptionalAttempt, PendingDelivery, SubmissionId, SubmittedTx, Token};
 use part_ids::{empty, push};
 
+// An answer enum of our own, as paper 01 names it: its four answers are no `Option` and no `Result`.
 // Where an attempt token stands.
 #[derive(Clone, Copy)]
 pub enum AttemptPlace {
@@ -24,6 +25,7 @@ pub enum AttemptPlace {
     NeverIssued,
 }
 
+// `Normal b`, here and below: between two changes of a call a book is normal but not known to be sound, and wrapping a lent one copies it.
 // The retained submissions.
 pub fn submitted(b: &BookData) -> &[SubmittedTx]
     requires { Normal b.now }
@@ -47,24 +49,28 @@ pub fn position_of(b: &BookData, id: SubmissionId) -> Option<usize>
     submitted(b).iter().position(|t| t.entry.id == id)
 }
 
-fn position_of_live(b: &BookData, token: Token) -> Option<usize>
+// `live` is a flag and no closure: the contract names the slot by it.
+// The place of the submission whose live attempt, or the one set aside, has the token.
+fn position_of_attempt(b: &BookData, token: Token, live: bool) -> Option<usize>
     requires { Normal b.now }
-    ensures { result ≡ place_of (has_live token.0) (view b.now).submitted }
+    ensures { result ≡ place_of (λ t. has_token token.0 (cond live t.slots.active_attempt t.slots.completed_attempt)) (view b.now).submitted }
 {
     submitted(b)
         .iter()
-        .position(|t| is_attempt(&t.slots.active_attempt, token))
+        .position(|t| is_attempt(slot_of(t, live), token))
 }
 
-fn position_of_set_aside(b: &BookData, token: Token) -> Option<usize>
-    requires { Normal b.now }
-    ensures { result ≡ place_of (has_set_aside token.0) (view b.now).submitted }
+fn slot_of(t: &SubmittedTx, live: bool) -> &OptionalAttempt
+    ensures { result.now ≡ cond live t.now.slots.active_attempt t.now.slots.completed_attempt }
 {
-    submitted(b)
-        .iter()
-        .position(|t| is_attempt(&t.slots.completed_attempt, token))
+    if live {
+        &t.slots.active_attempt
+    } else {
+        &t.slots.completed_attempt
+    }
 }
 
+// Paper 01: an optional attempt is a mark with the attempt beside it.
 // The attempt is there, and the token is its own.
 fn is_attempt(a: &OptionalAttempt, token: Token) -> bool
     ensures { result ≡ has_token token.0 a.now }
@@ -77,13 +83,13 @@ pub fn find_attempt(b: &BookData, token: Token) -> AttemptPlace
     requires { Normal b.now }
     ensures { result ≡ attempt_place token.0 (view b.now) }
 {
-    if let Some(k) = position_of_live(b, token) {
+    if let Some(k) = position_of_attempt(b, token, true) {
         return AttemptPlace::Live(k);
     }
     if b.next_delivery_attempt_token <= token {
         return AttemptPlace::NeverIssued;
     }
-    let Some(k) = position_of_set_aside(b, token) else {
+    let Some(k) = position_of_attempt(b, token, false) else {
         return AttemptPlace::Gone;
     };
     AttemptPlace::SetAside(k)
@@ -104,6 +110,7 @@ pub fn is_queued(b: &BookData, id: SubmissionId) -> bool
     pending(b).iter().any(|d| is_id(d.intent.id, id))
 }
 
+// A place is one of this book only: a struct of both would lend or copy the book.
 pub fn submitted_at(b: &BookData, k: usize) -> SubmittedTx
     requires { Normal b.now × (k < length (view b.now).submitted) }
     ensures { result ≡ get_or (view b.now).submitted k zero_submitted }
@@ -121,6 +128,7 @@ pub fn position_of_intent(b: &BookData, fingerprint: &[u8; 32]) -> Option<usize>
         .position(|t| t.entry.intent.intent_fingerprint == *fingerprint)
 }
 
+// A loop and no `collect`: `Ids` has sixteen cells, so that not every iterator could fill it.
 // The ids of the submissions, in their order.
 pub fn submitted_ids(b: &BookData) -> Ids<16>
     requires { Normal b.now }

@@ -28,15 +28,14 @@ use Rattle.rules_laws.specs.Guards.Calls.{redelivery_sound}
 use Rattle.part_sound_laws.specs.Acts.{act_full, act_silent}
 use Rattle.part_sound_laws.specs.Holds.{Holds, holds_sound, holds_view, holds_soundb, holds_step}
 use Rattle.part_sound_laws.specs.Room.{full_enqueue}
-use Rattle.part_offer.specs.Ends.{Reached}
-use Rattle.book.specs.Refusals as refusals
+use Rattle.book.specs.declared.refusal.Refusal.TheVariants as refusals
 
 -- ---- one more entry
 module _ (b : BookData) (h : soundb b ≡ true) (d : PendingDelivery) (s : sound_delivery d ≡ true) where
   abbrev queued : Rule (Unit {0})
   queued = step (note (enqueue d))
 
-  pub enqueue_full : b.pending_count ≡ 16 → run_book queued (view b) ≡ undone refusals.full
+  pub enqueue_full : b.pending_count ≡ 16 → run_book queued (view b) ≡ undone refusals.Full
   unfolding on_book
   enqueue_full e =
       let c : b.pending_count ≡ length (view b).pending = (pending_are b (sound_normal b h)).count in
@@ -47,18 +46,21 @@ module _ (b : BookData) (h : soundb b ≡ true) (d : PendingDelivery) (s : sound
       let f : length (view b).pending ≤ 16 = (sound_normal b h).fits.pending in
       omega arith
 
-  pub enqueue_on : (b.pending_count ≡ 16 → ⊥) → {q : BookData} → q ≡ back (note_book (enqueue d) (view b)) → Reached tt q (run_book queued (view b))
-  unfolding on_book run
-  enqueue_on n {q} e =
-      let l : length (view b).pending < 16 = room n in
-      let free : full (note_book (enqueue d) (view b)) ≡ false = full_enqueue (view b) (sound_normal b h).fits d s ∙ le-ltb 16 (suc (length (view b).pending)) (omega arith) in
-      let k : Holds q (note_book (enqueue d) (view b)) = holds_step (holds_sound b h) (note (enqueue d)) free e in
-      record {
-        sound = holds_soundb k;
-        outcome =
-            act_silent (note (enqueue d)) (done tt) (view b) free refl
-            ∙ ap (λ (m : Book). ended m [] tt) (sym (holds_view k));
-      }
+  module _ (n : b.pending_count ≡ 16 → ⊥) {q : BookData} (e : q ≡ back (note_book (enqueue d) (view b))) where
+    free : full (note_book (enqueue d) (view b)) ≡ false
+    free = let l : length (view b).pending < 16 = room n in
+        full_enqueue (view b) (sound_normal b h).fits d s ∙ le-ltb 16 (suc (length (view b).pending)) (omega arith)
+
+    queued_holds : Holds q (note_book (enqueue d) (view b))
+    unfolding on_book
+    queued_holds = holds_step (holds_sound b h) (note (enqueue d)) free e
+
+    pub enqueue_sound : soundb q ≡ true
+    enqueue_sound = holds_soundb queued_holds
+
+    pub enqueue_on : run_book queued (view b) ≡ ended (view q) [] tt
+    unfolding on_book run
+    enqueue_on = act_silent (note (enqueue d)) (done tt) (view b) free refl ∙ ap (λ (m : Book). ended m [] tt) (sym (holds_view queued_holds))
 
 -- ---- an offer, by the place of the submission and the two tests
 module _ (b : BookData) (h : soundb b ≡ true) (i : ℕ) (trigger : DeliveryTrigger) (g : SubmissionDeliveryGoal) where

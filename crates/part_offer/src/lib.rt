@@ -1,34 +1,35 @@
-// Putting one delivery into the queue, offering a retained submission again, and the reply of a call that did so.
+// Putting one delivery into the queue, and offering a retained submission again.
 #![tactic(auto)]
 
 ghost use Rattle.std.specs.Prelude.{true, ◌≡◌};
 ghost use Rattle.book.specs.Model.{view};
-ghost use Rattle.book.specs.Sound.{sound_delivery, soundb};
+ghost use Rattle.book.specs.Sound.{sound_delivery};
 ghost use Rattle.rules.specs.Steps.{run_book};
-ghost use Rattle.part_offer.specs.Ends.{Ends, refused_reply, settled_reply};
+ghost use Rattle.part_replies.specs.Reply.{outcome_by};
 ghost use Rattle.rules.specs.Rule.{enqueue as toQueue, note, step};
 ghost use Rattle.rules.specs.Calls.Offer.{is_news, deliverable as isDeliverable, redelivery as redeliveryOf, offer as offerOf, goal_for};
 
-use book::refusals::FULL;
+use book::refusal::Refusal;
+use book::sound::SoundBook;
 use book::{
-    BookData, DeliveryTrigger, PendingDelivery, PendingSubmissionIntent, SubmissionDeliveryGoal,
+    DeliveryTrigger, PendingDelivery, PendingSubmissionIntent, SubmissionDeliveryGoal,
     SubmissionId, SubmittedEntry, SubmittedTx,
 };
 use part_change::push_pending;
 use part_lookup::{is_queued, position_of, submitted_at};
-use part_replies::{CallAnswer, DoneReply};
 use part_submitted::entry::{active_entry, fee_unresolved};
 use part_submitted::fingerprint::current_variant_acknowledged;
 
-// The book with one more entry; none where that would be a 17th.
-pub fn enqueue(b: BookData, d: PendingDelivery) -> Option<BookData>
-    requires { (soundb b ≡ true) × (sound_delivery d ≡ true) }
-    ensures { Ends tt result (run_book (step (note (toQueue d))) (view b)) }
+// The book with one more entry; full where that would be a 17th.
+pub fn enqueue(b: SoundBook, d: PendingDelivery) -> Result<SoundBook, Refusal>
+    requires { sound_delivery d ≡ true }
+    ensures { run_book (step (note (toQueue d))) (view b.parts) ≡ outcome_by tt result }
 {
-    if b.pending_count == 16 {
-        return None;
+    if b.parts.pending_count == 16 {
+        return Err(Refusal::Full);
     }
-    Some(push_pending(b, d))
+    let parts = push_pending(b.parts, d);
+    Ok(SoundBook { parts })
 }
 
 fn is_news(trigger: DeliveryTrigger) -> bool
@@ -40,6 +41,7 @@ fn is_news(trigger: DeliveryTrigger) -> bool
     )
 }
 
+// Trigger and goal are two arguments, here and below, as the call and the rules take them.
 #[tactic(auto, unfolding(rules::specs::Calls::Offer::deliverable))]
 fn deliverable(t: SubmittedTx, trigger: DeliveryTrigger, goal: SubmissionDeliveryGoal) -> bool
     ensures { result ≡ isDeliverable trigger goal t }
@@ -50,6 +52,7 @@ fn deliverable(t: SubmittedTx, trigger: DeliveryTrigger, goal: SubmissionDeliver
     let news = is_news(trigger);
     let protocol = trigger == DeliveryTrigger::Protocol;
     let ensure = goal == SubmissionDeliveryGoal::EnsureBroadcast;
+    // Paper 01: an optional attempt or digest is a mark with its cell beside it.
     let live = t.slots.active_attempt.present;
     let finalized = t
         .slots
@@ -82,28 +85,27 @@ fn redelivery(
     }
 }
 
-// `queue_retained_delivery` of the Rust: none where the queue is full. What is not retained, is queued, or is not to be delivered leaves
+// `queue_retained_delivery` of the Rust: refused where the queue is full. What is not retained, is queued, or is not to be delivered leaves
 // the book as it is.
 pub fn offer(
-    b: BookData,
+    b: SoundBook,
     id: SubmissionId,
     trigger: DeliveryTrigger,
     goal: SubmissionDeliveryGoal,
-) -> Option<BookData>
-    requires { soundb b ≡ true }
-    ensures { Ends tt result (run_book (offerOf id.0 trigger goal) (view b)) }
+) -> Result<SoundBook, Refusal>
+    ensures { run_book (offerOf id.0 trigger goal) (view b.parts) ≡ outcome_by tt result }
 {
-    let place = position_of(&b, id);
+    let place = position_of(&b.parts, id);
     let Some(k) = place else {
-        return Some(b);
+        return Ok(b);
     };
-    let queued = is_queued(&b, id);
-    let t = submitted_at(&b, k);
+    let queued = is_queued(&b.parts, id);
+    let t = submitted_at(&b.parts, k);
     let due = deliverable(t, trigger, goal);
     if !queued & due {
         return enqueue(b, redelivery(t.entry, trigger, goal));
     }
-    Some(b)
+    Ok(b)
 }
 
 // A fee upgrade where the current variant is acknowledged.
@@ -115,26 +117,4 @@ pub fn goal_for(e: SubmittedEntry) -> SubmissionDeliveryGoal
         return SubmissionDeliveryGoal::FeeUpgrade;
     }
     SubmissionDeliveryGoal::EnsureBroadcast
-}
-
-pub fn refused(b: BookData, n: u8) -> DoneReply
-    ensures { result ≡ refused_reply b n }
-{
-    DoneReply {
-        answer: CallAnswer::Refused(n),
-        book: b,
-    }
-}
-
-// What a call on the book b answers after its offers.
-pub fn settled(b: BookData, o: Option<BookData>) -> DoneReply
-    ensures { result ≡ settled_reply b o }
-{
-    let Some(out) = o else {
-        return refused(b, FULL);
-    };
-    DoneReply {
-        answer: CallAnswer::Done,
-        book: out,
-    }
 }

@@ -26,7 +26,8 @@ pub enum PlanAction {
     Issued,
 }
 
-// The book would be full; or the submission is stored where no token is left; or the candidate is planned.
+// The book would be full; or the submission is stored where no token is left; or the candidate is planned. No `Result`: what is stored
+// stands beside the answer in both of the last two cases.
 #[derive(Clone, Copy)]
 pub enum PlanAnswer {
     Full,
@@ -43,6 +44,7 @@ pub struct SubmittedPlace {
     pub next_token: Token,
 }
 
+// No enum with its values: place and submission would stand in three variants, and be taken out of each before one store.
 // What the answer does not use is zero.
 #[derive(Clone, Copy)]
 pub struct SubmissionPlanDelta {
@@ -129,20 +131,22 @@ fn issue(place: SubmittedPlace, t: SubmittedTx, goal: SubmissionDeliveryGoal) ->
     }
 }
 
+// The clause on `count`: `Ids` is the counted array of the book, whose public count may be any.
 // An id is emitted once a drain.
 #[tactic(auto, unfolding(crate::specs::Plan::deliver_plan))]
 pub fn deliver(
     place: SubmittedPlace,
-    emitted: Ids<16>,
+    emitted: &Ids<16>,
     t: SubmittedTx,
     goal: SubmissionDeliveryGoal,
 ) -> SubmissionPlanDelta
-    requires { emitted.count ≤ 16 }
-    ensures { result ≡ deliver_plan place (id_list emitted) t goal }
+    requires { emitted.now.count ≤ 16 }
+    ensures { result ≡ deliver_plan place (id_list emitted.now) t goal }
 {
-    if has(&emitted, t.entry.id) {
+    if has(emitted, t.entry.id) {
         return storing(PlanAnswer::Planned(PlanAction::Stored), place, t);
     }
+    // The bound is a number and no token.
     if place.next_token.0 == u64::MAX {
         return storing(PlanAnswer::Exhausted, place, t);
     }

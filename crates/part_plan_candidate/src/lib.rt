@@ -52,17 +52,18 @@ fn should_emit(goal: SubmissionDeliveryGoal, e: SubmittedEntry) -> bool
     fee_unresolved(e)
 }
 
+// The clauses on `count`, here and below: `Ids` is the counted array of the book, whose public count may be any.
 // ---- a candidate whose submission is retained
 // The candidate fits: the expiry is tightened, also where nothing is emitted.
 #[tactic(auto, unfolding(part_plan::specs::Plan::met_plan))]
 fn met(
     place: SubmittedPlace,
-    emitted: Ids<16>,
-    c: PendingDelivery,
+    emitted: &Ids<16>,
+    c: &PendingDelivery,
     t: SubmittedTx,
 ) -> SubmissionPlanDelta
-    requires { emitted.count ≤ 16 }
-    ensures { result ≡ met_plan place (id_list emitted) c t }
+    requires { emitted.now.count ≤ 16 }
+    ensures { result ≡ met_plan place (id_list emitted.now) c.now t }
 {
     let next = tighten(t.entry, c.intent.expiry);
     let tx = SubmittedTx { entry: next, ..t };
@@ -74,12 +75,12 @@ fn met(
 
 // The submission goes, unless its retirement would be a 65th.
 #[tactic(auto, unfolding(part_plan::specs::Plan::removal_plan, part_ids::specs::Ids::push_within))]
-fn removal(retired: Ids<64>, f: SubmissionDrainFailure) -> SubmissionPlanDelta
-    requires { (retired.count ≤ 64) × (retired ≡ id_cells 64 (id_list retired)) }
-    ensures { result ≡ removal_plan (id_list retired) f }
+fn removal(retired: &Ids<64>, f: SubmissionDrainFailure) -> SubmissionPlanDelta
+    requires { (retired.now.count ≤ 64) × (retired.now ≡ id_cells 64 (id_list retired.now)) }
+    ensures { result ≡ removal_plan (id_list retired.now) f }
 {
-    let mut next = retired;
-    if push_new(&mut next, f.candidate_id) {
+    let mut next = *retired;
+    if push_new(&mut next, f.candidate_id).is_err() {
         return failing(PlanAnswer::Full, f);
     }
     failing(PlanAnswer::Planned(PlanAction::Removed), f)
@@ -89,15 +90,15 @@ fn removal(retired: Ids<64>, f: SubmissionDrainFailure) -> SubmissionPlanDelta
 #[tactic(auto, unfolding(part_plan::specs::Plan::known_plan))]
 pub fn known(
     place: SubmittedPlace,
-    emitted: Ids<16>,
-    retired: Ids<64>,
+    emitted: &Ids<16>,
+    retired: &Ids<64>,
     n: usize,
-    c: PendingDelivery,
+    c: &PendingDelivery,
     f: [u8; 32],
     t: SubmittedTx,
 ) -> SubmissionPlanDelta
-    requires { (emitted.count ≤ 16) × (retired.count ≤ 64) × (retired ≡ id_cells 64 (id_list retired)) }
-    ensures { result ≡ known_plan place (id_list emitted) (id_list retired) n c f t }
+    requires { (emitted.now.count ≤ 16) × (retired.now.count ≤ 64) × (retired.now ≡ id_cells 64 (id_list retired.now)) }
+    ensures { result ≡ known_plan place (id_list emitted.now) (id_list retired.now) n c.now f t }
 {
     let Some(cause) = miss_of(c.intent, f, t.entry) else {
         return met(place, emitted, c, t);
@@ -116,12 +117,12 @@ pub fn known(
 #[tactic(auto, unfolding(part_plan::specs::Plan::retain_plan))]
 fn retain(
     place: SubmittedPlace,
-    emitted: Ids<16>,
-    c: PendingDelivery,
+    emitted: &Ids<16>,
+    c: &PendingDelivery,
     f: [u8; 32],
 ) -> SubmissionPlanDelta
-    requires { (emitted.count ≤ 16) × (f ≡ intent_of c.intent) × (place.next_id.0 < last64) × (place.count < 16) }
-    ensures { result ≡ retain_plan place (id_list emitted) c }
+    requires { (emitted.now.count ≤ 16) × (f ≡ intent_of c.now.intent) × (place.next_id.0 < last64) × (place.count < 16) }
+    ensures { result ≡ retain_plan place (id_list emitted.now) c.now }
 {
     let tx = SubmittedTx {
         slots: AttemptSlots::zero(),
@@ -140,22 +141,23 @@ fn retain(
 #[tactic(auto, unfolding(part_plan::specs::Plan::unknown_plan))]
 pub fn unknown(
     place: SubmittedPlace,
-    emitted: Ids<16>,
-    ids: Ids<16>,
+    emitted: &Ids<16>,
+    ids: &Ids<16>,
     n: usize,
-    c: PendingDelivery,
+    c: &PendingDelivery,
     f: [u8; 32],
 ) -> SubmissionPlanDelta
-    requires { (emitted.count ≤ 16) × (ids.count ≤ 16) × (f ≡ intent_of c.intent) × (place.count ≤ 16) }
-    ensures { result ≡ unknown_plan place (id_list emitted) (id_list ids) n c f }
+    requires { (emitted.now.count ≤ 16) × (ids.now.count ≤ 16) × (f ≡ intent_of c.now.intent) × (place.count ≤ 16) }
+    ensures { result ≡ unknown_plan place (id_list emitted.now) (id_list ids.now) n c.now f }
 {
     let id = place.next_id;
-    if has(&ids, id) {
+    if has(ids, id) {
         return fails(n, DrainFailureCause::IdCollides, id, f);
     }
     if !is_readable_bundle(&c.intent.bundle) {
         return fails(n, DrainFailureCause::OutputsUnreadable, id, f);
     }
+    // The bound is a number and no id.
     if id.0 == u64::MAX {
         return fails(n, DrainFailureCause::IdsExhausted, id, f);
     }

@@ -2,27 +2,28 @@
 #![tactic(auto)]
 
 ghost use Rattle.std.specs.Prelude.{◌≡◌, [], ◌≤◌, length};
-ghost use Rattle.book.specs.Model.{id_list};
 ghost use Rattle.std.specs.Prelude.{None};
-ghost use Rattle.rules.specs.Calls.Replay.{is_at, is_before};
 ghost use Rattle.part_ids.specs.Ids.{insert_new};
 ghost use Rattle.part_replay.specs.Epoch.{Normal, replayed_of, epoch, begun, finished, marked, removed, kept};
 
 use book::{Height, ReplayEpoch, SubmissionId};
 use part_ids::{empty, insert, without};
 
+// No plainer as an `Option`: the epoch is there whether or not one has started.
 #[derive(Clone, Copy)]
 pub struct Begun {
     pub started: bool,
     pub epoch: ReplayEpoch,
 }
 
+// No plainer as an `Option`: the epoch is there whether or not the id is new.
 #[derive(Clone, Copy)]
 pub struct Marked {
     pub added: bool,
     pub epoch: ReplayEpoch,
 }
 
+// Functions and no methods: `ReplayEpoch` is of the crate `book`.
 // The epoch of a height, with nothing replayed.
 fn empty_at(h: Option<Height>) -> ReplayEpoch
     ensures { result ≡ epoch h [] }
@@ -71,6 +72,7 @@ pub fn rollback_height(e: ReplayEpoch) -> Option<Height>
     e.rollback_height
 }
 
+// `Normal e`, here and below: the epoch is a part of the book, whose fields are public and hold any count.
 // There must be room for an id that is new.
 pub fn mark_replayed(e: ReplayEpoch, id: SubmissionId) -> Marked
     requires { Normal e × (length (insert_new id.0 (replayed_of e)) ≤ 16) }
@@ -86,9 +88,10 @@ pub fn remove(e: ReplayEpoch, id: SubmissionId) -> ReplayEpoch
     requires { Normal e }
     ensures { result ≡ removed e id.0 }
 {
-    let mut out = e;
-    out.replayed_submission_ids = part_ids::remove(&e.replayed_submission_ids, id);
-    out
+    ReplayEpoch {
+        replayed_submission_ids: part_ids::remove(&e.replayed_submission_ids, id),
+        ..e
+    }
 }
 
 // The Rust's closure is the list of the ids to drop.
@@ -96,7 +99,8 @@ pub fn retain(e: ReplayEpoch, gone: &[u64]) -> ReplayEpoch
     requires { Normal e }
     ensures { result ≡ kept e gone.now }
 {
-    let mut out = e;
-    out.replayed_submission_ids = without(&e.replayed_submission_ids, gone);
-    out
+    ReplayEpoch {
+        replayed_submission_ids: without(&e.replayed_submission_ids, gone),
+        ..e
+    }
 }

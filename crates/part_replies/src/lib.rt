@@ -1,121 +1,49 @@
-// What the calls of a book answer, beside the book that they leave. A refusal has paper 01's number; what stands beside a refusal is
-// empty. Arrays cannot stand in an enum, so each answer is a struct: whether the call was refused, its value, the book.
+// What a call answers, beside the book that it leaves: its value, or why it was turned away.
 #![tactic(auto)]
 
-ghost use Rattle.std.specs.Prelude.{◌≡◌};
+ghost use Rattle.std.specs.Prelude.{◌≡◌, Ok};
 ghost use Rattle.rules.specs.Rule.{undone};
-ghost use Rattle.part_replies.specs.Reply.{done_reply, ids_reply};
+ghost use Rattle.part_replies.specs.Reply.{reply, outcome_by};
 
-use book::{BookData, Height, Ids, OptionalAttempt, SubmissionFeeIntent};
-use book_answers::{BookSummary, FinalizedSubmission, SubmissionAttemptStatus, SubmissionLook};
-
-#[derive(Clone, Copy)]
-pub enum CallAnswer {
-    Done,
-    Refused(u8),
-}
-
-// A call without a value.
-#[derive(Clone, Copy)]
-pub struct DoneReply {
-    pub answer: CallAnswer,
-    pub book: BookData,
-}
+use book::BookData;
+use book::refusal::Refusal;
+use book::sound::SoundBook;
 
 #[derive(Clone, Copy)]
-pub struct StatusReply {
-    pub answer: CallAnswer,
-    pub status: SubmissionAttemptStatus,
-    pub book: BookData,
+pub struct Reply<T, B> {
+    pub answer: Result<T, Refusal>,
+    pub book: B,
 }
 
-#[derive(Clone, Copy)]
-pub struct IdsReply {
-    pub answer: CallAnswer,
-    pub ids: Ids<64>,
-    pub book: BookData,
-}
-
-#[derive(Clone, Copy)]
-pub struct FlagReply {
-    pub answer: CallAnswer,
-    pub flag: bool,
-    pub book: BookData,
-}
-
-#[derive(Clone, Copy)]
-pub struct HeightReply {
-    pub answer: CallAnswer,
-    pub height: Option<Height>,
-    pub book: BookData,
-}
-
-#[derive(Clone, Copy)]
-pub struct AttemptReply {
-    pub answer: CallAnswer,
-    pub attempt: OptionalAttempt,
-    pub book: BookData,
-}
-
-#[derive(Clone, Copy)]
-pub struct LookReply {
-    pub answer: CallAnswer,
-    pub present: bool,
-    pub look: SubmissionLook,
-    pub book: BookData,
-}
-
-#[derive(Clone, Copy)]
-pub struct SummaryReply {
-    pub answer: CallAnswer,
-    pub summary: BookSummary,
-    pub book: BookData,
-}
-
-#[derive(Clone, Copy)]
-pub struct FeeIntentReply {
-    pub answer: CallAnswer,
-    pub present: bool,
-    pub fee_intent: SubmissionFeeIntent,
-    pub book: BookData,
-}
-
-#[derive(Clone, Copy)]
-pub struct FinalizeReply {
-    pub answer: CallAnswer,
-    pub present: bool,
-    pub finalized: FinalizedSubmission,
-    pub book: BookData,
-}
-
-// A call that wrote its value into a lent buffer: the bytes written.
-#[derive(Clone, Copy)]
-pub struct WrittenReply {
-    pub answer: CallAnswer,
-    pub length: usize,
-    pub book: BookData,
-}
-
-// ---- refusals: the book as it was
-pub fn refused_done(b: BookData, n: u8) -> DoneReply
-    ensures { result ≡ done_reply b (undone n) }
+// The book as it was.
+pub fn refused<T>(book: BookData, r: Refusal) -> Reply<T, BookData>
+    ensures { result ≡ reply book (undone r) }
 {
-    DoneReply {
-        answer: CallAnswer::Refused(n),
-        book: b,
+    Reply {
+        answer: Err(r),
+        book,
     }
 }
 
-pub fn refused_ids(b: BookData, n: u8) -> IdsReply
-    ensures { result ≡ ids_reply b (undone n) }
+pub fn done<T>(book: BookData, value: T) -> Reply<T, BookData>
+    ensures { result ≡ record { answer = Ok value; book = book } }
 {
-    let none = Ids {
-        count: 0,
-        items: [0; 64],
-    };
-    IdsReply {
-        answer: CallAnswer::Refused(n),
-        ids: none,
-        book: b,
+    Reply {
+        answer: Ok(value),
+        book,
+    }
+}
+
+// A call on the book b whose rules came to `left`: their sound book with the value, or their refusal.
+pub fn settled<T: Copy>(
+    b: BookData,
+    left: Result<SoundBook, Refusal>,
+    value: T,
+) -> Reply<T, BookData>
+    ensures { result ≡ reply b (outcome_by value left) }
+{
+    match left {
+        Ok(next) => done(next.parts, value),
+        Err(r) => refused(b, r),
     }
 }

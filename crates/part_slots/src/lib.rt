@@ -3,13 +3,13 @@
 
 ghost use Rattle.std.specs.Prelude.{◌≡◌};
 ghost use Rattle.rules.specs.Steps.Slots.{present, issue_attempt, taken as taken_of, slots_issued, slots_aside, slots_final, resolved, relationship_to};
-ghost use Rattle.rules.specs.Calls.Common.{has_token};
 
 use book::{
     AttemptSlots, DeliveryAttempt, OptionalAttempt, OptionalHash, SubmissionDeliveryGoal, Token,
 };
 use book_answers::SubmissionAttemptRelationship;
 
+// Paper 01: an optional attempt or digest is a mark with its cell beside it; here and below `present` is asked.
 // A slot with an attempt in it.
 pub fn filled(a: DeliveryAttempt) -> OptionalAttempt
     ensures { result ≡ present a }
@@ -139,24 +139,9 @@ pub fn relationship(
     SubmissionAttemptRelationship::Initial
 }
 
-pub fn holds_token(a: OptionalAttempt, t: Token) -> bool
-    ensures { result ≡ has_token t.0 a }
-{
-    a.present && a.attempt.token == t
-}
-
 // The same as `stopped`, of the slots behind a borrow: these two slots and nothing else.
 pub fn stop_in_place(s: &mut AttemptSlots)
     ensures { s.new ≡ slots_aside s.old }
 {
     *s = stopped(*s);
-}
-
-// The slots, lent to `stop_in_place` and handed back.
-pub fn stop_lent(s: AttemptSlots) -> AttemptSlots
-    ensures { result ≡ slots_aside s }
-{
-    let mut t = s;
-    stop_in_place(&mut t);
-    t
 }

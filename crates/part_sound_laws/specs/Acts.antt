@@ -6,7 +6,7 @@ use Rattle.book.specs.Model.{Book}
 use Rattle.book_answers.specs.declared.DrainedSubmission.{DrainedSubmission}
 use Rattle.rules.specs.Rule.{Step, Rule, act, turn, Outcome, ended, undone, stopped, logged, guarded, grows, full, run}
 use Rattle.rules.specs.Steps.{on_book, run_book}
-use Rattle.book.specs.Refusals as refusals
+use Rattle.book.specs.declared.refusal.Refusal.TheVariants as refusals
 
 pub logged_none : {A : Type 0} (k : Outcome Book A) → logged [] k ≡ k
 logged_none (ended s xs a) = refl
@@ -14,7 +14,7 @@ logged_none (undone n) = refl
 logged_none (stopped s xs n) = refl
 
 module _ {A : Type 0} (p : Step) (r : Rule A) (m : Book) where
-  pub act_full : (grows p && full (on_book p m).after) ≡ true → run_book (act p r) m ≡ undone refusals.full
+  pub act_full : (grows p && full (on_book p m).after) ≡ true → run_book (act p r) m ≡ undone refusals.Full
   unfolding run
   act_full e = ap (λ (t : Bool). guarded t (logged (on_book p m).out (run_book r (on_book p m).after))) e
 

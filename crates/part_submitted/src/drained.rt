@@ -15,6 +15,7 @@ use book::{
 use book_answers::DrainedSubmission;
 use part_slots::relationship;
 
+// Paper 01: an optional attempt is a mark with the attempt beside it.
 // The token in a slot.
 pub fn token_in(p: OptionalAttempt) -> Option<Token>
     ensures { result ≡ token_in p }

@@ -10,24 +10,20 @@ use book::{
 pub fn min_expiry(a: Option<Height>, b: Option<Height>) -> Option<Height>
     ensures { result ≡ min_expiry a b }
 {
-    let Some(g) = a else {
-        return b;
-    };
-    let Some(h) = b else {
-        return a;
-    };
-    if h.0 < g.0 {
-        return b;
+    match (a, b) {
+        (Some(g), Some(h)) => Some(g.min(h)),
+        _ => a.or(b),
     }
-    a
 }
 
+// Field by field: one line a field, as a derive would write, and the contract names each.
 pub fn same_fee_intent(a: SubmissionFeeIntent, b: SubmissionFeeIntent) -> bool
     ensures { result ≡ same_fee_intent a b }
 {
-    (a.kind as u8 == b.kind as u8) & (a.amount == b.amount) & (a.target == b.target)
+    (a.kind == b.kind) & (a.amount == b.amount) & (a.target == b.target)
 }
 
+// Paper 01: a fee bundle or an optional digest is a mark with its cell beside it; `fee_bearing` and `present` are asked, here and below.
 pub fn current_bundle(e: SubmittedEntry) -> SpendBundle
     ensures { result ≡ current_bundle e }
 {

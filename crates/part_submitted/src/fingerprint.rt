@@ -16,6 +16,7 @@ pub fn current_variant_fingerprint(e: SubmittedEntry) -> [u8; 32]
     variant_fingerprint(current_bundle(e))
 }
 
+// Paper 01: a fee bundle or an optional digest is a mark with its cell beside it; `fee_bearing` and `present` are asked, here and below.
 // Nothing is hashed where nothing is acknowledged.
 pub fn current_variant_acknowledged(e: SubmittedEntry) -> bool
     ensures { result ≡ current_acknowledged e }

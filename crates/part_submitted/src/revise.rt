@@ -18,6 +18,7 @@ pub fn tighten(mut e: SubmittedEntry, expiry: Option<Height>) -> SubmittedEntry
     e
 }
 
+// Paper 01: an optional digest, here, and a fee bundle, in `attach`, is a mark with its cell beside it.
 // The variant with this fingerprint is acknowledged.
 pub fn acknowledge(mut e: SubmittedEntry, fingerprint: [u8; 32]) -> SubmittedEntry
     ensures { result ≡ revised (acknowledged fingerprint) e }

@@ -1,4 +1,2 @@
-pub mod Withdrawal
 pub mod IdLaws
 pub mod WithdrawLaws
-pub mod After

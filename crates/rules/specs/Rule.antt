@@ -13,7 +13,9 @@ use Rattle.book.specs.declared.SubmissionChainTerminality.{SubmissionChainTermin
 use Rattle.book.specs.declared.PendingSubmissionIntent.{PendingSubmissionIntent}
 use Rattle.book.specs.declared.PendingDelivery.{PendingDelivery}
 use Rattle.book_answers.specs.declared.DrainedSubmission.{DrainedSubmission}
-use Rattle.book.specs.Refusals as refusals
+use Rattle.book.specs.declared.refusal.Refusal.{Refusal}
+use Rattle.book.specs.declared.refusal.Refusal.TheVariants as refusals
+use Rattle.book.specs.Refusals.{refusal_number}
 
 -- a change of the other facts of one submission
 pub data Revision : Type 0 where
@@ -53,7 +55,7 @@ pub data Step : Type 0 where
 -- step; or that come to the end of one candidate or one id
 pub data Rule (A : Type 0) : Type 0 where
   done : A → Rule A
-  undo stop : ℕ → Rule A
+  undo stop : Refusal → Rule A
   look : (Book → Rule A) → Rule A
   act : Step → Rule A → Rule A
   turn : Rule A → Rule A
@@ -88,8 +90,8 @@ end_turn = turn (done tt)
 -- what a run comes to: the state left, what was handed out, and the answer or the refusal
 pub data Outcome (S A : Type 0) : Type 0 where
   ended : S → List DrainedSubmission → A → Outcome S A
-  undone : ℕ → Outcome S A
-  stopped : S → List DrainedSubmission → ℕ → Outcome S A
+  undone : Refusal → Outcome S A
+  stopped : S → List DrainedSubmission → Refusal → Outcome S A
 
 abbrev pub logged : {S A : Type 0} → List DrainedSubmission → Outcome S A → Outcome S A
 logged xs (ended s ys a) = ended s (xs ++ ys) a
@@ -98,7 +100,7 @@ logged xs (stopped s ys n) = stopped s (xs ++ ys) n
 
 -- refused as full
 abbrev pub guarded : {S A : Type 0} → Bool → Outcome S A → Outcome S A
-guarded true k = undone refusals.full
+guarded true k = undone refusals.Full
 guarded false k = k
 
 -- only these steps make a list longer
@@ -202,8 +204,8 @@ pub data Answer (A : Type 0) : Type 0 where
 
 abbrev pub answered : {S A : Type 0} → Outcome S A → Answer A
 answered (ended s xs a) = answer xs a
-answered (undone n) = refused n
-answered (stopped s xs n) = refused n
+answered (undone n) = refused (refusal_number n)
+answered (stopped s xs n) = refused (refusal_number n)
 
 -- the state that a call leaves
 abbrev pub left : {S A : Type 0} → S → Outcome S A → S

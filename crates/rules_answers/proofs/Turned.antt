@@ -54,10 +54,11 @@ use Rattle.rules.specs.Calls.QueueRetainedDelivery.{queue_retained_delivery}
 use Rattle.rules.specs.Calls.FeeIntentForAttempt.{fee_intent_for_attempt}
 use Rattle.rules.specs.Calls.ClearLocalArtifacts.{clear_local_artifacts}
 use Rattle.rules_answers.specs.Kind.{kind_of, is_drain, asks_room}
-use Rattle.book.specs.Refusals as refusals
+use Rattle.book.specs.declared.refusal.Refusal.TheVariants as refusals
+use Rattle.book.specs.Refusals.{refusal_number}
 use Rattle.rules_answers.specs.Turned.{no_refusal, TurnsBy, TurnedAway, Turns, turns_bind, turns_cond, turns_drain}
 
-full_turns : (w : Bool) → no_refusal w refusals.full ≡ false
+full_turns : (w : Bool) → no_refusal w (refusal_number refusals.Full) ≡ false
 full_turns true = refl
 full_turns false = refl
 
@@ -183,11 +184,11 @@ turns_writing : (room : ℕ) (s : List ℕ) → TurnsBy false true (writing room
 unfolding writing
 turns_writing room s = go (leb (length s) room)
   where
-    go : (t : Bool) → TurnsBy false true (cond t (done s) (undo refusals.short_buffer))
+    go : (t : Bool) → TurnsBy false true (cond t (done s) (undo refusals.ShortBuffer))
     go true = tt
     go false = refl
 
-turns_asked : {A : Type 0} (t : Bool) (k : Book → Rule A) → ((b : Book) → TurnsBy false true (k b)) → TurnsBy false true (cond t (look k) (undo refusals.bad_list))
+turns_asked : {A : Type 0} (t : Bool) (k : Book → Rule A) → ((b : Book) → TurnsBy false true (k b)) → TurnsBy false true (cond t (look k) (undo refusals.BadList))
 turns_asked true k h = h
 turns_asked false k h = refl
 

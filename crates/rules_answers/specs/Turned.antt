@@ -19,17 +19,19 @@ use Rattle.rules.specs.Calls.Candidate.{deliver, met, known_by, known, unknown, 
 use Rattle.rules.specs.Calls.Common.{withdraw}
 use Rattle.rules.specs.Calls.Drain.{is_one_of, one_candidate, candidates, drain}
 use Rattle.rules.specs.Calls.Plan.{Memory, blank, last64, miss_of, wanted}
-use Rattle.book.specs.Refusals as refusals
+use Rattle.book.specs.declared.refusal.Refusal.TheVariants as refusals
+use Rattle.book.specs.Refusals as numbers
+use Rattle.book.specs.Refusals.{refusal_number}
 
 -- a number with which no call is turned away; w says whether 12 may be one
 abbrev pub no_refusal : Bool → ℕ → Bool
-no_refusal w n = eqb n 0 || (not w && eqb n refusals.short_buffer)
+no_refusal w n = eqb n 0 || (not w && eqb n numbers.short_buffer)
 
 -- ---- rule trees; d says whether they may end with their steps kept, and w whether they may refuse 12
 abbrev pub TurnsBy : {A : Type 0} → Bool → Bool → Rule A → Type 0
 TurnsBy d w (done a) = Unit {0}
-TurnsBy d w (undo n) = no_refusal w n ≡ false
-TurnsBy d w (stop n) = (d ≡ true) × (n ≡ refusals.no_token)
+TurnsBy d w (undo n) = no_refusal w (refusal_number n) ≡ false
+TurnsBy d w (stop n) = (d ≡ true) × (n ≡ refusals.NoToken)
 TurnsBy d w (look k) = (b : Book) → TurnsBy d w (k b)
 TurnsBy d w (act p r) = TurnsBy d w r
 TurnsBy d w (turn r) = TurnsBy d w r
@@ -37,8 +39,8 @@ TurnsBy d w (turn r) = TurnsBy d w r
 -- the same of an outcome
 abbrev pub TurnedAway : {A : Type 0} → Bool → Bool → Outcome Book A → Type 0
 TurnedAway d w (ended m xs a) = Unit {0}
-TurnedAway d w (undone n) = no_refusal w n ≡ false
-TurnedAway d w (stopped m xs n) = (d ≡ true) × (n ≡ refusals.no_token)
+TurnedAway d w (undone n) = no_refusal w (refusal_number n) ≡ false
+TurnedAway d w (stopped m xs n) = (d ≡ true) × (n ≡ refusals.NoToken)
 
 -- never 12
 abbrev pub Turns : {A : Type 0} → Bool → Rule A → Type 0

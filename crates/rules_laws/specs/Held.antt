@@ -1,13 +1,14 @@
 -- Rules whose steps are held to a demand: one predicate for every demand, with laws for rules one after the other, for a test and for a run.
 use Rattle.std.specs.Prelude.{ℕ, Bool, true, false, cond, ◌&&◌, List, ◌≡◌, refl}
 use Rattle.book.specs.Model.{Book}
+use Rattle.book.specs.declared.refusal.Refusal.{Refusal}
 use Rattle.book_answers.specs.declared.DrainedSubmission.{DrainedSubmission}
 use Rattle.rules.specs.Rule.{done, Step, Rule, undo, stop, look, act, turn, ◌>>=◌, ◌<$>◌, Outcome, ended, undone, stopped, logged, guarded, grows, full, run}
 use Rattle.rules.specs.Steps.{on_book, run_book}
 
 -- S is asked of each step in the book that it finds, T of a stop, P where the rules end. Behind a step the book is any that has Q: rules
 -- that need to know more of it look again
-module _ (Q : Book → Type 0) (S : Step → Book → Type 0) (T : ℕ → Book → Type 0) where
+module _ (Q : Book → Type 0) (S : Step → Book → Type 0) (T : Refusal → Book → Type 0) where
   abbrev pub HeldTo : {A : Type 0} → (A → Type 0) → Book → Rule A → Type 0
   HeldTo P b (done a) = P a
   HeldTo P b (undo n) = Unit {0}

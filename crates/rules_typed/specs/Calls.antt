@@ -71,7 +71,7 @@ use Rattle.rules.specs.Calls.WriteArchive.{write_archive}
 use Rattle.rules_typed.specs.Every.{every_filter, every_image, every_rising}
 use Rattle.rules_typed.specs.Parts.{variant_typed, current_typed, resolved_typed}
 use Rattle.rules_typed.specs.Typing.{Within, TypedTo, Then, TypedCall, typed_bind, typed_map, typed_cond}
-use Rattle.book.specs.Refusals as refusals
+use Rattle.book.specs.declared.refusal.Refusal.TheVariants as refusals
 
 -- no demand where the rules end
 abbrev Ends : {A : Type 0} → A → Type 0
@@ -153,7 +153,7 @@ typed_live t v k h b w = typed_by_live v k b (λ s x. h s x b w) (find t b) (fin
 
 typed_writing : (room : ℕ) (s : List ℕ) → Kept (writing room s)
 unfolding writing
-typed_writing room s b w = typed_cond Ends b (leb (length s) room) (done s) (undo refusals.short_buffer) tt tt
+typed_writing room s b w = typed_cond Ends b (leb (length s) room) (done s) (undo refusals.ShortBuffer) tt tt
 
 -- ---- queue
 typed_queue : (d : PendingDelivery) → TypedDelivery d → Kept (queue d)
@@ -192,7 +192,7 @@ module _ (P : Memory → Type 0) (h : (a : Memory) → P a) where
   unfolding deliver
   typed_deliver i g a b w = typed_cond P b (elemb i a.emitted) _ _ (h a) (go (eqb b.next_token.0 last64) refl)
     where
-      go : (t : Bool) → eqb b.next_token.0 last64 ≡ t → TypedTo P b (cond t (stop refusals.no_token) (step (emit i g) >>= λ _. done (with_emitted i a)))
+      go : (t : Bool) → eqb b.next_token.0 last64 ≡ t → TypedTo P b (cond t (stop refusals.NoToken) (step (emit i g) >>= λ _. done (with_emitted i a)))
       go true e = tt
       go false e = (next_fits b.next_token.0 w.token e, λ c x. h (with_emitted i a))
 

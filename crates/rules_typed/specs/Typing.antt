@@ -1,6 +1,7 @@
 -- A book within the program's types, and rules whose steps keep it there.
 use Rattle.std.specs.Prelude.{ℕ, suc, Bool, cond}
 use Rattle.book.specs.Model.{Book}
+use Rattle.book.specs.declared.refusal.Refusal.{Refusal}
 use Rattle.book.specs.Typed.{Every, U64, Bytes, TypedHeight, TypedOptionalHeight, TypedBundle, TypedIntent, TypedSubmitted, TypedDelivery}
 use Rattle.rules.specs.Call.{Call}
 use Rattle.rules.specs.Rule.{Revision, tighten, acknowledge, attach, terminality, reopen, Note, enqueue, unqueue, retire, unreplay, unqueue_all, unretire_all, begin_epoch, end_epoch, Step, note, revise, retain, emit, remove, set_aside, finalise, replay, Rule, ◌>>=◌, ◌<$>◌}
@@ -46,7 +47,7 @@ TypedStep (finalise i v) b = Bytes 32 v
 TypedStep (replay i) b = U64 i
 
 -- nothing is asked of a stop
-abbrev pub AnyStop : ℕ → Book → Type 0
+abbrev pub AnyStop : Refusal → Book → Type 0
 AnyStop n b = Unit {0}
 
 -- rules that keep the book b within the types; P is asked where they end

@@ -13,6 +13,7 @@ use std::fs::Files;
 use std::io::Read;
 use std::{fs, io, str};
 
+// `ReadArchive` is a mark with the book beside it: a `Result` of a book costs each call a copy (tried, in `archive_read`).
 // The bytes in hand and whether there may be more of them.
 fn show(rt: &impl Print, s: &[u8], more: bool, hex: bool) -> io::Result<()> {
     let r = archive_read::read_archive(s);
@@ -33,9 +34,10 @@ fn show_file<R: Read>(
     name: &str,
     hex: bool,
 ) -> io::Result<()> {
-    let mut room = [0u8; 65536];
+    // A room of one byte more than are shown: a full one says that the input goes on behind them.
+    let mut room = [0u8; 65537];
     match input::read_all(file, &mut room) {
-        Ok(got) => show(rt, &room[0..got.count], got.more, hex),
+        Ok(count) => show(rt, &room[..count.min(65536)], count > 65536, hex),
         Err(error) => {
             fail(rt, name, &error);
             rt.write_all(b"not read: an error of the file\n")

@@ -44,14 +44,14 @@ use Rattle.rules_ledger.proofs.Theorem.{ledger_theorem}
 use Rattle.part_replies.specs.Reply.{outcome_of, book_left}
 use Rattle.part_sound_laws.specs.Holds.{Holds, holds_view, holds_soundb}
 use Rattle.submission.specs.declared.SubmissionBook.{SubmissionBook}
-use Rattle.submission.specs.Answers.{done_answer, status_answer, ids_answer, flag_answer, height_answer, attempt_answer, look_answer, summary_answer, fee_intent_answer, finalize_answer, written_answer, drain_answer}
+use Rattle.submission.specs.Answers.{reply_to, ids_reply_to, attempt_reply_to, written_reply_to, drain_reply_to}
 use Rattle.submission.specs.Book.{book_of, outcome, next}
-use Rattle.part_door.specs.Door.{sound_open, door_open}
-use Rattle.book.specs.Refusals as refusals
+use Rattle.part_door.specs.Door.{sound_open}
+use Rattle.book.specs.declared.refusal.Refusal.TheVariants as refusals
 
 -- a method answers by the rules r of its call c, whose answer `rules` makes into a value: it comes to what the call comes to in a list
 module _ {A : Type 0} (s : SubmissionBook) (c : Call) (f : A → Value) (r : Rule A) (e : rules encode_model c ≡ f <$> r) where
-  behind_door : (t : Bool) → cond t (run_book (f <$> r) (view s.parts)) (undone refusals.no_book) ≡ mapped f (cond t (run_book r (view s.parts)) (undone refusals.no_book))
+  behind_door : (t : Bool) → cond t (run_book (f <$> r) (view s.parts)) (undone refusals.NoBook) ≡ mapped f (cond t (run_book r (view s.parts)) (undone refusals.NoBook))
   behind_door true = run_map (λ b. b) on_book f r (view s.parts)
   behind_door false = refl
 
@@ -70,35 +70,35 @@ module _ {A : Type 0} (s : SubmissionBook) (c : Call) (f : A → Value) (r : Rul
 
 -- the book in the answer of each method, by the method's contract
 abbrev pub answered_book : SubmissionBook → Call → SubmissionBook
-answered_book s (Call.Queue d) = (done_answer s (queue d)).book
-answered_book s (Call.QueueRebroadcastEpoch is trigger) = (done_answer s (queue_rebroadcast_epoch is trigger)).book
-answered_book s Call.QueueFeeReadiness = (done_answer s queue_fee_readiness).book
-answered_book s (Call.QueueRetainedDelivery i trigger g) = (done_answer s (queue_retained_delivery i trigger g)).book
-answered_book s Call.Drain = (drain_answer s drain).book
-answered_book s (Call.FinalizeAttempt t source j) = (finalize_answer s (finalize_attempt t source j)).book
-answered_book s (Call.FeeIntentForAttempt t) = (fee_intent_answer s (fee_intent_for_attempt t)).book
-answered_book s (Call.AcknowledgeAttempt t) = (status_answer s (acknowledge_attempt t)).book
-answered_book s (Call.StopAttempt t) = (status_answer s (stop_attempt t)).book
-answered_book s (Call.AbandonAttempt t) = (status_answer s (abandon_attempt t)).book
-answered_book s (Call.RelinquishCompletedAttempt t) = (status_answer s (relinquish_completed_attempt t)).book
-answered_book s (Call.RetainSubmitted is) = (ids_answer s (retain_submitted is)).book
-answered_book s (Call.EmitRetirement i) = (done_answer s (emit_retirement i)).book
-answered_book s Call.DrainRetirements = (ids_answer s drain_retirements).book
-answered_book s (Call.ReconciliationInputCoins outputs room) = (written_answer s (reconciliation_input_coins outputs room)).book
-answered_book s Call.ActiveIds = (ids_answer s active_ids).book
-answered_book s (Call.BeginReplay h) = (flag_answer s (begin_replay h)).book
-answered_book s (Call.FinishReplayIfAdvanced h) = (done_answer s (finish_replay_if_advanced h)).book
-answered_book s Call.ReplayRollbackHeight = (height_answer s replay_rollback_height).book
-answered_book s (Call.ReconcileChainTerminality observed spent reorg back) = (done_answer s (reconcile_chain_terminality observed spent reorg back)).book
-answered_book s (Call.CausallyRolledBackIds absent inputs) = (ids_answer s (causally_rolled_back_ids absent inputs)).book
-answered_book s (Call.AbsentOutputsForIds is absent room) = (written_answer s (absent_outputs_for_ids is absent room)).book
-answered_book s (Call.CollectRollbackReplayIds is) = (done_answer s (collect_rollback_replay_ids is)).book
-answered_book s Call.ClearLocalArtifacts = (done_answer s clear_local_artifacts).book
-answered_book s Call.RestoreRuntime = (done_answer s restore_runtime).book
-answered_book s (Call.Attempt t) = (attempt_answer s (attempt t)).book
-answered_book s (Call.Look i) = (look_answer s (look_at i)).book
-answered_book s Call.Summary = (summary_answer s summary).book
-answered_book s (Call.WriteArchive room) = (written_answer s (write_archive encode_model room)).book
+answered_book s (Call.Queue d) = (reply_to s (queue d)).book
+answered_book s (Call.QueueRebroadcastEpoch is trigger) = (reply_to s (queue_rebroadcast_epoch is trigger)).book
+answered_book s Call.QueueFeeReadiness = (reply_to s queue_fee_readiness).book
+answered_book s (Call.QueueRetainedDelivery i trigger g) = (reply_to s (queue_retained_delivery i trigger g)).book
+answered_book s Call.Drain = (drain_reply_to s drain).book
+answered_book s (Call.FinalizeAttempt t source j) = (reply_to s (finalize_attempt t source j)).book
+answered_book s (Call.FeeIntentForAttempt t) = (reply_to s (fee_intent_for_attempt t)).book
+answered_book s (Call.AcknowledgeAttempt t) = (reply_to s (acknowledge_attempt t)).book
+answered_book s (Call.StopAttempt t) = (reply_to s (stop_attempt t)).book
+answered_book s (Call.AbandonAttempt t) = (reply_to s (abandon_attempt t)).book
+answered_book s (Call.RelinquishCompletedAttempt t) = (reply_to s (relinquish_completed_attempt t)).book
+answered_book s (Call.RetainSubmitted is) = (ids_reply_to s (retain_submitted is)).book
+answered_book s (Call.EmitRetirement i) = (reply_to s (emit_retirement i)).book
+answered_book s Call.DrainRetirements = (ids_reply_to s drain_retirements).book
+answered_book s (Call.ReconciliationInputCoins outputs room) = (written_reply_to s (reconciliation_input_coins outputs room)).book
+answered_book s Call.ActiveIds = (ids_reply_to s active_ids).book
+answered_book s (Call.BeginReplay h) = (reply_to s (begin_replay h)).book
+answered_book s (Call.FinishReplayIfAdvanced h) = (reply_to s (finish_replay_if_advanced h)).book
+answered_book s Call.ReplayRollbackHeight = (reply_to s replay_rollback_height).book
+answered_book s (Call.ReconcileChainTerminality observed spent reorg back) = (reply_to s (reconcile_chain_terminality observed spent reorg back)).book
+answered_book s (Call.CausallyRolledBackIds absent inputs) = (ids_reply_to s (causally_rolled_back_ids absent inputs)).book
+answered_book s (Call.AbsentOutputsForIds is absent room) = (written_reply_to s (absent_outputs_for_ids is absent room)).book
+answered_book s (Call.CollectRollbackReplayIds is) = (reply_to s (collect_rollback_replay_ids is)).book
+answered_book s Call.ClearLocalArtifacts = (reply_to s clear_local_artifacts).book
+answered_book s Call.RestoreRuntime = (reply_to s restore_runtime).book
+answered_book s (Call.Attempt t) = (attempt_reply_to s (attempt t)).book
+answered_book s (Call.Look i) = (reply_to s (look_at i)).book
+answered_book s Call.Summary = (reply_to s summary).book
+answered_book s (Call.WriteArchive room) = (written_reply_to s (write_archive encode_model room)).book
 
 -- it is `next` of the method's call
 pub answered_next : (s : SubmissionBook) (c : Call) → answered_book s c ≡ next s c
@@ -149,7 +149,7 @@ answers (c ∷ cs) s = answered (outcome s c) ∷ answers cs (next s c)
 module _ (s : SubmissionBook) (m : Book) (h : Holds s.parts m) where
   outcome_is : (c : Call) → outcome s c ≡ run_book (rules encode_model c) m
   unfolding outcome
-  outcome_is c = door_open s.parts (rules encode_model c) (sound_open s.parts (holds_soundb h)) ∙ ap (run_book (rules encode_model c)) (holds_view h)
+  outcome_is c = sound_open s.parts (rules encode_model c) (holds_soundb h) ∙ ap (run_book (rules encode_model c)) (holds_view h)
 
   next_holds : (c : Call) → Holds (next s c).parts (call_book encode_model c m)
   unfolding next call_book

@@ -56,18 +56,19 @@ fn after_bundle(w: Within) -> Position {
     }
 }
 
+// One function of this and `after_output` would be told how to step, where to go on and what comes behind: no shorter than the two.
 fn after_spend(w: Within) -> Position {
-    match w.spend.next() {
-        Some(spend) => w.in_spend(spend).at(Item::CoinLength),
-        None => after_bundle(w),
-    }
+    w.spend.next().map_or_else(
+        || after_bundle(w),
+        |spend| w.in_spend(spend).at(Item::CoinLength),
+    )
 }
 
 fn after_output(w: Within) -> Position {
-    match w.output.next() {
-        Some(output) => w.in_output(output).at(Item::PuzzleHash),
-        None => after_spend(w),
-    }
+    w.output.next().map_or_else(
+        || after_spend(w),
+        |output| w.in_output(output).at(Item::PuzzleHash),
+    )
 }
 
 fn after_fee_intent(w: Within) -> Position {
@@ -137,10 +138,9 @@ fn after_count(item: Item, w: Within, v: u8) -> Position {
 
 // Behind an id of the last sections: the next id, or what comes behind the list.
 fn after_listed(item: Item, w: Within, then: Item) -> Position {
-    match w.entry.next() {
-        Some(entry) => w.in_entry(false, entry).at(item),
-        None => w.at(then),
-    }
+    w.entry
+        .next()
+        .map_or_else(|| w.at(then), |entry| w.in_entry(false, entry).at(item))
 }
 
 // Behind the items that leave no choice, or whose place decides.
@@ -212,7 +212,7 @@ pub fn size(p: Position) -> usize {
 pub fn item_at(s: &[u8], place: usize) -> Option<Position> {
     let mut position = Within::default().at(Item::NumbersCount);
     let mut at = 0;
-    // The place moves on by the size of each item.
+    // A `while`: each item says itself how far the place moves on.
     while at < place {
         let n = size(position);
         if n == 0 || s.len().saturating_sub(at) < n {

@@ -1,27 +1,27 @@
 // Reading an archive, and whether the book is sound.
-use crate::frame::{Step, finish, finish_with, say};
+use crate::frame::{Step, finish, finish_done, finish_reply, say_byte};
 use archive_read::read_archive;
 use book::BookData;
+use book::refusal::Refusal;
 use book_sound::is_sound;
 use codec_answers::part::append_flag;
-use codec_append::{append_byte, append_number};
+use part_replies::Reply;
 use submission::SubmissionBook;
 use tool_script::list::read_bytes;
 
 fn accept(parts: BookData, at: usize) -> Step {
     let book = SubmissionBook { parts };
-    finish_with(0, book, at)
+    let answer = Ok(());
+    finish_done(Reply { answer, book }, at)
 }
 
 // A refusal, with its place.
 fn say_place(place: usize) {
-    let mut out = [0u8; 9];
-    let head = append_byte(&mut out, 0, 13);
-    let e = append_number(&mut out, head, place as u64);
-    say(&out, e);
+    say_byte(Refusal::NoArchive as u8);
+    io::write_all(1, &(place as u64).to_be_bytes());
 }
 
-// 1c: an accepted archive becomes the book.
+// 1c: an accepted archive becomes the book. `ReadArchive` marks with `ok` whether there is one: a Result of a book costs a copy.
 fn read_call(s: &[u8], at: usize, b: SubmissionBook) -> Option<Step> {
     let archive = read_bytes(s, at)?;
     let r = read_archive(archive.value);
@@ -32,20 +32,13 @@ fn read_call(s: &[u8], at: usize, b: SubmissionBook) -> Option<Step> {
     Some(finish(b, archive.at))
 }
 
-fn say_sound(sound: bool) {
-    let mut out = [0u8; 2];
-    let head = append_byte(&mut out, 0, 0);
-    let e = append_flag(&mut out, head, sound);
-    say(&out, e);
-}
-
 // 1d
-fn sound_call(at: usize, b: SubmissionBook) -> Step {
-    say_sound(is_sound(&b.parts));
-    finish(b, at)
+fn sound_call(at: usize, book: SubmissionBook) -> Step {
+    let answer = Ok(is_sound(&book.parts));
+    finish_reply(Reply { answer, book }, append_flag, at)
 }
 
-// 1c and 1d
+// 1c and 1d. A match on the script's byte: an enum of the calls would be one match more.
 pub fn play(op: u8, s: &[u8], at: usize, b: SubmissionBook) -> Option<Step> {
     match op {
         0x1c => read_call(s, at, b),

@@ -1,23 +1,16 @@
 // Calls that write their value into a lent buffer.
-use crate::frame::{Step, finish, say};
+use crate::frame::{Step, finish, say_answer};
 use codec_answers::part::append_length;
-use codec_answers::value::refusal_number;
-use codec_append::append_byte;
-use submission::{SubmissionBook, WrittenAnswer};
-use tool_script::list::{read_bytes, read_ids, read_length};
+use part_replies::Reply;
+use submission::SubmissionBook;
+use tool_script::list::{as_slice, read_bytes, read_ids, read_length};
 
 // What a lent buffer holds at first.
 const FILL: u8 = 0xa5;
 
 // The refusal, or 0 with the length written; then the lent buffer.
-fn finish_written(r: WrittenAnswer, lent: &[u8], at: usize) -> Step {
-    let refusal = refusal_number(r.answer);
-    let mut out = [0u8; 5];
-    let mut e = append_byte(&mut out, 0, refusal);
-    if refusal == 0 {
-        e = append_length(&mut out, e, r.length);
-    }
-    say(&out, e);
+fn finish_written(r: Reply<usize, SubmissionBook>, lent: &[u8], at: usize) -> Step {
+    say_answer(&r.answer, |out, at, n| append_length(out, at, *n));
     io::write_all(1, lent);
     finish(r.book, at)
 }
@@ -39,7 +32,7 @@ fn absent_outputs_for_ids(s: &[u8], at: usize, b: SubmissionBook) -> Option<Step
     let length = read_length(s, absent.at)?;
     let mut room = [FILL; 65536];
     let lent = &mut room[..length.value];
-    let r = b.absent_outputs_for_ids(ids.value.as_slice(), absent.value, &mut *lent);
+    let r = b.absent_outputs_for_ids(as_slice(&ids.value), absent.value, &mut *lent);
     Some(finish_written(r, &*lent, length.at))
 }
 
@@ -52,7 +45,7 @@ fn write_archive(s: &[u8], at: usize, b: SubmissionBook) -> Option<Step> {
     Some(finish_written(r, &*lent, length.at))
 }
 
-// 0f, 16 and 1b
+// 0f, 16 and 1b. A match on the script's byte: an enum of the calls would be one match more.
 pub fn play(op: u8, s: &[u8], at: usize, b: SubmissionBook) -> Option<Step> {
     match op {
         0x0f => reconciliation_input_coins(s, at, b),

@@ -1,26 +1,27 @@
 // Calls that answer nothing.
-use crate::frame::{Step, finish_done, finish_with};
+use crate::frame::{Step, finish_done, finish_refused};
+use book::refusal::Refusal;
 use book::{DeliveryTrigger, Height, SubmissionId};
-use codec_answers::value::refusal_number;
-use submission::{DoneAnswer, SubmissionBook};
+use part_replies::Reply;
+use submission::SubmissionBook;
 use tool_script::delivery::read_delivery;
 use tool_script::kind::{read_flag, read_goal, read_number, read_trigger};
-use tool_script::list::{read_bytes, read_ids};
+use tool_script::list::{as_slice, read_bytes, read_ids};
 
 // 01
 fn queue(s: &[u8], at: usize, b: SubmissionBook) -> Option<Step> {
     let delivery = read_delivery(s, at)?;
     Some(match delivery.value {
         Some(value) => finish_done(b.queue(value), delivery.at),
-        None => finish_with(3, b, delivery.at),
+        None => finish_refused(Refusal::BadValue, b, delivery.at),
     })
 }
 
-// An argument beside the lists stands for no value: 3, but the call's own 2 for its lists comes first.
-fn unfit(r: DoneAnswer) -> u8 {
-    match refusal_number(r.answer) {
-        2 => 2,
-        _ => 3,
+// An argument beside the lists stands for no value, but the call's own refusal of its lists comes first.
+fn unfit(r: Reply<(), SubmissionBook>) -> Refusal {
+    match r.answer {
+        Err(Refusal::BadList) => Refusal::BadList,
+        _ => Refusal::BadValue,
     }
 }
 
@@ -29,10 +30,10 @@ fn queue_rebroadcast_epoch(s: &[u8], at: usize, b: SubmissionBook) -> Option<Ste
     let ids = read_ids(s, at)?;
     let trigger = read_trigger(s, ids.at)?;
     let any = trigger.value.unwrap_or(DeliveryTrigger::Protocol);
-    let r = b.queue_rebroadcast_epoch(ids.value.as_slice(), any);
+    let r = b.queue_rebroadcast_epoch(as_slice(&ids.value), any);
     Some(match trigger.value {
         Some(_) => finish_done(r, trigger.at),
-        None => finish_with(unfit(r), b, trigger.at),
+        None => finish_refused(unfit(r), b, trigger.at),
     })
 }
 
@@ -46,11 +47,11 @@ fn queue_retained_delivery(s: &[u8], at: usize, b: SubmissionBook) -> Option<Ste
             let r = b.queue_retained_delivery(SubmissionId(id.value), t, g);
             finish_done(r, goal.at)
         }
-        _ => finish_with(3, b, goal.at),
+        _ => finish_refused(Refusal::BadValue, b, goal.at),
     })
 }
 
-// 0d and 12: a number.
+// 0d and 12: a number. A match on `op`: a byte of the script is read and its call made.
 fn play_number(op: u8, s: &[u8], at: usize, b: SubmissionBook) -> Option<Step> {
     let n = read_number(s, at)?;
     let r = match op {
@@ -70,22 +71,23 @@ fn reconcile_chain_terminality(s: &[u8], at: usize, b: SubmissionBook) -> Option
         observed.value,
         spent.value,
         flag.value.unwrap_or(false),
-        ids.value.as_slice(),
+        as_slice(&ids.value),
     );
     Some(match flag.value {
         Some(_) => finish_done(r, ids.at),
-        None => finish_with(unfit(r), b, ids.at),
+        None => finish_refused(unfit(r), b, ids.at),
     })
 }
 
 // 17
 fn collect_rollback_replay_ids(s: &[u8], at: usize, b: SubmissionBook) -> Option<Step> {
     let ids = read_ids(s, at)?;
-    let r = b.collect_rollback_replay_ids(ids.value.as_slice());
+    let r = b.collect_rollback_replay_ids(as_slice(&ids.value));
     Some(finish_done(r, ids.at))
 }
 
-// 01, 02, 04, 14 and 17 have arguments of their own, 0d and 12 a number, 03, 18 and 19 none.
+// 01, 02, 04, 14 and 17 have arguments of their own, 0d and 12 a number, 03, 18 and 19 none. A match on the script's byte: an enum of
+// the calls would be one match more.
 pub fn play(op: u8, s: &[u8], at: usize, b: SubmissionBook) -> Option<Step> {
     match op {
         0x01 => queue(s, at, b),

@@ -1,6 +1,12 @@
 // What every call of a script ends with: its answer, and the digest of the book that it leaves.
-use codec_answers::value::refusal_number;
-use submission::{DoneAnswer, SubmissionBook};
+use book::refusal::Refusal;
+use codec_answers::value::answer_number;
+use codec_append::append_byte;
+use part_replies::Reply;
+use submission::SubmissionBook;
+
+// The longest answer is that of a drain: the 0, and what it hands out.
+const LONGEST_ANSWER: usize = 19331;
 
 // The position behind a call, and the book. There is none where the script is cut short or has no call.
 #[derive(Clone, Copy)]
@@ -13,10 +19,21 @@ pub fn say_byte(n: u8) {
     io::write_all(1, &[n]);
 }
 
-// Writes the first n bytes.
-pub fn say(out: &[u8], n: usize) {
-    if let Some(text) = out.get(..n) {
-        io::write_all(1, text);
+// The refusal, or 0 and the value, which the caller's function appends.
+pub fn say_answer<T, F: Fn(&mut [u8], usize, &T) -> usize>(answer: &Result<T, Refusal>, append: F)
+    requires { F.IsAlwaysCallable append }
+{
+    match answer {
+        Ok(value) => {
+            let mut out = [0u8; LONGEST_ANSWER];
+            let head = append_byte(&mut out, 0, 0);
+            let e = append(&mut out, head, value);
+            // What `append` promises of the place that it answers is not known here.
+            if let Some(text) = out.get(..e) {
+                io::write_all(1, text);
+            }
+        }
+        Err(refusal) => say_byte(*refusal as u8),
     }
 }
 
@@ -37,12 +54,25 @@ pub fn finish(b: SubmissionBook, at: usize) -> Step {
     Step { at, book: b }
 }
 
-// A refusal, or 0 for a call that answers nothing.
-pub fn finish_with(n: u8, b: SubmissionBook, at: usize) -> Step {
-    say_byte(n);
-    finish(b, at)
+pub fn finish_reply<T: Copy, F: Fn(&mut [u8], usize, &T) -> usize>(
+    r: Reply<T, SubmissionBook>,
+    append: F,
+    at: usize,
+) -> Step
+    requires { F.IsAlwaysCallable append }
+{
+    say_answer(&r.answer, append);
+    finish(r.book, at)
 }
 
-pub fn finish_done(r: DoneAnswer, at: usize) -> Step {
-    finish_with(refusal_number(r.answer), r.book, at)
+// A call that answers nothing.
+pub fn finish_done(r: Reply<(), SubmissionBook>, at: usize) -> Step {
+    say_byte(answer_number(&r.answer));
+    finish(r.book, at)
+}
+
+// A call whose arguments stand for no value.
+pub fn finish_refused(r: Refusal, b: SubmissionBook, at: usize) -> Step {
+    say_byte(r as u8);
+    finish(b, at)
 }

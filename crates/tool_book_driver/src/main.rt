@@ -4,7 +4,6 @@
 mod archive_ops;
 mod buffer_ops;
 mod done_ops;
-mod drain_ops;
 mod frame;
 mod id_ops;
 mod input;
@@ -25,7 +24,9 @@ struct Played {
     book: SubmissionBook,
 }
 
-// The call at a position of the script: each module has the calls of one kind of answer.
+// Script, place and book go through every call, here and in the modules: a struct of them would be taken apart at each.
+// The call at a position of the script: each module has the calls of one kind of answer. A match on the script's byte: an enum of the
+// calls would be one match more.
 fn play_call(s: &[u8], at: usize, b: SubmissionBook) -> Option<Step> {
     let op = read_byte(s, at)?;
     let code = op.value;
@@ -33,9 +34,8 @@ fn play_call(s: &[u8], at: usize, b: SubmissionBook) -> Option<Step> {
     match code {
         0x01 | 0x02 | 0x03 | 0x04 | 0x0d => done_ops::play(code, s, from, b),
         0x12 | 0x14 | 0x17 | 0x18 | 0x19 => done_ops::play(code, s, from, b),
-        0x05 => Some(drain_ops::play(from, b)),
         0x08 | 0x09 | 0x0a | 0x0b => status_ops::play(code, s, from, b),
-        0x06 | 0x07 | 0x11 | 0x13 | 0x1a => value_ops::play(code, s, from, b),
+        0x05 | 0x06 | 0x07 | 0x11 | 0x13 | 0x1a => value_ops::play(code, s, from, b),
         0x0c | 0x0e | 0x10 | 0x15 => id_ops::play(code, s, from, b),
         0x0f | 0x16 | 0x1b => buffer_ops::play(code, s, from, b),
         0x1c | 0x1d => archive_ops::play(code, s, from, b),
@@ -85,6 +85,7 @@ fn play_script(room: &mut [u8]) {
     }
 }
 
+// No `HostRuntime`: it would go down through every call to where the answer is written.
 fn main() {
     let mut room = input::window();
     play_script(&mut room);

@@ -1,10 +1,7 @@
 // A book as text on standard output: the payments on top, then section by section.
 #![tactic(auto)]
 
-ghost use Rattle.std.specs.Prelude.{◌<◌, ◌≤◌, length};
-
 use book::{BookData, PendingDelivery, ReplayEpoch, SubmittedTx};
-use codec_append::append_bytes;
 use std::io;
 use tool_book_summary::queue::is_new;
 use tool_book_summary::tally::{payment_of, totals};
@@ -15,30 +12,17 @@ use tool_payments::payments::queued_payment;
 use tool_payments::text::{append_payment, append_totals};
 use tool_text::append_hex_line;
 
-fn show_submission(rt: &impl Print, i: usize, n: usize, t: SubmittedTx) -> io::Result<()>
-    requires { i < 16 }
+// A room with the place behind what is written, as `codec_append` has them. The clause is std's form for a function that is lent.
+// Prints what `append` writes into an empty room.
+fn show_text<F: FnOnce(&mut [u8]) -> usize>(rt: &impl Print, append: F) -> io::Result<()>
+    requires { F.IsAlwaysCallable append }
 {
-    let mut out = [0u8; 65536];
-    let blank_end = append_bytes(&mut out, 0, b"\n");
-    let e = append_submission(&mut out, blank_end, i, n, t);
-    rt.write_all(&out[..e])
+    let mut room = [0u8; 65536];
+    let end = append(&mut room);
+    rt.write_all(&room[..end.min(65536)])
 }
 
-fn show_delivery(rt: &impl Print, i: usize, n: usize, d: PendingDelivery) -> io::Result<()>
-    requires { i < 16 }
-{
-    let mut out = [0u8; 65536];
-    let blank_end = append_bytes(&mut out, 0, b"\n");
-    let e = append_delivery(&mut out, blank_end, i, n, d);
-    rt.write_all(&out[..e])
-}
-
-fn show_tokens_of(rt: &impl Print, t: SubmittedTx) -> io::Result<()> {
-    let mut out = [0u8; 256];
-    let e = append_tokens(&mut out, 0, t);
-    rt.write_all(&out[..e])
-}
-
+// Submissions and queue as two slices, here and below: functions that hand a whole book on are slow to check.
 fn show_totals(
     rt: &impl Print,
     submitted: &[SubmittedTx],
@@ -46,6 +30,7 @@ fn show_totals(
 ) -> io::Result<()> {
     let retained = submitted.len();
     let queued = queue.len();
+    // Paper 01: an optional attempt is a mark with the attempt beside it.
     let live = submitted
         .iter()
         .filter(|t| t.slots.active_attempt.present)
@@ -65,16 +50,16 @@ fn show_totals(
 fn show_ids(rt: &impl Print, what: &str, ids: &[u64]) -> io::Result<()> {
     let n = ids.len();
     println!(rt; "{what} ids, number: {n}")?;
-    let mut out = [0u8; 4096];
-    let e = append_ids(&mut out, 0, b"  ids:", ids);
-    rt.write_all(&out[..e])
+    show_text(rt, |out| append_ids(out, 0, b"  ids:", ids))
 }
 
 // The rollback height and the ids replayed since.
 fn show_replay(rt: &impl Print, epoch: &ReplayEpoch) -> io::Result<()> {
-    let mut out = [0u8; 256];
-    let e = append_height(&mut out, 0, b"\nrollback height: ", epoch.rollback_height);
-    rt.write_all(&out[..e])?;
+    let height = epoch.rollback_height;
+    show_text(
+        rt,
+        |out| append_height(out, 0, b"\nrollback height: ", height),
+    )?;
     let ids = &epoch.replayed_submission_ids;
     show_ids(rt, "replayed", &ids.items[..ids.count.min(16)])
 }
@@ -83,7 +68,7 @@ fn show_replay(rt: &impl Print, epoch: &ReplayEpoch) -> io::Result<()> {
 fn show_fates(rt: &impl Print, submitted: &[SubmittedTx], next: u64) -> io::Result<()> {
     println!(rt; "\ntokens and their fates")?;
     for t in submitted {
-        show_tokens_of(rt, *t)?;
+        show_text(rt, |out| append_tokens(out, 0, t))?;
     }
     println!(rt;
         "  all other tokens issued below the next token are gone (displaced or struck out; a book does not keep the two apart), next token: {next}"
@@ -91,9 +76,7 @@ fn show_fates(rt: &impl Print, submitted: &[SubmittedTx], next: u64) -> io::Resu
 }
 
 fn show_payment(rt: &impl Print, p: Payment) -> io::Result<()> {
-    let mut out = [0u8; 256];
-    let e = append_payment(&mut out, 0, p);
-    rt.write_all(&out[..e])
+    show_text(rt, |out| append_payment(out, 0, p))
 }
 
 // The payments, one to a line, and their totals. A book without submissions and queue entries has no payment.
@@ -104,31 +87,24 @@ fn show_payments(
 ) -> io::Result<()> {
     println!(rt; "\npayments")?;
     for t in submitted {
-        show_payment(rt, payment_of(*t, queue))?;
+        show_payment(rt, payment_of(t, queue))?;
     }
     for (i, d) in queue.iter().enumerate() {
-        if is_new(*d, submitted, &queue[i + 1..]) {
-            show_payment(rt, queued_payment(*d))?;
+        if is_new(d, submitted, &queue[i + 1..]) {
+            show_payment(rt, queued_payment(d))?;
         }
     }
     if submitted.is_empty() && queue.is_empty() {
         println!(rt; "  none")?;
     }
     println!(rt; "\npayments in all")?;
-    let mut out = [0u8; 512];
-    let e = append_totals(&mut out, 0, totals(submitted, queue));
-    rt.write_all(&out[..e])
+    let totals = totals(submitted, queue);
+    show_text(rt, |out| append_totals(out, 0, totals))
 }
 
 fn show_digest(rt: &impl Print, digest: &[u8; 32]) -> io::Result<()> {
-    let mut out = [0u8; 256];
-    let e = append_hex_line(
-        &mut out,
-        0,
-        b"SHA-256 of these bytes, to be kept beside the archive: ",
-        digest,
-    );
-    rt.write_all(&out[..e])
+    let label = b"SHA-256 of these bytes, to be kept beside the archive: ";
+    show_text(rt, |out| append_hex_line(out, 0, label, digest))
 }
 
 // The retained submissions and the queue, entry by entry.
@@ -136,15 +112,19 @@ fn show_entries(
     rt: &impl Print,
     submitted: &[SubmittedTx],
     queue: &[PendingDelivery],
-) -> io::Result<()>
-    requires submitted_fit { length submitted.now ≤ 16 }
-    requires queue_fits { length queue.now ≤ 16 }
-{
+) -> io::Result<()> {
     for (i, t) in submitted.iter().enumerate() {
-        show_submission(rt, i, submitted.len(), *t)?;
+        let number = i + 1;
+        println!(rt; "")?;
+        show_text(
+            rt,
+            |out| append_submission(out, 0, number, submitted.len(), t),
+        )?;
     }
     for (i, d) in queue.iter().enumerate() {
-        show_delivery(rt, i, queue.len(), *d)?;
+        let number = i + 1;
+        println!(rt; "")?;
+        show_text(rt, |out| append_delivery(out, 0, number, queue.len(), d))?;
     }
     Ok(())
 }

@@ -10,8 +10,8 @@ use tool_payments::payments::{queued_payment, retained_payment};
 use tool_payments::{Payment, Totals};
 
 // The payment that a submission is, beside the queue.
-pub fn payment_of(t: SubmittedTx, queue: &[PendingDelivery]) -> Payment
-    ensures { result ≡ payment_of queue.now t }
+pub fn payment_of(t: &SubmittedTx, queue: &[PendingDelivery]) -> Payment
+    ensures { result ≡ payment_of queue.now t.now }
 {
     retained_payment(t, waits(t, queue))
 }
@@ -22,17 +22,17 @@ fn add_retained(t: Totals, submitted: &[SubmittedTx], queue: &[PendingDelivery])
 {
     submitted
         .iter()
-        .fold(t, |sum, x| add_payment(sum, payment_of(*x, queue)))
+        .fold(t, |sum, x| add_payment(sum, payment_of(x, queue)))
 }
 
 // The queue entry d, with the queue behind it, if it is a payment of its own.
 fn add_new(
     t: Totals,
-    d: PendingDelivery,
+    d: &PendingDelivery,
     submitted: &[SubmittedTx],
     behind: &[PendingDelivery],
 ) -> Totals
-    ensures { result ≡ add_new submitted.now behind.now t d }
+    ensures { result ≡ add_new submitted.now behind.now t d.now }
 {
     if is_new(d, submitted, behind) {
         return add_payment(t, queued_payment(d));
@@ -47,7 +47,7 @@ fn add_queued(t: Totals, submitted: &[SubmittedTx], queue: &[PendingDelivery]) -
     let mut sum = t;
     // A loop: a turn takes the queue behind its entry too, which no step of a fold does.
     for (i, d) in queue.iter().enumerate() {
-        sum = add_new(sum, *d, submitted, &queue[i + 1..]);
+        sum = add_new(sum, d, submitted, &queue[i + 1..]);
     }
     sum
 }

@@ -1,7 +1,6 @@
 -- Stored fingerprints, each with what it agrees with when it is computed anew (docs/ARCHIVE.md, "The fingerprints").
-use Rattle.std.specs.Prelude.{◌≡◌, Bool, true, false, not, List, ◌++◌, ℕ}
+use Rattle.std.specs.Prelude.{◌≡◌, Bool, true, false, cond, List, ◌++◌, ℕ}
 use Rattle.std.proofs.Common.{sym, ap, ◌∙◌}
-use Rattle.std.proofs.lemmas.Bool.{not-true, not-false}
 use Rattle.base_lists.specs.Bytes.{eqs}
 use Rattle.archive_bundle_form.specs.Forms.{variant_fingerprint, intent_fingerprint}
 use Rattle.rules.specs.Parts.{current_fingerprint}
@@ -32,14 +31,10 @@ unfoldable pub checked_text : List ℕ → List ℕ → Fingerprints → List �
 unfolding hex
 checked_text label stored f = label ++ hex stored ++ agreement_text (eqs stored f.base) (eqs stored f.current)
 
-abbrev pub checked_or : Bool → List ℕ → List ℕ
-checked_or true l = l
-checked_or false l = ascii "no\n"
-
 -- an optional one
 unfoldable pub checked_optional : List ℕ → OptionalHash → Fingerprints → List ℕ
 unfolding checked_text
-checked_optional label h f = label ++ checked_or h.present (checked_text (ascii "yes, fingerprint ") h.hash f)
+checked_optional label h f = label ++ cond h.present (checked_text (ascii "yes, fingerprint ") h.hash f) (ascii "no\n")
 
 abbrev pub intent_agreement : Bool → List ℕ
 intent_agreement true = ascii ", agrees with base bundle, expiry and fee intent\n"
@@ -55,9 +50,3 @@ agreement_by {b} {b'} {c} {c'} p q = sym (ap (λ (x : Bool). agreement_text x c)
 
 pub intent_agreement_by : {b b' : Bool} → b ≡ b' → intent_agreement b' ≡ intent_agreement b
 intent_agreement_by p = sym (ap intent_agreement p)
-
-pub checked_no : (b : Bool) (l : List ℕ) → not b ≡ true → ascii "no\n" ≡ checked_or b l
-checked_no b l h = sym (ap (λ (x : Bool). checked_or x l) (not-true b h))
-
-pub checked_yes : (b : Bool) (l : List ℕ) → not b ≡ false → l ≡ checked_or b l
-checked_yes b l h = sym (ap (λ (x : Bool). checked_or x l) (not-false b h))

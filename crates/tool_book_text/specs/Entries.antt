@@ -1,7 +1,5 @@
 -- Attempts, retained submissions, queue entries, tokens and lists of ids as text.
-use Rattle.std.specs.Prelude.{◌≡◌, refl, Bool, true, false, not, List, [], ◌∷◌, ◌++◌, ℕ, ◌+◌, length}
-use Rattle.std.proofs.Common.{sym, ap, arith}
-use Rattle.std.proofs.lemmas.Bool.{not-true, not-false}
+use Rattle.std.specs.Prelude.{◌≡◌, refl, cond, List, [], ◌∷◌, ◌++◌, ℕ, length}
 use Rattle.codec_forms.specs.Wire.{enc_many}
 use Rattle.tool_text.specs.Ascii.{ascii}
 use Rattle.tool_text.specs.Numbers.{decimal, number_line}
@@ -27,13 +25,9 @@ attempt_text label f a =
     ++ checked_text (ascii "    drained fingerprint: ") a.drained_variant_fingerprint f
     ++ checked_optional (ascii "    finalised: ") a.finalized_variant_fingerprint f
 
-abbrev pub slot_or : Bool → List ℕ → List ℕ → List ℕ
-slot_or true label l = l
-slot_or false label l = label ++ ascii "none\n"
-
 unfoldable pub slot_text : List ℕ → Fingerprints → OptionalAttempt → List ℕ
 unfolding attempt_text
-slot_text label f s = slot_or s.present label (attempt_text label f s.attempt)
+slot_text label f s = cond s.present (attempt_text label f s.attempt) (label ++ ascii "none\n")
 
 unfoldable pub slots_text : Fingerprints → AttemptSlots → List ℕ
 unfolding slot_text
@@ -57,15 +51,15 @@ entry_text f e =
     ++ variant_text e.state.current_variant
     ++ facts_text f e
 
--- the i-th of n, from 1 on
+-- the k-th of n, from 1 on
 unfoldable pub heading_text : List ℕ → ℕ → ℕ → List ℕ
 unfolding decimal number_line
-heading_text label i n = label ++ decimal (i + 1) ++ number_line (ascii " of ") n
+heading_text label k n = label ++ decimal k ++ number_line (ascii " of ") n
 
 unfoldable pub submission_text : ℕ → ℕ → SubmittedTx → List ℕ
 unfolding heading_text number_line slots_text entry_text fingerprints_of
-submission_text i n t =
-    heading_text (ascii "retained submission ") i n
+submission_text k n t =
+    heading_text (ascii "retained submission ") k n
     ++ number_line (ascii "  id: ") t.entry.id.0
     ++ slots_text (fingerprints_of t.entry) t.slots
     ++ entry_text (fingerprints_of t.entry) t.entry
@@ -80,21 +74,17 @@ intent_text p =
 
 unfoldable pub delivery_text : ℕ → ℕ → PendingDelivery → List ℕ
 unfolding heading_text intent_text trigger_text goal_text
-delivery_text i n d =
-    heading_text (ascii "queue entry ") i n
+delivery_text k n d =
+    heading_text (ascii "queue entry ") k n
     ++ intent_text d.intent
     ++ trigger_text d.trigger
     ++ ascii "  goal: "
     ++ goal_text d.goal
 
-abbrev pub token_or : Bool → List ℕ → List ℕ
-token_or true l = l
-token_or false l = []
-
 -- the token of a slot and its submission
 unfoldable pub token_text : List ℕ → ℕ → OptionalAttempt → List ℕ
 unfolding decimal number_line
-token_text fate id s = token_or s.present (ascii "  token " ++ decimal s.attempt.token.0 ++ number_line fate id)
+token_text fate id s = cond s.present (ascii "  token " ++ decimal s.attempt.token.0 ++ number_line fate id) []
 
 unfoldable pub tokens_text : SubmittedTx → List ℕ
 unfolding token_text
@@ -115,23 +105,7 @@ unfoldable pub ids_text : List ℕ → List ℕ → List ℕ
 unfolding enc_many id_after_space
 ids_text label l = label ++ none_of l ++ enc_many id_after_space l ++ ascii "\n"
 
--- ---- by the mark
-pub slot_no : (b : Bool) (label l : List ℕ) → not b ≡ true → label ++ ascii "none\n" ≡ slot_or b label l
-slot_no b label l h = sym (ap (λ (x : Bool). slot_or x label l) (not-true b h))
-
-pub slot_yes : (b : Bool) (label l : List ℕ) → not b ≡ false → l ≡ slot_or b label l
-slot_yes b label l h = sym (ap (λ (x : Bool). slot_or x label l) (not-false b h))
-
-pub token_no : (b : Bool) (l : List ℕ) → not b ≡ true → [] ≡ token_or b l
-token_no b l h = sym (ap (λ (x : Bool). token_or x l) (not-true b h))
-
-pub token_yes : (b : Bool) (l : List ℕ) → not b ≡ false → l ≡ token_or b l
-token_yes b l h = sym (ap (λ (x : Bool). token_or x l) (not-false b h))
-
-pub none_empty : (l : List ℕ) → length l ≡ 0 → ascii " none" ≡ none_of l
-none_empty [] h = refl
-none_empty (x ∷ l) h = absurd (omega arith)
-
+-- ---- by the length
 pub none_some : (l : List ℕ) → (length l ≡ 0 → ⊥) → [] ≡ none_of l
 none_some [] h = absurd (h refl)
 none_some (x ∷ l) h = refl

@@ -67,13 +67,12 @@ pub fn append_checked_optional(
 ) -> usize
     ensures { Fits (checked_optional label.now h f) at out.old out.new result }
 {
-    let present = h.present;
-    let hash = h.hash;
     let label_end = append_bytes(&mut *out, at, label);
-    if !present {
-        return append_bytes(out, label_end, b"no\n");
+    if h.present {
+        append_checked(out, label_end, b"yes, fingerprint ", &h.hash, f)
+    } else {
+        append_bytes(out, label_end, b"no\n")
     }
-    append_checked(out, label_end, b"yes, fingerprint ", &hash, f)
 }
 
 fn append_intent_agreement(out: &mut [u8], at: usize, agrees: bool) -> usize

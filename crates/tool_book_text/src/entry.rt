@@ -1,5 +1,4 @@
 // Attempts, retained submissions, queue entries, tokens and lists of ids.
-ghost use Rattle.std.specs.Prelude.{◌≡◌, ◌<◌};
 ghost use Rattle.codec_append.specs.Fits.{Fits};
 ghost use Rattle.codec_forms.specs.Wire.{enc_many};
 ghost use Rattle.tool_book_text.specs.Entries.{attempt_text, slot_text, slots_text, facts_text, entry_text, heading_text, submission_text, intent_text, delivery_text, token_text, tokens_text, id_after_space, none_of, ids_text};
@@ -46,6 +45,7 @@ fn append_attempt(
     append_checked_optional(out, drained_end, b"    finalised: ", finalized, f)
 }
 
+// Paper 01: an optional attempt is a mark with the attempt beside it; so too in `append_token`.
 fn append_slot(
     out: &mut [u8],
     at: usize,
@@ -55,13 +55,12 @@ fn append_slot(
 ) -> usize
     ensures { Fits (slot_text label.now f s) at out.old out.new result }
 {
-    let present = s.present;
-    let attempt = s.attempt;
-    if !present {
+    if s.present {
+        append_attempt(out, at, label, f, s.attempt)
+    } else {
         let label_end = append_bytes(&mut *out, at, label);
-        return append_bytes(out, label_end, b"none\n");
+        append_bytes(out, label_end, b"none\n")
     }
-    append_attempt(out, at, label, f, attempt)
 }
 
 fn append_slots(out: &mut [u8], at: usize, f: Fingerprints, s: AttemptSlots) -> usize
@@ -107,25 +106,23 @@ fn append_entry(out: &mut [u8], at: usize, f: Fingerprints, e: SubmittedEntry) -
     append_facts(out, variant_end, f, e)
 }
 
-// The i-th of n, counted from 0, as a heading that counts from 1.
-fn append_heading(out: &mut [u8], at: usize, label: &[u8], i: usize, n: usize) -> usize
-    requires { i < 16 }
-    ensures { Fits (heading_text label.now i n) at out.old out.new result }
+// The k-th of n, counted from 1, as a heading.
+fn append_heading(out: &mut [u8], at: usize, label: &[u8], k: usize, n: usize) -> usize
+    ensures { Fits (heading_text label.now k n) at out.old out.new result }
 {
     let label_end = append_bytes(&mut *out, at, label);
-    let number_end = append_decimal(&mut *out, label_end, (i + 1) as u64);
+    let number_end = append_decimal(&mut *out, label_end, k as u64);
     append_number_line(out, number_end, b" of ", n as u64)
 }
 
-// A retained submission, the i-th of n.
-pub fn append_submission(out: &mut [u8], at: usize, i: usize, n: usize, t: SubmittedTx) -> usize
-    requires { i < 16 }
-    ensures { Fits (submission_text i n t) at out.old out.new result }
+// A retained submission, the k-th of n.
+pub fn append_submission(out: &mut [u8], at: usize, k: usize, n: usize, t: &SubmittedTx) -> usize
+    ensures { Fits (submission_text k n t.now) at out.old out.new result }
 {
     let slots = t.slots;
     let entry = t.entry;
     let f = fingerprints_of(entry);
-    let heading_end = append_heading(&mut *out, at, b"retained submission ", i, n);
+    let heading_end = append_heading(&mut *out, at, b"retained submission ", k, n);
     let id_end = append_number_line(&mut *out, heading_end, b"  id: ", t.entry.id.0);
     let slots_end = append_slots(&mut *out, id_end, f, slots);
     append_entry(out, slots_end, f, entry)
@@ -145,15 +142,14 @@ fn append_intent(out: &mut [u8], at: usize, p: PendingSubmissionIntent) -> usize
     append_fee_intent(out, expiry_end, fee_intent)
 }
 
-// A queue entry, the i-th of n.
-pub fn append_delivery(out: &mut [u8], at: usize, i: usize, n: usize, d: PendingDelivery) -> usize
-    requires { i < 16 }
-    ensures { Fits (delivery_text i n d) at out.old out.new result }
+// A queue entry, the k-th of n.
+pub fn append_delivery(out: &mut [u8], at: usize, k: usize, n: usize, d: &PendingDelivery) -> usize
+    ensures { Fits (delivery_text k n d.now) at out.old out.new result }
 {
     let intent = d.intent;
     let trigger = d.trigger;
     let goal = d.goal;
-    let heading_end = append_heading(&mut *out, at, b"queue entry ", i, n);
+    let heading_end = append_heading(&mut *out, at, b"queue entry ", k, n);
     let intent_end = append_intent(&mut *out, heading_end, intent);
     let trigger_end = append_trigger(&mut *out, intent_end, trigger);
     let word_end = append_bytes(&mut *out, trigger_end, b"  goal: ");
@@ -164,18 +160,18 @@ pub fn append_delivery(out: &mut [u8], at: usize, i: usize, n: usize, d: Pending
 fn append_token(out: &mut [u8], at: usize, fate: &[u8], id: u64, s: OptionalAttempt) -> usize
     ensures { Fits (token_text fate.now id s) at out.old out.new result }
 {
-    let present = s.present;
-    if !present {
-        return at;
+    if s.present {
+        let word_end = append_bytes(&mut *out, at, b"  token ");
+        let token_end = append_decimal(&mut *out, word_end, s.attempt.token.0);
+        append_number_line(out, token_end, fate, id)
+    } else {
+        at
     }
-    let word_end = append_bytes(&mut *out, at, b"  token ");
-    let token_end = append_decimal(&mut *out, word_end, s.attempt.token.0);
-    append_number_line(out, token_end, fate, id)
 }
 
 // The tokens that a submission's slots hold.
-pub fn append_tokens(out: &mut [u8], at: usize, t: SubmittedTx) -> usize
-    ensures { Fits (tokens_text t) at out.old out.new result }
+pub fn append_tokens(out: &mut [u8], at: usize, t: &SubmittedTx) -> usize
+    ensures { Fits (tokens_text t.now) at out.old out.new result }
 {
     let slots = t.slots;
     let active = slots.active_attempt;

@@ -1,7 +1,5 @@
 -- Outputs, spends and bundles as text.
-use Rattle.std.specs.Prelude.{◌≡◌, refl, Bool, true, false, not, List, ◌++◌, ℕ, ◌+◌, take}
-use Rattle.std.proofs.Common.{sym, ap}
-use Rattle.std.proofs.lemmas.Bool.{not-true, not-false}
+use Rattle.std.specs.Prelude.{◌≡◌, refl, Bool, cond, List, ◌++◌, ℕ, ◌+◌, take}
 use Rattle.tool_text.specs.Ascii.{ascii}
 use Rattle.tool_text.specs.Numbers.{decimal, number_line, hex_line}
 use Rattle.tool_text.specs.Each.{each_from}
@@ -30,8 +28,10 @@ output_coin_lem s o = refl
 
 unfoldable pub run_text : List ℕ → Bool → ℕ → List Output → List ℕ
 unfolding each_from number_line output_text
-run_text parent false n l = ascii "      run: unreadable\n"
-run_text parent true n l = number_line (ascii "      run: readable, outputs: ") n ++ each_from (output_text parent) 0 (take n l)
+run_text parent readable n l =
+    cond readable
+    (number_line (ascii "      run: readable, outputs: ") n ++ each_from (output_text parent) 0 (take n l))
+    (ascii "      run: unreadable\n")
 
 unfoldable pub spend_text : ℕ → CoinSpend → List ℕ
 unfolding number_line coin_text hex_line run_text
@@ -45,30 +45,12 @@ unfoldable pub bundle_text : List ℕ → SpendBundle → List ℕ
 unfolding number_line each_from spend_text
 bundle_text label b = number_line label b.count ++ each_from spend_text 0 (take b.count b.spends)
 
-abbrev pub variant_or : Bool → List ℕ → List ℕ
-variant_or true l = l
-variant_or false l = ascii "  fee bundle: none\n"
-
 -- the fee bundle with the applied fee; where there is one, it is the current variant
 unfoldable pub variant_text : SubmissionBroadcastVariant → List ℕ
 unfolding bundle_text number_line
 variant_text v =
-    variant_or v.fee_bearing
+    cond v.fee_bearing
     (bundle_text (ascii "  fee bundle, spends: ") v.bundle
     ++ number_line (ascii "  applied fee: ") v.applied_fee
     ++ ascii "  the fee bundle above is to be delivered\n")
-
--- ---- by the mark
-pub variant_no : (b : Bool) (l : List ℕ) → not b ≡ true → ascii "  fee bundle: none\n" ≡ variant_or b l
-variant_no b l h = sym (ap (λ (x : Bool). variant_or x l) (not-true b h))
-
-pub variant_yes : (b : Bool) (l : List ℕ) → not b ≡ false → l ≡ variant_or b l
-variant_yes b l h = sym (ap (λ (x : Bool). variant_or x l) (not-false b h))
-
-pub run_no : (parent : List ℕ) (b : Bool) (n : ℕ) (l : List Output) → not b ≡ true → ascii "      run: unreadable\n" ≡ run_text parent b n l
-unfolding run_text
-run_no parent b n l h = sym (ap (λ (x : Bool). run_text parent x n l) (not-true b h))
-
-pub run_yes : (parent : List ℕ) (b : Bool) (n : ℕ) (l : List Output) → not b ≡ false → number_line (ascii "      run: readable, outputs: ") n ++ each_from (output_text parent) 0 (take n l) ≡ run_text parent b n l
-unfolding run_text
-run_yes parent b n l h = sym (ap (λ (x : Bool). run_text parent x n l) (not-false b h))
+    (ascii "  fee bundle: none\n")

@@ -1,5 +1,5 @@
 -- A coin string taken apart: parent, puzzle hash and amount, if it is made of these.
-use Rattle.std.specs.Prelude.{◌≡◌, Bool, true, false, ◌&&◌, List, ◌++◌, ℕ, ◌*◌, ◌+◌, ◌-◌, ◌%◌, ◌^◌, ◌≤◌, ◌<◌, length, take, drop, leb, ltb}
+use Rattle.std.specs.Prelude.{◌≡◌, Bool, true, false, ◌&&◌, cond, List, ◌++◌, ℕ, ◌*◌, ◌+◌, ◌-◌, ◌%◌, ◌^◌, ◌≤◌, ◌<◌, length, take, drop, leb, ltb}
 use Rattle.std.specs.List.{fold}
 use Rattle.std.proofs.Common.{sym, ap, ◌∙◌, le-leb, leb-true, lt-ltb, arith}
 use Rattle.std.proofs.lemmas.Bool.{lt-leb}
@@ -33,10 +33,6 @@ unfoldable pub is_coin : List ℕ → Bool
 unfolding amount_of
 is_coin c = leb 64 (length c) && eqs c (coin_of_parts (parent_of c) (puzzle_of c) (amount_of c))
 
-abbrev pub coin_or : Bool → List ℕ → List ℕ → List ℕ
-coin_or true a b = a
-coin_or false a b = b
-
 unfoldable pub parts_text : List ℕ → List ℕ
 unfolding amount_of hex_line number_line
 parts_text c =
@@ -48,7 +44,7 @@ parts_text c =
 unfoldable pub coin_or_bytes : List ℕ → List ℕ
 unfolding is_coin parts_text hex_line
 coin_or_bytes c =
-    coin_or (is_coin c) (parts_text c) (hex_line (ascii "      coin bytes (not a parent, puzzle hash and amount): ") c)
+    cond (is_coin c) (parts_text c) (hex_line (ascii "      coin bytes (not a parent, puzzle hash and amount): ") c)
 
 unfoldable pub coin_text : List ℕ → List ℕ
 unfolding coin_or_bytes hex_line

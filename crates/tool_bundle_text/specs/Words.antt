@@ -3,6 +3,7 @@ use Rattle.std.specs.Prelude.{List, ◌++◌, ℕ}
 use Rattle.tool_text.specs.Ascii.{ascii}
 use Rattle.tool_text.specs.Numbers.{number_line, hex_line}
 use Rattle.std.specs.Prelude.{Option}
+use Rattle.std.specs.Option.{option_map}
 use Rattle.book.specs.declared.Height.{Height}
 use Rattle.std.specs.Prelude.{None, Some}
 use Rattle.book.specs.declared.SubmissionId.{SubmissionId}
@@ -49,12 +50,16 @@ fee_intent_text f =
     fee_kind_text f.kind
     (hex_line (ascii "  fee intent: Attach, target ") f.target ++ number_line (ascii "    amount: ") f.amount)
 
-unfoldable pub height_text : List ℕ → Option Height → List ℕ
+-- a number on its line, or the label and the word `none`
+unfoldable pub optional_text : List ℕ → Option ℕ → List ℕ → List ℕ
 unfolding number_line
-height_text label None = label ++ ascii "none\n"
-height_text label (Some h) = number_line label h.0
+optional_text label None none = label ++ none
+optional_text label (Some n) none = number_line label n
+
+unfoldable pub height_text : List ℕ → Option Height → List ℕ
+unfolding optional_text
+height_text label h = optional_text label (option_map (λ (x : Height). x.0) h) (ascii "none\n")
 
 unfoldable pub id_text : List ℕ → Option SubmissionId → List ℕ
-unfolding number_line
-id_text label None = label ++ ascii "new\n"
-id_text label (Some i) = number_line label i.0
+unfolding optional_text
+id_text label i = optional_text label (option_map (λ (x : SubmissionId). x.0) i) (ascii "new\n")

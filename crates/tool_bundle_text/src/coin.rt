@@ -54,16 +54,12 @@ fn append_parts(out: &mut [u8], at: usize, c: &[u8]) -> usize
 fn append_coin_or_bytes(out: &mut [u8], at: usize, c: &[u8]) -> usize
     ensures { Fits (coin_or_bytes c.now) at out.old out.new result }
 {
-    let known = is_coin(c);
-    if known {
-        return append_parts(out, at, c);
+    if is_coin(c) {
+        append_parts(out, at, c)
+    } else {
+        let label = b"      coin bytes (not a parent, puzzle hash and amount): ";
+        append_hex_line(out, at, label, c)
     }
-    append_hex_line(
-        out,
-        at,
-        b"      coin bytes (not a parent, puzzle hash and amount): ",
-        c,
-    )
 }
 
 pub fn append_coin(out: &mut [u8], at: usize, c: &[u8]) -> usize

@@ -1,8 +1,8 @@
 // The kinds in words, each up to its line's end, and the optional parts.
-ghost use Rattle.std.specs.Prelude.{◌++◌, ◌≡◌};
+ghost use Rattle.std.specs.Prelude.{◌++◌};
 ghost use Rattle.codec_append.specs.Fits.{Fits};
 ghost use Rattle.tool_text.specs.Numbers.{hex};
-ghost use Rattle.tool_bundle_text.specs.Words.{goal_text, trigger_text, chain_text, resolution_text, fee_intent_text, height_text, id_text};
+ghost use Rattle.tool_bundle_text.specs.Words.{goal_text, trigger_text, chain_text, resolution_text, fee_intent_text, optional_text, height_text, id_text};
 
 use book::{
     DeliveryTrigger, FeeIntentKind, FeeResolution, Height, SubmissionChainTerminality,
@@ -11,6 +11,7 @@ use book::{
 use codec_append::append_bytes;
 use tool_text::{append_hex, append_hex_line, append_number_line};
 
+// A function for each kind, here and below: what they share is one line, and the contract names the text of the kind.
 #[tactic(auto, unfolding(crate::specs::Words::goal_text))]
 pub fn append_goal(out: &mut [u8], at: usize, g: SubmissionDeliveryGoal) -> usize
     ensures { Fits (goal_text g) at out.old out.new result }
@@ -95,28 +96,32 @@ pub fn append_fee_intent(out: &mut [u8], at: usize, f: SubmissionFeeIntent) -> u
     }
 }
 
-pub fn append_height(out: &mut [u8], at: usize, label: &[u8], h: Option<Height>) -> usize
-    ensures { Fits (height_text label.now h) at out.old out.new result }
+// A number on its line, or the label with the word `none` behind it.
+fn append_optional(out: &mut [u8], at: usize, label: &[u8], n: Option<u64>, none: &[u8]) -> usize
+    ensures { Fits (optional_text label.now n none.now) at out.old out.new result }
 {
-    match h {
+    match n {
         None => {
             let label_end = append_bytes(&mut *out, at, label);
-            append_bytes(out, label_end, b"none\n")
+            append_bytes(out, label_end, none)
         }
-        Some(x) => append_number_line(out, at, label, x.0),
+        Some(x) => append_number_line(out, at, label, x),
     }
 }
 
+// Two instances of `append_optional`, each naming the form of its type.
+#[tactic(auto, unfolding(crate::specs::Words::height_text))]
+pub fn append_height(out: &mut [u8], at: usize, label: &[u8], h: Option<Height>) -> usize
+    ensures { Fits (height_text label.now h) at out.old out.new result }
+{
+    append_optional(out, at, label, h.map(|x| x.0), b"none\n")
+}
+
+#[tactic(auto, unfolding(crate::specs::Words::id_text))]
 pub fn append_id(out: &mut [u8], at: usize, label: &[u8], i: Option<SubmissionId>) -> usize
     ensures { Fits (id_text label.now i) at out.old out.new result }
 {
-    match i {
-        None => {
-            let label_end = append_bytes(&mut *out, at, label);
-            append_bytes(out, label_end, b"new\n")
-        }
-        Some(x) => append_number_line(out, at, label, x.0),
-    }
+    append_optional(out, at, label, i.map(|x| x.0), b"new\n")
 }
 
 // A label and a hash, with the line still open.

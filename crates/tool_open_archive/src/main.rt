@@ -3,26 +3,21 @@
 
 use book::{SubmissionId, Token};
 use codec_cursor::read_number;
+use std::io;
+use std::io::Read;
 
-fn refuse(text: &[u8]) {
-    io::write_all(2, text);
-}
-
-fn main() {
+fn main(rt: HostRuntime) -> io::Result<()> {
     let mut numbers = [0u8; 16];
-    let got = io::read_full(0, &mut numbers);
-    if got < 16 {
-        refuse(b"open_archive: two numbers of 8 bytes are wanted\n");
-        return;
+    if rt.reader().read_exact(&mut numbers).is_err() {
+        return rt.eprintln("open_archive: two numbers of 8 bytes are wanted");
     }
     let mut at: usize = 0;
     let token = read_number(&numbers, &mut at);
     let id = read_number(&numbers, &mut at);
     let book = call_open::open(Token(token), SubmissionId(id));
     let mut out = [0u8; 22];
-    let Ok(_n) = archive_write_checked::write_archive(book, &mut out) else {
-        refuse(b"open_archive: the archive does not fit\n");
-        return;
-    };
-    io::write_all(1, &out);
+    if archive_write_checked::write_archive(book, &mut out).is_err() {
+        return rt.eprintln("open_archive: the archive does not fit");
+    }
+    rt.write_all(&out)
 }

@@ -1,6 +1,7 @@
 -- Sums are exact: the remainders of `add_sum` change nothing of a book's sums, and `sum_text` is the number in decimal.
-use Rattle.std.specs.Prelude.{◌≡◌, refl, Bool, true, cond, List, [], ◌∷◌, ◌++◌, ℕ, zero, suc, ◌+◌, ◌-◌, ◌*◌, ◌/◌, ◌%◌, ◌^◌, ◌≤◌, ◌<◌, eqb, ltb, length, replicate}
+use Rattle.std.specs.Prelude.{◌≡◌, refl, Bool, true, cond, List, [], ◌∷◌, ◌++◌, ℕ, zero, suc, ◌+◌, ◌-◌, ◌*◌, ◌/◌, ◌%◌, ◌^◌, ◌≤◌, ◌<◌, eqb, ltb, length, replicate, sum}
 use Rattle.std.proofs.Common.{sym, ap, ◌∙◌, append_assoc, append-nil, arith, pow-suc, mod-eq_of_lt, mul_assoc, mul_comm, div-one, mul-pos, div-lt_iff_lt-mul, zero-lt-suc, lt-ltb, le-ltb, ltb-true, ne_eqb}
+use Rattle.std.proofs.lemmas.List.Sums.{sum_by-cons}
 use Rattle.std.proofs.Math.Nat.{div-div-eq-div-mul, one-le-pow}
 use Rattle.std.specs.List.{list_all, fold, flat_map}
 use Rattle.base_lists.specs.Laws.{and_split}
@@ -11,10 +12,6 @@ use Rattle.tool_text.specs.Numbers.{decimal, decimal_in, padded}
 use Rattle.tool_payments.specs.declared.Sum.{Sum}
 use Rattle.tool_payments.specs.Amount.{value_of, sum_of, add_amount, amounts_of, amount_out}
 use Rattle.tool_payments.specs.Text.{sum_text}
-
-abbrev pub total : List ℕ → ℕ
-total [] = 0
-total (n ∷ ns) = n + total ns
 
 -- every one has 64 bits
 abbrev pub all64 : List ℕ → Bool
@@ -46,20 +43,21 @@ module _ (k n : ℕ) (s : Sum) (h : n < 2 ^ 64) (b : k < 2 ^ 31) (p : Small k s)
       add_number s.high s.low (n / 10 ^ 18) (n % 10 ^ 18) g p.low (omega arith) (omega arith) ∙ ap (λ (x : ℕ). value_of s + x) whole
 
 -- a sum of up to a hundred million amounts is their sum
-sum_from : (k : ℕ) (s : Sum) (ns : List ℕ) → all64 ns ≡ true → k + 19 * length ns < 2 ^ 31 → Small k s → value_of (fold add_amount s ns) ≡ value_of s + total ns
+sum_from : (k : ℕ) (s : Sum) (ns : List ℕ) → all64 ns ≡ true → k + 19 * length ns < 2 ^ 31 → Small k s → value_of (fold add_amount s ns) ≡ value_of s + sum ns
 sum_from k s [] a b p = omega arith
 sum_from k s (n ∷ ns) a b p =
     let q = and_split (ltb n (2 ^ 64)) (all64 ns) a in
     let h = ltb-true n (2 ^ 64) q.0 in
     let j : k < 2 ^ 31 = omega (arith, b) in
     let v : value_of (add_amount s n) ≡ value_of s + n = value_add k n s h j p in
-    sum_from (k + 19) (add_amount s n) ns q.1 (omega (arith, b)) (small_add k n s h j p) ∙ omega (arith, v)
+    let w : sum (n ∷ ns) ≡ n + sum ns = sum_by-cons (λ (x : ℕ). x) n ns in
+    sum_from (k + 19) (add_amount s n) ns q.1 (omega (arith, b)) (small_add k n s h j p) ∙ omega (arith, v, w)
 
-pub sum_exact : (ns : List ℕ) → all64 ns ≡ true → length ns ≤ 100000000 → value_of (fold add_amount (sum_of 0) ns) ≡ total ns
+pub sum_exact : (ns : List ℕ) → all64 ns ≡ true → length ns ≤ 100000000 → value_of (fold add_amount (sum_of 0) ns) ≡ sum ns
 sum_exact ns a l = sum_from 0 (sum_of 0) ns a (omega arith) (record { low = omega arith; high = omega arith }) ∙ omega arith
 
 -- what a bundle pays out is the sum of its outputs
-pub amount_exact : (b : SpendBundle) → all64 (flat_map amounts_of (spends_of b)) ≡ true → length (flat_map amounts_of (spends_of b)) ≤ 100000000 → value_of (amount_out b) ≡ total (flat_map amounts_of (spends_of b))
+pub amount_exact : (b : SpendBundle) → all64 (flat_map amounts_of (spends_of b)) ≡ true → length (flat_map amounts_of (spends_of b)) ≤ 100000000 → value_of (amount_out b) ≡ sum (flat_map amounts_of (spends_of b))
 unfolding amount_out
 amount_exact b a l = sum_exact (flat_map amounts_of (spends_of b)) a l
 

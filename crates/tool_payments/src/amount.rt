@@ -1,5 +1,5 @@
 // Sums of amounts, which one u64 need not hold, and what a bundle pays out.
-ghost use Rattle.std.specs.Prelude.{◌≡◌, take};
+ghost use Rattle.std.specs.Prelude.{◌≡◌};
 ghost use Rattle.std.specs.List.{fold};
 ghost use Rattle.tool_payments.specs.Amount.{sum_of, add_sum, add_amount, add_output, amounts_of, amount_out};
 
@@ -40,34 +40,35 @@ fn add_output(s: Sum, o: Output) -> Sum
     s + Sum::from(o.amount)
 }
 
-// The first n outputs.
-fn add_outputs(s: Sum, a: [Output; 4], n: usize) -> Sum
-    ensures { result ≡ fold add_output s (take n a) }
+fn add_outputs(s: Sum, a: &[Output]) -> Sum
+    ensures { result ≡ fold add_output s a.now }
 {
-    a.iter().take(n).fold(s, |sum, o| add_output(sum, *o))
+    a.iter().fold(s, |sum, o| add_output(sum, *o))
 }
 
 fn add_spend(s: Sum, c: CoinSpend) -> Sum
     ensures { result ≡ fold add_amount s (amounts_of c) }
 {
     if c.readable {
-        return add_outputs(s, c.outputs, c.output_count as usize);
+        let outputs = c.outputs;
+        let n = usize::from(c.output_count).min(4);
+        return add_outputs(s, &outputs[..n]);
     }
     s
 }
 
-// The readable ones of the first n spends.
-fn add_spends(a: [CoinSpend; 4], n: usize) -> Sum
-    ensures { result ≡ fold (λ s c. fold add_amount s (amounts_of c)) (sum_of 0) (take n a) }
+// What the readable ones pay out.
+fn add_spends(a: &[CoinSpend]) -> Sum
+    ensures { result ≡ fold (λ s c. fold add_amount s (amounts_of c)) (sum_of 0) a.now }
 {
-    a.iter()
-        .take(n)
-        .fold(Sum::from(0), |sum, c| add_spend(sum, *c))
+    a.iter().fold(Sum::from(0), |sum, c| add_spend(sum, *c))
 }
 
 // What a bundle pays out, as far as its runs can be read.
 pub fn amount_out(b: SpendBundle) -> Sum
     ensures { result ≡ amount_out b }
 {
-    add_spends(b.spends, b.count as usize)
+    let spends = b.spends;
+    let n = usize::from(b.count).min(4);
+    add_spends(&spends[..n])
 }

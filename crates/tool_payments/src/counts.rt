@@ -1,15 +1,8 @@
 // Counts and sums of payments.
-ghost use Rattle.std.specs.Prelude.{◌≡◌, ◌<◌};
-ghost use Rattle.tool_payments.specs.Counts.{state_number, applied_fee, one_more, no_totals, add_payment};
+ghost use Rattle.std.specs.Prelude.{◌≡◌};
+ghost use Rattle.tool_payments.specs.Counts.{applied_fee, one_more, no_totals, add_payment};
 
-use crate::{Payment, PaymentFee, PaymentState, Sum, Totals};
-
-// The place of a state's count.
-fn state_number(s: PaymentState) -> usize
-    ensures { (result ≡ state_number s) × (result < 6) }
-{
-    s as usize
-}
+use crate::{Payment, PaymentFee, Sum, Totals};
 
 fn applied_fee(f: PaymentFee) -> u64
     ensures { result ≡ applied_fee f }
@@ -40,7 +33,7 @@ pub fn no_totals() -> Totals
 pub fn add_payment(t: Totals, p: Payment) -> Totals
     ensures { result ≡ add_payment t p }
 {
-    let k = state_number(p.state);
+    let k = p.state as usize;
     let mut counts = t.counts;
     counts[k] = one_more(counts[k]);
     Totals {

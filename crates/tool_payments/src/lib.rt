@@ -37,11 +37,13 @@ pub enum PaymentFee {
 pub struct Payment {
     pub id: Option<SubmissionId>,
     pub amount: Sum,
+    // Whether that is all that is paid: the amount stands in either case.
     pub readable: bool,
     pub state: PaymentState,
     pub fee: PaymentFee,
 }
 
+// An array by the number of the state: a state is always there, so a map would look up what cannot be missing.
 // How many payments are in each state, in the order of the states, and the amounts in all.
 #[derive(Clone, Copy)]
 pub struct Totals {

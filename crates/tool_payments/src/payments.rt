@@ -21,10 +21,11 @@ fn chain_of(e: SubmittedEntry) -> SubmissionChainTerminality
     status.chain_terminality
 }
 
+// Paper 01: an attempt, here, and a fee bundle, in `fee_of`, is a mark with its cell beside it.
 // While the chain has settled nothing.
 #[tactic(auto, unfolding(crate::specs::Payments::undecided))]
-fn undecided_state(t: SubmittedTx, queued: bool) -> PaymentState
-    ensures { result ≡ undecided queued t }
+fn undecided_state(t: &SubmittedTx, queued: bool) -> PaymentState
+    ensures { result ≡ undecided queued t.now }
 {
     let entry = t.entry;
     if current_variant_acknowledged(entry) {
@@ -40,8 +41,8 @@ fn undecided_state(t: SubmittedTx, queued: bool) -> PaymentState
 }
 
 #[tactic(auto, unfolding(crate::specs::Payments::state_of))]
-pub fn state_of(t: SubmittedTx, queued: bool) -> PaymentState
-    ensures { result ≡ state_of queued t }
+fn state_of(t: &SubmittedTx, queued: bool) -> PaymentState
+    ensures { result ≡ state_of queued t.now }
 {
     let entry = t.entry;
     let chain = chain_of(entry);
@@ -54,7 +55,7 @@ pub fn state_of(t: SubmittedTx, queued: bool) -> PaymentState
 
 // A fee bundle has its fee applied; without one the fee is still asked for, or there is none.
 #[tactic(auto, unfolding(crate::specs::Payments::fee_of))]
-pub fn fee_of(e: SubmittedEntry) -> PaymentFee
+fn fee_of(e: SubmittedEntry) -> PaymentFee
     ensures { result ≡ fee_of e }
 {
     if e.state.current_variant.fee_bearing {
@@ -68,8 +69,8 @@ pub fn fee_of(e: SubmittedEntry) -> PaymentFee
 
 // A retained submission, and whether a delivery of it is queued.
 #[tactic(auto, unfolding(crate::specs::Payments::retained_payment))]
-pub fn retained_payment(t: SubmittedTx, queued: bool) -> Payment
-    ensures { result ≡ retained_payment queued t }
+pub fn retained_payment(t: &SubmittedTx, queued: bool) -> Payment
+    ensures { result ≡ retained_payment queued t.now }
 {
     let entry = t.entry;
     let id = entry.id;
@@ -94,8 +95,8 @@ fn asked_fee(k: FeeIntentKind) -> PaymentFee
 
 // A queue entry that is a payment of its own.
 #[tactic(auto, unfolding(crate::specs::Payments::queued_payment))]
-pub fn queued_payment(d: PendingDelivery) -> Payment
-    ensures { result ≡ queued_payment d }
+pub fn queued_payment(d: &PendingDelivery) -> Payment
+    ensures { result ≡ queued_payment d.now }
 {
     let intent = d.intent;
     let id = intent.id;
@@ -103,7 +104,7 @@ pub fn queued_payment(d: PendingDelivery) -> Payment
     let fee = intent.fee_intent;
     let kind = fee.kind;
     Payment {
-        id: id,
+        id,
         amount: amount_out(bundle),
         readable: is_readable_bundle(&bundle),
         state: PaymentState::Queued,

@@ -1,5 +1,4 @@
 // A payment as a line, and the totals.
-ghost use Rattle.std.specs.Prelude.{◌≡◌, get_or};
 ghost use Rattle.codec_append.specs.Fits.{Fits};
 ghost use Rattle.tool_payments.specs.Text.{sum_text, sum_line, id_or_none, readable_text, state_text, fee_text, payment_text, counts_text, totals_text};
 
@@ -8,6 +7,7 @@ use book::SubmissionId;
 use codec_append::append_bytes;
 use tool_text::{append_decimal, append_number_line, append_padded};
 
+// Buffer and place are two arguments, here and below, as in `codec_append`, whose law `Fits` speaks of both.
 fn append_sum(out: &mut [u8], at: usize, s: Sum) -> usize
     ensures { Fits (sum_text s) at out.old out.new result }
 {

@@ -1,11 +1,12 @@
 -- Where an argument that is there ends: behind its start and within the script.
-use Rattle.std.specs.Prelude.{◌≡◌, refl, Bool, true, false, cond, Option, Some, None, List, ℕ, ◌+◌, ◌≤◌, ◌<◌, length, get_or, ltb}
-use Rattle.std.proofs.Common.{sym, arith, ltb-false}
+use Rattle.std.specs.Prelude.{◌≡◌, refl, Bool, true, false, cond, Option, Some, None, List, ℕ, ◌+◌, ◌≤◌, ◌<◌, length, get_or, ltb, IfSome}
+use Rattle.std.specs.Bool.{then_some}
+use Rattle.std.proofs.Common.{sym, arith, ltb-true}
 use Rattle.std.proofs.Math.Decide.{dec_le}
 use Rattle.std.proofs.lemmas.Bool.{lt-leb}
-use Rattle.codec_forms.specs.Wire.{Ans, got, bad, Parser, pick, run, number, up_to}
+use Rattle.codec_forms.specs.Wire.{Ans, got, bad, Parser, run, number, up_to}
 use Rattle.codec_bytes.specs.Reading.{run_short, run_got, number_short, number_got, up_to_short, up_to_over, up_to_got}
-use Rattle.codec_cursor.specs.Cursor.{far, refused_at, Reads, reads_got}
+use Rattle.codec_cursor.specs.Cursor.{far, Reads, reads_got}
 use Rattle.codec_cursor.specs.Items.{Counts}
 
 pub record Onward (s : List ℕ) (at e : ℕ) : Type 0 where
@@ -70,17 +71,10 @@ on_then {s} {c} {d} {e} x y = record {
   within = y.within;
 }
 
--- a part that is refused, and one of n bytes that is there
-pub on_refused : (s : List ℕ) (c : ℕ) → On s c (refused_at c)
-on_refused s c = record { ahead = λ t. absurd (far_off (ltb c far) refl t); within = λ t. absurd (far_off (ltb c far) refl t) }
+-- what is answered where the cursor e is no refusal
+pub on_told : {A : Type 0} {s : List ℕ} {c e : ℕ} (P : A → Type 0) (x : A) → On s c e → (Onward s c e → P x) → IfSome (then_some (ltb e far) x) P
+on_told {A} {s} {c} {e} P x h f = go (ltb e far) refl
   where
-    far_off : (b : Bool) → ltb c far ≡ b → pick b (c + far) c < far → ⊥
-    far_off true q t = omega arith
-    far_off false q t = omega (arith, ltb-false c far q)
-
-pub on_passed : (s : List ℕ) (c n : ℕ) → 0 < n → c + n ≤ length s → On s c (c + n)
-on_passed s c n h k = record { ahead = λ t. omega arith; within = λ t. k }
-
--- where a cursor that is no refusal ends
-pub on_told : {s : List ℕ} {c e : ℕ} → On s c e → e < far → Onward s c e
-on_told x h = record { ahead = x.ahead h; within = x.within h }
+    go : (b : Bool) → ltb e far ≡ b → IfSome (then_some b x) P
+    go true t = let k = ltb-true e far t in f (record { ahead = h.ahead k; within = h.within k })
+    go false t = tt

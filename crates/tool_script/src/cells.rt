@@ -21,14 +21,16 @@ fn read_output(s: &[u8], at: &mut usize) -> Output
     }
 }
 
+// Four reads, here and in `read_spends`: a loop would fill an array of zeros and need an invariant over the cursor.
 fn read_outputs(s: &[u8], at: &mut usize) -> [Output; 4]
     ensures { On s.now at.old at.new }
 {
-    let first = read_output(s, &mut *at);
-    let second = read_output(s, &mut *at);
-    let third = read_output(s, &mut *at);
-    let fourth = read_output(s, at);
-    [first, second, third, fourth]
+    [
+        read_output(s, &mut *at),
+        read_output(s, &mut *at),
+        read_output(s, &mut *at),
+        read_output(s, at),
+    ]
 }
 
 fn read_coin(s: &[u8], at: &mut usize) -> [u8; 73]
@@ -69,11 +71,12 @@ fn read_spend(s: &[u8], at: &mut usize) -> Option<CoinSpend>
 fn read_spends(s: &[u8], at: &mut usize) -> [Option<CoinSpend>; 4]
     ensures { On s.now at.old at.new }
 {
-    let first = read_spend(s, &mut *at);
-    let second = read_spend(s, &mut *at);
-    let third = read_spend(s, &mut *at);
-    let fourth = read_spend(s, at);
-    [first, second, third, fourth]
+    [
+        read_spend(s, &mut *at),
+        read_spend(s, &mut *at),
+        read_spend(s, &mut *at),
+        read_spend(s, at),
+    ]
 }
 
 fn bundle_of(count: u8, cells: [Option<CoinSpend>; 4]) -> Option<SpendBundle> {
@@ -90,28 +93,20 @@ pub fn read_bundle(s: &[u8], at: usize) -> Option<Read<Option<SpendBundle>>>
     let mut end = at;
     let count = read_count(s, &mut end, 255);
     let cells = read_spends(s, &mut end);
-    if end < FAR {
-        Some(Read {
-            value: bundle_of(count, cells),
-            at: end,
-        })
-    } else {
-        None
-    }
+    (end < FAR).then_some(Read {
+        value: bundle_of(count, cells),
+        at: end,
+    })
 }
 
-fn fee_intent_of(n: u8, target: [u8; 32], amount: u64) -> Option<SubmissionFeeIntent> {
-    let kind = match n {
-        0 => FeeIntentKind::AlreadyPaid,
-        1 => FeeIntentKind::NoFeeConfigured,
-        2 => FeeIntentKind::Attach,
-        _ => return None,
-    };
-    Some(SubmissionFeeIntent {
-        kind,
-        target,
-        amount,
-    })
+// No `TryFrom`: type and trait are of other crates.
+fn kind_of(n: u8) -> Option<FeeIntentKind> {
+    match n {
+        0 => Some(FeeIntentKind::AlreadyPaid),
+        1 => Some(FeeIntentKind::NoFeeConfigured),
+        2 => Some(FeeIntentKind::Attach),
+        _ => None,
+    }
 }
 
 pub fn read_fee_intent(s: &[u8], at: usize) -> Option<Read<Option<SubmissionFeeIntent>>>
@@ -121,12 +116,10 @@ pub fn read_fee_intent(s: &[u8], at: usize) -> Option<Read<Option<SubmissionFeeI
     let number = read_count(s, &mut end, 255);
     let target = read_hash(s, &mut end);
     let amount = read_number(s, &mut end);
-    if end < FAR {
-        Some(Read {
-            value: fee_intent_of(number, target, amount),
-            at: end,
-        })
-    } else {
-        None
-    }
+    let value = kind_of(number).map(|kind| SubmissionFeeIntent {
+        kind,
+        target,
+        amount,
+    });
+    (end < FAR).then_some(Read { value, at: end })
 }

@@ -4,7 +4,7 @@ ghost use Rattle.tool_script.specs.Onward.{Onward};
 
 use crate::Read;
 use crate::cells::{read_bundle, read_fee_intent};
-use crate::kind::{read_expiry, read_goal, read_id, read_trigger};
+use crate::kind::{read_goal, read_optional, read_trigger};
 use book::{
     DeliveryTrigger, Height, PendingDelivery, PendingSubmissionIntent, SpendBundle,
     SubmissionDeliveryGoal, SubmissionFeeIntent, SubmissionId,
@@ -39,9 +39,9 @@ fn delivery_of(
 pub fn read_delivery(s: &[u8], at: usize) -> Option<Read<Option<PendingDelivery>>>
     ensures { IfSome result (λ r. Onward s.now at r.at) }
 {
-    let id = read_id(s, at)?;
+    let id = read_optional(s, at, SubmissionId)?;
     let bundle = read_bundle(s, id.at)?;
-    let expiry = read_expiry(s, bundle.at)?;
+    let expiry = read_optional(s, bundle.at, Height)?;
     let fee_intent = read_fee_intent(s, expiry.at)?;
     let trigger = read_trigger(s, fee_intent.at)?;
     let goal = read_goal(s, trigger.at)?;

@@ -7,8 +7,8 @@ use native.Mathlib.Omega.{arith}
 use native.Mathlib.Nat.{pow-suc, div-lt_iff_lt-mul, zero-lt-suc}
 use Rattle.std.proofs.Common.{add-one, div-one}
 use Rattle.std.proofs.Math.Nat.{div-div-eq-div-mul}
-use lib.ListN.{length, take, drop, set, length-set, length-drop, drop_of_length-le}
-use lib.Seq.{set_split, drop_at, length-take-le, take_all}
+use lib.ListN.{length, take, drop, set, length-set, drop_of_length-le}
+use lib.Seq.{set_split, drop_at, length-take-le}
 use borrow.Author.Tests.{lt-ltb, le-ltb}
 use Rattle.tool_text.specs.Numbers.{decimal, decimal_in, padded}
 
@@ -81,10 +81,6 @@ spelt_last n (suc j) rest a h s =
     let e : j ≡ suc j - 1 = omega arith in
     subst (λ (k : ℕ). drop k (set a k (48 + rest)) ≡ decimal n) e (spelt_done n j rest a h s)
 
--- the part of the array from r on is all that stands there
-pub rest_taken : (a : List ℕ) (r : ℕ) → length a ≡ 20 → take (20 - r) (drop r a) ≡ drop r a
-rest_taken a r l = take_all (20 - r) (drop r a) (omega (arith, length-drop r a))
-
 -- ---- the last k digits, of which i are written and `rest` is left
 pub record Padded (n i rest k : ℕ) (a : List ℕ) : Type 0 where
   pub left : rest ≡ n / 10 ^ i
@@ -118,5 +114,16 @@ padded_next n i rest k a h p =
           ∙ ap (λ (y : ℕ). (48 + y % 10) ∷ padded i n) p.left;
     })
 
-pub padded_done : (n i rest k : ℕ) (a : List ℕ) → i ≡ k → Padded n i rest k a → a ≡ padded k n
-padded_done n i rest k a e p = ap (λ (m : ℕ). drop m a) (let z : 0 ≡ k - i = omega arith in z) ∙ p.text ∙ ap (λ (m : ℕ). padded m n) e
+-- ---- the same by the place i that is written next, from the end on
+pub padded_end : (n k : ℕ) (a : List ℕ) → length a ≡ k → Padded n (k - k) n k a
+padded_end n k a l =
+    let z : 0 ≡ k - k = omega arith in
+    subst (λ (m : ℕ). Padded n m n k a) z (padded_start n k a l)
+
+pub padded_down : (n i rest k : ℕ) (a : List ℕ) → 0 < i → i ≤ k → Padded n (k - i) rest k a → Padded n (k - (i - 1)) (rest / 10) k (set a (i - 1) (48 + rest % 10))
+padded_down n i rest k a h b p =
+    let e : k - 1 - (k - i) ≡ i - 1 = omega arith in
+    let m : k - i + 1 ≡ k - (i - 1) = omega arith in
+    let q = padded_next n (k - i) rest k a (omega arith) p in
+    subst (λ (j : ℕ). Padded n (k - (i - 1)) (rest / 10) k (set a j (48 + rest % 10))) e
+    (subst (λ (j : ℕ). Padded n j (rest / 10) k (set a (k - 1 - (k - i)) (48 + rest % 10))) m q)

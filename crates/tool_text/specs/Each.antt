@@ -1,7 +1,6 @@
 -- Elements one after the other, each with its index.
-use Rattle.std.specs.Prelude.{◌≡◌, List, [], ◌∷◌, ◌++◌, ℕ, zero, suc, ◌+◌, ◌≤◌, ◌<◌, min, length, get_or, take}
-use Rattle.std.proofs.Common.{sym, ap, ◌∙◌, append_assoc, append-nil, arith, add-zero, take_all}
-use Rattle.base_lists.specs.Laws.{take_cut}
+use Rattle.std.specs.Prelude.{◌≡◌, List, [], ◌∷◌, ◌++◌, ℕ, zero, suc, ◌+◌, ◌<◌, length, get_or, take}
+use Rattle.std.proofs.Common.{sym, ap, ◌∙◌, append_assoc, append-nil, arith, add-zero}
 use Rattle.codec_append.specs.Fits.{Fits, fits_join, fits_as, fits_none}
 
 -- the text of each element, the first of which has index k
@@ -30,7 +29,3 @@ pub nth_more : {A : Type 0} (z : A) (f : ℕ → A → List ℕ) (l : List A) (i
 nth_more z f l i h p q =
     let w : 0 + i ≡ i = omega arith in
     fits_as (sym (each_suc z f 0 l i h ∙ ap (λ (n : ℕ). each_from f 0 (take i l) ++ f n (get_or l i z)) w)) (fits_join p q)
-
--- all of the first k of N cells, which are the first n
-pub nth_done : {A : Type 0} (f : ℕ → A → List ℕ) (l : List A) (N n k i : ℕ) {at : ℕ} {d d' : List ℕ} {e : ℕ} → length l ≡ N → k ≡ min n N → length (take k l) ≤ i → Fits (each_from f 0 (take i (take k l))) at d d' e → Fits (each_from f 0 (take n l)) at d d' e
-nth_done f l N n k i h q b p = fits_as (ap (each_from f 0) (take_all i (take k l) b ∙ take_cut N n k l h q)) p

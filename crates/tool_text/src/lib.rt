@@ -1,5 +1,7 @@
 // Numbers and bytes as text, appended to a lent buffer from place `at` on. Each function answers the place behind what it wrote;
 // a part for which there is no room is left out.
+// Buffer and place are two arguments, as in `codec_append`, whose law `Fits` speaks of both.
+// No `write!` into the buffer: where the room ends it leaves a part half written, and here such a part is left out.
 #![tactic(auto)]
 
 ghost use Rattle.std.specs.Prelude.{◌≡◌, ◌≤◌, ◌<◌, ◌++◌, length, drop};
@@ -35,15 +37,15 @@ pub fn append_decimal(out: &mut [u8], at: usize, n: u64) -> usize
     append_bytes(out, at, &a[i..])
 }
 
-// The last K digits of n, with zeros in front.
+// The last K digits of n, with zeros in front. By place (tried: `iter_mut().rev()`, whose invariant has to speak of the cells handed out).
 pub fn append_padded<const K: usize>(out: &mut [u8], at: usize, n: u64) -> usize
     requires { K ≤ 20 }
     ensures { Fits (padded K n) at out.old out.new result }
 {
     let mut digits = [0u8; K];
     let mut rest = n;
-    for i in 0..K {
-        digits[K - 1 - i] = (48 + rest % 10) as u8;
+    for i in (0..K).rev() {
+        digits[i] = (48 + rest % 10) as u8;
         rest /= 10;
     }
     append_bytes(out, at, &digits)

@@ -1,10 +1,9 @@
--- Each item follows the one before it (`fits_join`).
-use Rattle.codec_append.specs.Fits.{fits_join, fits_as}
-use Rattle.archive_entry_write.specs.Laws.{id_no, id_of_lem}
+use Rattle.std.proofs.Common.{rules}
+use Rattle.codec_append.specs.Fits.{fits_number_of}
+use Rattle.book.specs.declared.SubmissionId.{SubmissionId}
+use Rattle.archive_form.specs.Encode.{encode_id}
 use Rattle.archive_entry_write.proofs.append_id.Goals as goal
 
-pub returns-in-None : goal.returns-in-None
-returns-in-None c = fits_as (id_no c.args.i c.in-None.is) c.append_byte.ensures
-
-pub returns-in-Some : goal.returns-in-Some
-returns-in-Some c = fits_as (id_of_lem c.args.i _ c.in-Some.is) (fits_join c.append_byte-e.ensures c.append_number.ensures)
+pub returns : goal.returns
+unfolding encode_id
+returns c = fits_number_of (λ (i : SubmissionId). i.0) c.args.i (search rules) c.append_optional_number.ensures

@@ -1,16 +1,11 @@
-use mathlib.Core.Path.{sym, ap, ◌∙◌}
-use Rattle.base_lists.specs.Bytes.{eqs, in_hit, in_turn}
-use Rattle.base_coin_string.specs.CoinIds.{ids_next}
+use mathlib.Core.Path.{ap, ◌∙◌}
+use Prim.Native.Nat.{ℕ, ◌/◌}
+use mathlib.Core.List.{List}
+use lib.ListN.{length}
+use Rattle.std.specs.List.{list_any}
+use Rattle.base_lists.specs.Bytes.{eqs}
+use Rattle.base_coin_string.specs.CoinIds.{among_chunks}
 use Rattle.base_coin_string.proofs.has_id.Goals as goal
 
-pub returns-then-eq : goal.returns-then-eq
-returns-then-eq c =
-    let t = c.in-Some.ensures.steps in
-    in_hit c.args.id.now (ids_next _ _ t.1.0 (t.1.1 ∙ c.loop-x.invariant.0)) (sym c.if-eq.true ∙ c.eq.ensures ∙ ap (eqs c.in-Some.x.now) c.as_slice.ensures) c.loop-x.invariant.1
-
-pub loop-x-preserved : goal.loop-x-preserved
-loop-x-preserved c =
-    let t = c.in-Some.ensures.steps in (
-      t.0 ∙ c.loop-x.invariant.0,
-      in_turn c.args.id.now (ids_next _ _ t.1.0 (t.1.1 ∙ c.loop-x.invariant.0)) (sym c.if-eq.false ∙ c.eq.ensures ∙ ap (eqs c.in-Some.x.now) c.as_slice.ensures) c.loop-x.invariant.1,
-    )
+pub returns : goal.returns
+returns c = let s = c.args.s.now in let i = c.args.id.now in c.contains.ensures.value ∙ ap (list_any (λ (x : List ℕ). eqs x i)) c.as_chunks.ensures.front ∙ among_chunks i (length s / 32) s

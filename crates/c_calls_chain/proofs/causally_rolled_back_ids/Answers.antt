@@ -1,16 +1,14 @@
 -- No book: 1. Else the reply of the call on the held book, told by the law of its kind of answer; its rules have no step, so the book stays.
 use borrow.Author.Tests.{not-true, not-false}
-use Rattle.c_boundary.specs.Forms.{gives_absent, ids_looked}
+use Rattle.c_boundary.specs.Forms.{gives_absent, looked_reply, tells_ids}
 use Rattle.c_boundary.specs.Looks.{looks_rolled_back}
 use Rattle.c_calls_chain.proofs.causally_rolled_back_ids.Goals as goal
 
-pub returns-then-not-ok : goal.returns-then-not-ok
-returns-then-not-ok c = gives_absent _ _ _ _ (c.held-h.ensures.absent (not-true _ c.if-not-ok.true-raw))
+pub returns-then-not-h : goal.returns-then-not-h
+returns-then-not-h c = gives_absent _ _ _ _ (c.held-h.ensures.absent (not-true _ c.if-not-h.true))
 
-pub causally_rolled_back_ids_sound-r-requires : goal.causally_rolled_back_ids_sound-r-requires
-causally_rolled_back_ids_sound-r-requires c = (c.held-h.ensures.present (not-false _ c.if-not-ok.false-raw)).sound
+pub invariant_of-causally_rolled_back_ids_sound : goal.invariant_of-causally_rolled_back_ids_sound
+invariant_of-causally_rolled_back_ids_sound c = record { sound = (c.held-h.ensures.present (not-false _ c.if-not-h.false)).sound }
 
 pub returns : goal.returns
-returns c =
-    let h = c.held-h.ensures.present (not-false _ c.if-not-ok.false-raw) in
-    ids_looked _ _ _ h _ (looks_rolled_back _ _) _ c.causally_rolled_back_ids_sound-r.ensures c.tell_ids.ensures
+returns c = looked_reply tells_ids _ _ _ (c.held-h.ensures.present (not-false _ c.if-not-h.false)) _ c.causally_rolled_back_ids_sound-r.ensures (looks_rolled_back _ _) c.tell_ids.ensures

@@ -1,16 +1,14 @@
 -- No book: 1. Else the reply of the call on the held book, put back by the law of its kind of answer.
 use borrow.Author.Tests.{not-true, not-false}
 use Rattle.rules.specs.Calls.ClearLocalArtifacts.{clear_local_artifacts}
-use Rattle.c_boundary.specs.Forms.{gives_book_absent, done_given_lem, no_form}
+use Rattle.c_boundary.specs.Forms.{gives_book_absent, reply_book, tells_nothing, no_form}
 use Rattle.c_calls_epoch.proofs.clear_local_artifacts.Goals as goal
 
-pub returns-then-not-ok : goal.returns-then-not-ok
-returns-then-not-ok c = gives_book_absent no_form (clear_local_artifacts) c.args.book.now (c.held-h.ensures.absent (not-true _ c.if-not-ok.true-raw))
+pub returns-then-not-h : goal.returns-then-not-h
+returns-then-not-h c = gives_book_absent no_form (clear_local_artifacts) c.args.book.now (c.held-h.ensures.absent (not-true _ c.if-not-h.true))
 
-pub clear_local_artifacts_sound-r-requires : goal.clear_local_artifacts_sound-r-requires
-clear_local_artifacts_sound-r-requires c = (c.held-h.ensures.present (not-false _ c.if-not-ok.false-raw)).sound
+pub invariant_of-clear_local_artifacts_sound : goal.invariant_of-clear_local_artifacts_sound
+invariant_of-clear_local_artifacts_sound c = record { sound = (c.held-h.ensures.present (not-false _ c.if-not-h.false)).sound }
 
 pub returns : goal.returns
-returns c =
-    done_given_lem _ _ (c.held-h.ensures.present (not-false _ c.if-not-ok.false-raw)) _ _
-    c.clear_local_artifacts_sound-r.ensures c.settle_done.ensures
+returns c = reply_book tells_nothing _ _ _ (c.held-h.ensures.present (not-false _ c.if-not-h.false)) _ c.clear_local_artifacts_sound-r.ensures c.settle_done.ensures

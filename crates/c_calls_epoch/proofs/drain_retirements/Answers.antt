@@ -1,16 +1,13 @@
 -- No book: 1. Else the reply of the call on the held book, put back by the law of its kind of answer.
 use borrow.Author.Tests.{not-true, not-false}
-use Rattle.c_boundary.specs.Forms.{gives_absent, ids_given_lem}
+use Rattle.c_boundary.specs.Forms.{gives_absent, given_reply, tells_ids}
 use Rattle.c_calls_epoch.proofs.drain_retirements.Goals as goal
 
-pub returns-then-not-ok : goal.returns-then-not-ok
-returns-then-not-ok c = gives_absent _ _ _ _ (c.held-h.ensures.absent (not-true _ c.if-not-ok.true-raw))
+pub returns-then-not-h : goal.returns-then-not-h
+returns-then-not-h c = gives_absent _ _ _ _ (c.held-h.ensures.absent (not-true _ c.if-not-h.true))
 
-pub drain_retirements_sound-r-requires : goal.drain_retirements_sound-r-requires
-drain_retirements_sound-r-requires c = (c.held-h.ensures.present (not-false _ c.if-not-ok.false-raw)).sound
+pub invariant_of-drain_retirements_sound : goal.invariant_of-drain_retirements_sound
+invariant_of-drain_retirements_sound c = record { sound = (c.held-h.ensures.present (not-false _ c.if-not-h.false)).sound }
 
 pub returns : goal.returns
-returns c =
-    ids_given_lem _ _ _
-    (c.held-h.ensures.present (not-false _ c.if-not-ok.false-raw)) _ _
-    c.drain_retirements_sound-r.ensures c.settle_ids.ensures
+returns c = given_reply tells_ids _ _ _ (c.held-h.ensures.present (not-false _ c.if-not-h.false)) _ c.drain_retirements_sound-r.ensures c.settle_ids.ensures

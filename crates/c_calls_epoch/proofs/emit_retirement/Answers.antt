@@ -1,15 +1,13 @@
 -- No book: 1. Else the reply of the call on the held book, put back by the law of its kind of answer.
 use borrow.Author.Tests.{not-true, not-false}
-use Rattle.c_boundary.specs.Forms.{gives_book_absent, done_given_lem}
+use Rattle.c_boundary.specs.Forms.{gives_book_absent, reply_book, tells_nothing}
 use Rattle.c_calls_epoch.proofs.emit_retirement.Goals as goal
 
-pub returns-then-not-ok : goal.returns-then-not-ok
-returns-then-not-ok c = gives_book_absent _ _ _ (c.held-h.ensures.absent (not-true _ c.if-not-ok.true-raw))
+pub returns-then-not-h : goal.returns-then-not-h
+returns-then-not-h c = gives_book_absent _ _ c.args.book.now (c.held-h.ensures.absent (not-true _ c.if-not-h.true))
 
-pub emit_retirement_sound-r-requires : goal.emit_retirement_sound-r-requires
-emit_retirement_sound-r-requires c = (c.held-h.ensures.present (not-false _ c.if-not-ok.false-raw)).sound
+pub invariant_of-emit_retirement_sound : goal.invariant_of-emit_retirement_sound
+invariant_of-emit_retirement_sound c = record { sound = (c.held-h.ensures.present (not-false _ c.if-not-h.false)).sound }
 
 pub returns : goal.returns
-returns c =
-    done_given_lem _ _ (c.held-h.ensures.present (not-false _ c.if-not-ok.false-raw)) _ _
-    c.emit_retirement_sound-r.ensures c.settle_done.ensures
+returns c = reply_book tells_nothing _ _ _ (c.held-h.ensures.present (not-false _ c.if-not-h.false)) _ c.emit_retirement_sound-r.ensures c.settle_done.ensures

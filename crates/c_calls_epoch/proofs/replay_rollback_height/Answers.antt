@@ -1,16 +1,14 @@
 -- No book: 1. Else the reply of the call on the held book, told by the law of its kind of answer; its rules have no step, so the book stays.
 use borrow.Author.Tests.{not-true, not-false}
-use Rattle.c_boundary.specs.Forms.{gives_absent, height_looked}
+use Rattle.c_boundary.specs.Forms.{gives_absent, reply_looked, tells_height}
 use Rattle.c_boundary.specs.Looks.{looks_height}
 use Rattle.c_calls_epoch.proofs.replay_rollback_height.Goals as goal
 
-pub returns-then-not-ok : goal.returns-then-not-ok
-returns-then-not-ok c = gives_absent _ _ _ _ (c.held-h.ensures.absent (not-true _ c.if-not-ok.true-raw))
+pub returns-then-not-h : goal.returns-then-not-h
+returns-then-not-h c = gives_absent _ _ _ _ (c.held-h.ensures.absent (not-true _ c.if-not-h.true))
 
-pub replay_rollback_height_sound-r-requires : goal.replay_rollback_height_sound-r-requires
-replay_rollback_height_sound-r-requires c = (c.held-h.ensures.present (not-false _ c.if-not-ok.false-raw)).sound
+pub invariant_of-replay_rollback_height_sound : goal.invariant_of-replay_rollback_height_sound
+invariant_of-replay_rollback_height_sound c = record { sound = (c.held-h.ensures.present (not-false _ c.if-not-h.false)).sound }
 
 pub returns : goal.returns
-returns c =
-    let h = c.held-h.ensures.present (not-false _ c.if-not-ok.false-raw) in
-    height_looked _ _ _ h _ looks_height _ c.replay_rollback_height_sound-r.ensures c.tell_height.ensures
+returns c = reply_looked tells_height _ _ _ (c.held-h.ensures.present (not-false _ c.if-not-h.false)) _ c.replay_rollback_height_sound-r.ensures (looks_height) c.tell_height.ensures

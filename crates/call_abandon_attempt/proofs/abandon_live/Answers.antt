@@ -1,25 +1,24 @@
--- The rules remove and then retire; the code's test for full retirements is the rules' limit, which refuses with 10.
-use mathlib.Core.Path.{◌∙◌}
+-- The rules withdraw the submission: it is removed, and then retired or the call refused as full.
+use Rattle.std.proofs.Common.{sym, ◌∙◌}
 use Rattle.book.specs.Sound.{id_of}
 use Rattle.part_lookup.specs.Normal.{sound_normal}
-use Rattle.call_abandon_attempt.specs.Abandoning.{rest_normal, abandon_full, abandon_answer}
+use Rattle.part_withdraw.specs.WithdrawLaws.{kept_normal}
+use Rattle.call_abandon_attempt.specs.Abandoning.{abandon_full, abandon_answer}
 use Rattle.call_abandon_attempt.proofs.abandon_live.Goals as goal
 
-pub submitted_at-s-requires : goal.submitted_at-s-requires
-submitted_at-s-requires c = (sound_normal c.args.b c.requires.0, c.requires.1)
+pub submitted_at-requires : goal.submitted_at-requires
+submitted_at-requires c = (sound_normal c.args.b.parts c.args.b.sound, c.requires)
 
 pub remove_submitted-rest-requires : goal.remove_submitted-rest-requires
-remove_submitted-rest-requires c = sound_normal c.args.b c.requires.0
+remove_submitted-rest-requires c = sound_normal c.args.b.parts c.args.b.sound
 
-pub retire-retired-requires : goal.retire-retired-requires
-retire-retired-requires c = rest_normal c.args.b c.requires.0 (id_of c.submitted_at-s.result) c.remove_submitted-rest.ensures
+pub retire-requires : goal.retire-requires
+retire-requires c = kept_normal c.args.b.parts c.args.b.sound (id_of c.submitted_at.result) c.remove_submitted-rest.ensures
 
-pub returns-then-retired : goal.returns-then-retired
-returns-then-retired c =
-    c.status_refused.ensures ∙ abandon_full c.args.b c.requires.0 c.args.k c.submitted_at-s.ensures c.remove_submitted-rest.ensures
-    c.retire-retired.ensures c.if-retired.true
+pub returns-in-Ok : goal.returns-in-Ok
+returns-in-Ok c =
+    c.done.ensures ∙ abandon_answer c.args.b.parts c.args.b.sound c.args.k c.submitted_at.ensures c.remove_submitted-rest.ensures (sym c.in-Ok.is ∙ c.retire.ensures)
 
-pub returns : goal.returns
-returns c =
-    c.status_done.ensures ∙ abandon_answer c.args.b c.requires.0 c.args.k c.submitted_at-s.ensures
-    c.remove_submitted-rest.ensures c.retire-retired.ensures c.if-retired.false
+pub returns-in-Err : goal.returns-in-Err
+returns-in-Err c =
+    c.refused.ensures ∙ abandon_full c.args.b.parts c.args.b.sound c.args.k c.submitted_at.ensures c.remove_submitted-rest.ensures (sym c.in-Err.is ∙ c.retire.ensures)

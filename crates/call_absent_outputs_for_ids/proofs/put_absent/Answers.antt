@@ -5,13 +5,13 @@ use Rattle.call_absent_outputs_for_ids.specs.Outputs.{put_none_of, put_those_of}
 use mathlib.Core.Path.{sym, ◌∙◌}
 use Rattle.call_absent_outputs_for_ids.proofs.put_absent.Goals as goal
 
-pub returns-then-not-listed : goal.returns-then-not-listed
-returns-then-not-listed c = put_none_of c.args.ids.now (coins_in c.args.absent.now) c.args.t (sym c.contains-listed.ensures.value ∙ not-true c.contains-listed.result c.if-not-listed.true-raw) c.args.at c.args.out.now
+pub returns-then-not-contains : goal.returns-then-not-contains
+returns-then-not-contains c = put_none_of c.args.ids.now (coins_in c.args.absent.now) c.args.t (sym c.contains.ensures.value ∙ not-true c.contains.result c.if-not-contains.true-raw) c.args.at c.args.out.now
 
 pub put_listed-requires : goal.put_listed-requires
 put_listed-requires c = (c.expected_output_coins-outputs.ensures.1, c.requires)
 
 pub returns : goal.returns
 returns c =
-    put_those_of c.args.ids.now (coins_in c.args.absent.now) c.args.t (sym c.contains-listed.ensures.value ∙ not-false c.contains-listed.result c.if-not-listed.false-raw) c.expected_output_coins-outputs.ensures.0 c.expected_output_coins-outputs.ensures.1
+    put_those_of c.args.ids.now (coins_in c.args.absent.now) c.args.t (sym c.contains.ensures.value ∙ not-false c.contains.result c.if-not-contains.false-raw) c.expected_output_coins-outputs.ensures.0 c.expected_output_coins-outputs.ensures.1
     c.put_listed.ensures

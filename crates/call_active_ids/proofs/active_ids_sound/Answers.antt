@@ -1,9 +1,6 @@
-use Rattle.part_lookup.specs.Normal.{sound_normal}
+use Rattle.std.proofs.Common.{◌∙◌}
 use Rattle.call_active_ids.specs.Collecting.{active_is}
 use Rattle.call_active_ids.proofs.active_ids_sound.Goals as goal
 
-pub active_in-found-requires : goal.active_in-found-requires
-active_in-found-requires c = sound_normal c.args.b c.requires
-
 pub returns : goal.returns
-returns c = active_is c.args.b c.requires c.active_in-found.ensures c.widened-ids.ensures
+returns c = c.done.ensures ∙ active_is c.args.b.parts c.args.b.sound c.active_in-found.ensures c.widened.ensures

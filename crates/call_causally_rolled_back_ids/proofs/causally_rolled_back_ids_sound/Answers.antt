@@ -11,17 +11,18 @@ use Rattle.call_causally_rolled_back_ids.proofs.causally_rolled_back_ids_sound.G
 
 pub returns-then-not-ok : goal.returns-then-not-ok
 returns-then-not-ok c =
-    c.refused_ids.ensures
-    ∙ ap (ids_reply c.args.b) (rolled_back_shut c.args.absent.now c.args.inputs.now (view c.args.b) (lists_told c.args.absent.now c.args.inputs.now c.is_coin_list-coins.ensures c.is_id_list-live.ensures (not-true _ c.if-not-ok.true-raw)))
+    c.refused.ensures
+    ∙ ap (ids_reply c.args.b.parts) (rolled_back_shut c.args.absent.now c.args.inputs.now (view c.args.b.parts) (lists_told c.args.absent.now c.args.inputs.now c.is_coin_list-coins.ensures c.is_id_list-live.ensures (not-true _ c.if-not-ok.true-raw)))
 
 pub rising-requires : goal.rising-requires
-rising-requires c = found_count (coins_in c.args.absent.now) (ids_in c.args.inputs.now) (view c.args.b) (sound_normal c.args.b c.requires).fits.submitted c.rolled_back_ids.result c.rolled_back_ids.ensures
+rising-requires c = found_count (coins_in c.args.absent.now) (ids_in c.args.inputs.now) (view c.args.b.parts) (sound_normal c.args.b.parts c.args.b.sound).fits.submitted c.rolled_back_ids.result c.rolled_back_ids.ensures
 
 pub widened-ids-requires : goal.widened-ids-requires
-widened-ids-requires c = up_count (coins_in c.args.absent.now) (ids_in c.args.inputs.now) (view c.args.b) (sound_normal c.args.b c.requires).fits.submitted c.rolled_back_ids.result c.rolled_back_ids.ensures c.rising.result c.rising.ensures
+widened-ids-requires c = up_count (coins_in c.args.absent.now) (ids_in c.args.inputs.now) (view c.args.b.parts) (sound_normal c.args.b.parts c.args.b.sound).fits.submitted c.rolled_back_ids.result c.rolled_back_ids.ensures c.rising.result c.rising.ensures
 
 pub returns : goal.returns
 returns c =
-    rolled_back_reply c.args.absent.now c.args.inputs.now c.args.b c.widened-ids.result c.requires
+    c.done.ensures
+    ∙ rolled_back_reply c.args.absent.now c.args.inputs.now c.args.b.parts c.widened-ids.result c.args.b.sound
     (lists_told c.args.absent.now c.args.inputs.now c.is_coin_list-coins.ensures c.is_id_list-live.ensures (not-false _ c.if-not-ok.false-raw))
-    (up_ids (coins_in c.args.absent.now) (ids_in c.args.inputs.now) (view c.args.b) (sound_normal c.args.b c.requires).fits.submitted c.rolled_back_ids.result c.rolled_back_ids.ensures c.rising.result c.rising.ensures c.widened-ids.ensures)
+    (up_ids (coins_in c.args.absent.now) (ids_in c.args.inputs.now) (view c.args.b.parts) (sound_normal c.args.b.parts c.args.b.sound).fits.submitted c.rolled_back_ids.result c.rolled_back_ids.ensures c.rising.result c.rising.ensures c.widened-ids.ensures)

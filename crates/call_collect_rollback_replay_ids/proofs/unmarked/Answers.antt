@@ -5,7 +5,7 @@ use Rattle.part_lookup.specs.Normal.{sound_normal, sizes}
 use Rattle.call_collect_rollback_replay_ids.proofs.unmarked.Goals as goal
 
 pub items-requires : goal.items-requires
-items-requires c = (omega arith, (sizes c.args.b (sound_normal c.args.b c.requires.0)).replayed)
+items-requires c = (omega arith, (sizes c.args.b.now.parts (sound_normal c.args.b.now.parts c.args.b.now.sound)).replayed)
 
 pub returns : goal.returns
 unfolding view

@@ -12,21 +12,21 @@ use Rattle.call_drain.proofs.plan_pending_submission.Goals as goal
 
 pub returns-then-is_one_of : goal.returns-then-is_one_of
 returns-then-is_one_of c =
-    passed_over (view c.args.b) (id_list c.args.emitted) (id_list c.args.removed) c.args.n c.args.c (sym c.is_one_of.ensures ∙ c.if-is_one_of.true)
+    passed_over (view c.args.b.now) (id_list c.args.emitted.now) (id_list c.args.removed.now) c.args.n c.args.c.now (sym c.is_one_of.ensures ∙ c.if-is_one_of.true)
     (c.failing.ensures ∙ ap (λ (f : SubmissionDrainFailure). failing (Planned Passed) f) c.zero.ensures)
 
 pub returns-in_default : goal.returns-in_default
-returns-in_default c = without_id_lem (view c.args.b) (id_list c.args.emitted) (id_list c.args.removed) c.args.n c.args.c (sym c.is_one_of.ensures ∙ c.if-is_one_of.false) c.intent_of-f.ensures c.in_default.is c.plan_unnamed.ensures
+returns-in_default c = without_id_lem (view c.args.b.now) (id_list c.args.emitted.now) (id_list c.args.removed.now) c.args.n c.args.c.now (sym c.is_one_of.ensures ∙ c.if-is_one_of.false) c.intent_of-f.ensures c.in_default.is c.plan_unnamed.ensures
 
 pub returns-in_default-place : goal.returns-in_default-place
 returns-in_default-place c =
-    id_gone (view c.args.b) (id_list c.args.emitted) (id_list c.args.removed) c.args.n c.args.c (sym c.is_one_of.ensures ∙ c.if-is_one_of.false) c.intent_of-f.ensures c.in-Some.is
+    id_gone (view c.args.b.now) (id_list c.args.emitted.now) (id_list c.args.removed.now) c.args.n c.args.c.now (sym c.is_one_of.ensures ∙ c.if-is_one_of.false) c.intent_of-f.ensures c.in-Some.is
     (sym c.position_of-place.ensures ∙ c.in_default-place.is) c.fails.ensures
 
 pub plan_known-requires : goal.plan_known-requires
-plan_known-requires c = (c.requires.0, c.requires.1, (at_first (has_id _) (view c.args.b).submitted (sym c.position_of-place.ensures ∙ c.in-Some-place.is)).within)
+plan_known-requires c = (c.requires.0, c.requires.1, (at_first (has_id _) (view c.args.b.now).submitted (sym c.position_of-place.ensures ∙ c.in-Some-place.is)).within)
 
 pub returns : goal.returns
 returns c =
-    id_at (view c.args.b) (id_list c.args.emitted) (id_list c.args.removed) c.args.n c.args.c (sym c.is_one_of.ensures ∙ c.if-is_one_of.false) c.intent_of-f.ensures c.in-Some.is
+    id_at (view c.args.b.now) (id_list c.args.emitted.now) (id_list c.args.removed.now) c.args.n c.args.c.now (sym c.is_one_of.ensures ∙ c.if-is_one_of.false) c.intent_of-f.ensures c.in-Some.is
     (sym c.position_of-place.ensures ∙ c.in-Some-place.is) c.plan_known.ensures

@@ -1,34 +1,28 @@
 -- Each return is one case of `decision`: a fee open and a bundle joined or not, or no fee open and a source requested or not.
-use borrow.Author.Tests.{not-true, not-false}
 use mathlib.Core.Path.{refl, sym, ap, ◌∙◌}
+use Rattle.std.specs.Prelude.{Ok}
 use Rattle.book_answers.specs.declared.FinalizedSubmission.{FinalizedSubmission}
 use Rattle.call_finalize_attempt.specs.Decision.{final_as, decides}
 use Rattle.call_finalize_attempt.specs.Tests.{joined_sound}
 use Rattle.call_finalize_attempt.proofs.decide.Goals as goal
 
-pub returns-then-not-none : goal.returns-then-not-none
-returns-then-not-none c =
-    c.unasked.ensures
-    ∙ decides c.args.source c.args.joined c.args.s (sym (not-true _ c.if-not-open.true-raw) ∙ c.fee_unresolved-open.ensures) refl
-    (sym (not-true _ c.if-not-none.true-raw) ∙ c.is_not_requested-none.ensures)
-
-pub returns-then-not-open : goal.returns-then-not-open
-returns-then-not-open c =
-    c.decided.ensures ∙ ap (λ (x : FinalizedSubmission). final_as x c.args.s) c.current_final-last.ensures
-    ∙ decides c.args.source c.args.joined c.args.s (sym (not-true _ c.if-not-open.true-raw) ∙ c.fee_unresolved-open.ensures) refl
-    (sym (not-false _ c.if-not-none.false-raw) ∙ c.is_not_requested-none.ensures)
-
-pub returns-then-not-join : goal.returns-then-not-join
-returns-then-not-join c =
-    c.decided-then-not-join.ensures ∙ ap (λ (x : FinalizedSubmission). final_as x c.args.s) c.unused_fee-last.ensures
-    ∙ decides c.args.source c.args.joined c.args.s (sym (not-false _ c.if-not-open.false-raw) ∙ c.fee_unresolved-open.ensures)
-    (sym (not-true _ c.if-not-join.true-raw) ∙ c.is_joined-join.ensures) refl
-
 pub attached-requires : goal.attached-requires
-attached-requires c = joined_sound c.args.source c.args.joined c.is_joined-join.ensures (not-false _ c.if-not-join.false-raw) ∙ c.requires.1
+attached-requires c = joined_sound c.args.source c.args.joined c.is_joined.ensures c.if-is_joined.true ∙ c.requires
+
+pub returns-then-is_joined : goal.returns-then-is_joined
+returns-then-is_joined c =
+    ap Ok c.attached.ensures
+    ∙ decides c.args.source c.args.joined c.args.h.held (sym c.if-fee_unresolved.true ∙ c.fee_unresolved.ensures) (sym c.if-is_joined.true ∙ c.is_joined.ensures) refl
+
+pub returns-then-fee_unresolved : goal.returns-then-fee_unresolved
+returns-then-fee_unresolved c =
+    ap Ok (c.decided.ensures ∙ ap (λ (x : FinalizedSubmission). final_as x c.args.h.held) c.unused_fee.ensures)
+    ∙ decides c.args.source c.args.joined c.args.h.held (sym c.if-fee_unresolved.true ∙ c.fee_unresolved.ensures) (sym c.if-is_joined.false ∙ c.is_joined.ensures) refl
+
+pub returns-then-is_not_requested : goal.returns-then-is_not_requested
+returns-then-is_not_requested c =
+    ap Ok (c.decided-then-is_not_requested.ensures ∙ ap (λ (x : FinalizedSubmission). final_as x c.args.h.held) c.current_final.ensures)
+    ∙ decides c.args.source c.args.joined c.args.h.held (sym c.if-fee_unresolved.false ∙ c.fee_unresolved.ensures) refl (sym c.if-is_not_requested.true ∙ c.is_not_requested.ensures)
 
 pub returns : goal.returns
-returns c =
-    c.attached.ensures
-    ∙ decides c.args.source c.args.joined c.args.s (sym (not-false _ c.if-not-open.false-raw) ∙ c.fee_unresolved-open.ensures)
-    (sym (not-false _ c.if-not-join.false-raw) ∙ c.is_joined-join.ensures) refl
+returns c = decides c.args.source c.args.joined c.args.h.held (sym c.if-fee_unresolved.false ∙ c.fee_unresolved.ensures) refl (sym c.if-is_not_requested.false ∙ c.is_not_requested.ensures)

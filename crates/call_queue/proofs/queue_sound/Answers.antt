@@ -1,24 +1,20 @@
--- Refused 3 by the test of the delivery, else what `enqueue` ends with is settled.
-use mathlib.Core.Path.{sym, ◌∙◌}
+-- Refused 3 by the test of the delivery, else what `enqueue` comes to is settled.
+use Rattle.std.proofs.Common.{sym, ap, ◌∙◌}
 use borrow.Author.Tests.{not-true, not-false}
 use Rattle.book.specs.Model.{view}
-use Rattle.rules.specs.Steps.{run_book}
-use Rattle.rules.specs.Calls.Queue as rules
-use Rattle.part_offer.specs.Ends.{refused_is, settled_is}
+use Rattle.part_replies.specs.Reply.{reply}
 use Rattle.call_queue.specs.Queueing.{queue_damaged, queue_taken}
-use Rattle.book.specs.Refusals as refusals
 use Rattle.call_queue.proofs.queue_sound.Goals as goal
 
 pub returns-then-not-sound : goal.returns-then-not-sound
 returns-then-not-sound c =
     c.refused.ensures
-    ∙ refused_is c.args.b refusals.bad_value (run_book (rules.queue c.args.d) (view c.args.b)) (queue_damaged c.args.d (view c.args.b) (sym c.is_sound_delivery-sound.ensures ∙ not-true c.is_sound_delivery-sound.result c.if-not-sound.true-raw))
+    ∙ ap (reply c.args.b.parts) (sym (queue_damaged c.args.d (view c.args.b.parts) (sym c.is_sound_delivery-sound.ensures ∙ not-true c.is_sound_delivery-sound.result c.if-not-sound.true-raw)))
 
 pub enqueue-requires : goal.enqueue-requires
-enqueue-requires c = (c.requires, sym c.is_sound_delivery-sound.ensures ∙ not-false c.is_sound_delivery-sound.result c.if-not-sound.false-raw)
+enqueue-requires c = sym c.is_sound_delivery-sound.ensures ∙ not-false c.is_sound_delivery-sound.result c.if-not-sound.false-raw
 
 pub returns : goal.returns
 returns c =
     c.settled.ensures
-    ∙ settled_is c.args.b c.enqueue.result (run_book (rules.queue c.args.d) (view c.args.b))
-    (queue_taken c.args.d (view c.args.b) c.enqueue.result (sym c.is_sound_delivery-sound.ensures ∙ not-false c.is_sound_delivery-sound.result c.if-not-sound.false-raw) c.enqueue.ensures)
+    ∙ ap (reply c.args.b.parts) (sym (queue_taken c.args.d (view c.args.b.parts) c.enqueue.result (sym c.is_sound_delivery-sound.ensures ∙ not-false c.is_sound_delivery-sound.result c.if-not-sound.false-raw) c.enqueue.ensures))

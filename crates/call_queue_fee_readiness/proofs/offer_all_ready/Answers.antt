@@ -1,23 +1,35 @@
+-- Each turn is the rules' offer of the submission at the index, if it is ready.
 use lib.ListN.{drop_of_length-le}
+use Rattle.std.specs.Prelude.{List}
+use Rattle.std.proofs.Common.{sym, ap, ◌∙◌}
+use Rattle.std.proofs.lemmas.Result.{err_from_is_err_and}
 use Rattle.base_lists.specs.Laws.{rest_step}
+use Rattle.book.specs.declared.SubmittedTx.{SubmittedTx}
 use Rattle.book.specs.Model.{view}
-use Rattle.part_lookup.specs.Normal.{sound_normal, sizes}
-use Rattle.part_offer.specs.Each.{each_full, each_on, each_done}
-use Rattle.call_queue_fee_readiness.specs.Readiness.{ready_each, readiness_is}
+use Rattle.part_lookup.specs.Normal.{sound_normal}
+use Rattle.part_replies.specs.Reply.{outcome_by}
+use Rattle.part_sound_laws.specs.Outcomes.{each_undone, each_on, each_done}
+use Rattle.rules.specs.Steps.{run_book}
+use Rattle.call_queue_fee_readiness.specs.Readiness.{ready_all, ready_each, readiness_is}
 use Rattle.call_queue_fee_readiness.proofs.offer_all_ready.Goals as goal
 
-pub shared_ref_as_front-retained : goal.shared_ref_as_front-retained
-shared_ref_as_front-retained c = (sizes c.args.b (sound_normal c.args.b c.requires)).submitted
+pub submitted-retained-requires : goal.submitted-retained-requires
+submitted-retained-requires c = sound_normal c.args.b.parts c.args.b.sound
 
 pub loop-t-init : goal.loop-t-init
-unfolding view
-loop-t-init c = record { sound = c.requires; rest = readiness_is (view c.args.b) }
+loop-t-init c = readiness_is (view c.args.b.parts) ∙ ap (λ (ts : List SubmittedTx). run_book (ready_all ts) (view c.args.b.parts)) (sym c.submitted-retained.ensures)
 
 pub returns-in_err-out : goal.returns-in_err-out
-returns-in_err-out c = rw c.from_residual.ensures (each_full ready_each c.loop-t.invariant (rest_step _ c.loop-t.t-index _ c.loop-t-test.true) c.in_err-out.ensures)
+returns-in_err-out c =
+    let p = err_from_is_err_and c.from_residual.result c.from_residual.ensures.1 in
+    rw (p.1, p.2)
+    (each_undone ready_each (view c.loop-t.out.parts) c.loop-t.invariant (rest_step _ c.loop-t.t-index _ c.loop-t-test.true)
+    (c.offer_ready.ensures ∙ ap (outcome_by tt) c.in_err-out.was))
 
 pub loop-t-preserved : goal.loop-t-preserved
-loop-t-preserved c = each_on ready_each c.in_ok-out.out c.loop-t.invariant (rest_step _ c.loop-t.t-index _ c.loop-t-test.true) c.in_ok-out.ensures
+loop-t-preserved c =
+    each_on ready_each (view c.loop-t.out.parts) c.loop-t.invariant (rest_step _ c.loop-t.t-index _ c.loop-t-test.true)
+    (c.offer_ready.ensures ∙ ap (outcome_by tt) c.in_ok-out.was)
 
 pub returns : goal.returns
-returns c = each_done ready_each c.loop-t.invariant (drop_of_length-le _ c.loop-t-test.false)
+returns c = each_done ready_each _ c.loop-t.invariant (drop_of_length-le _ c.loop-t-test.false)

@@ -7,21 +7,16 @@ use Rattle.book.specs.Model.{view}
 use Rattle.book.specs.Sound.{id_of}
 use Rattle.rules.specs.Steps.{run_book}
 use Rattle.rules.specs.Calls.Offer.{offer}
-use Rattle.part_offer.specs.Ends.{stays, ends_as}
-use Rattle.call_queue_fee_readiness.specs.Readiness.{is_ready, ready_one, ready_offered, ready_not}
+use Rattle.call_queue_fee_readiness.specs.Readiness.{is_ready, ready_offered, ready_not}
 use Rattle.call_queue_fee_readiness.proofs.offer_ready.Goals as goal
-
-pub offer-requires : goal.offer-requires
-offer-requires c = c.requires
 
 pub returns-then-active-unresolved : goal.returns-then-active-unresolved
 returns-then-active-unresolved c =
     let r : is_ready c.args.t ≡ true = cc in
-    ends_as tt c.offer.result (run_book (offer (id_of c.args.t) ProviderReadiness c.goal_for.result) (view c.args.b))
-    (ready_offered c.args.t (view c.args.b) r ∙ ap (λ (g : SubmissionDeliveryGoal). run_book (offer (id_of c.args.t) ProviderReadiness g) (view c.args.b)) (sym c.goal_for.ensures))
-    c.offer.ensures
+    ready_offered c.args.t (view c.args.b.parts) r ∙ ap (λ (g : SubmissionDeliveryGoal). run_book (offer (id_of c.args.t) ProviderReadiness g) (view c.args.b.parts)) (sym c.goal_for.ensures)
+    ∙ c.offer.ensures
 
 pub returns : goal.returns
 returns c =
     let r : is_ready c.args.t ≡ false = cc in
-    stays tt c.args.b (run_book (ready_one c.args.t) (view c.args.b)) c.requires (ready_not c.args.t (view c.args.b) r)
+    ready_not c.args.t (view c.args.b.parts) r

@@ -1,13 +1,16 @@
 -- The submission stored Active at its place is the rules' revision by id.
 use Rattle.part_lookup.specs.Normal.{sound_normal}
-use Rattle.call_reconcile_chain_terminality.specs.Halt.{reactivated_by}
+use Rattle.call_reconcile_chain_terminality.specs.Halt.{active_sound, active_on}
 use Rattle.call_reconcile_chain_terminality.proofs.reactivate.Goals as goal
 
 pub submitted_at-t-requires : goal.submitted_at-t-requires
-submitted_at-t-requires c = (sound_normal c.args.b c.requires.0, c.requires.1)
+submitted_at-t-requires c = (sound_normal c.args.b.parts c.args.b.sound, c.requires)
 
-pub store_submitted-next-requires : goal.store_submitted-next-requires
-store_submitted-next-requires c = (sound_normal c.args.b c.requires.0, c.requires.1)
+pub store_submitted-requires : goal.store_submitted-requires
+store_submitted-requires c = (sound_normal c.args.b.parts c.args.b.sound, c.requires)
+
+pub invariant_of-result : goal.invariant_of-result
+invariant_of-result c = record { sound = active_sound c.args.b.parts c.args.b.sound c.args.k c.requires c.submitted_at-t.ensures c.with_terminality-entry.ensures c.store_submitted.ensures }
 
 pub returns : goal.returns
-returns c = reactivated_by c.args.b c.requires.0 c.args.k c.submitted_at-t.result c.submitted_at-t.ensures c.requires.1 c.with_terminality-entry.result c.with_terminality-entry.ensures c.store_submitted-next.result c.store_submitted-next.ensures
+returns c = active_on c.args.b.parts c.args.b.sound c.args.k c.requires c.submitted_at-t.ensures c.with_terminality-entry.ensures c.store_submitted.ensures

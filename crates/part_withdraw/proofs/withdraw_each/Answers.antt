@@ -1,18 +1,25 @@
+-- Each turn is the rules' `withdraw` of the id at the index.
 use lib.ListN.{drop_of_length-le}
-use Rattle.book.specs.Model.{id_list}
+use Rattle.std.proofs.Common.{ap, sym, ◌∙◌}
+use Rattle.std.proofs.lemmas.Result.{err_from_is_err_and}
 use Rattle.base_lists.specs.Laws.{rest_step}
-use Rattle.part_withdraw.specs.WithdrawLaws.{each_turn, each_full, each_end}
+use Rattle.book.specs.Model.{view}
+use Rattle.part_replies.specs.Reply.{outcome_by}
+use Rattle.part_sound_laws.specs.Outcomes.{each_undone, each_on, each_done}
+use Rattle.part_withdraw.specs.WithdrawLaws.{withdraws}
 use Rattle.part_withdraw.proofs.withdraw_each.Goals as goal
 
-pub returns-then-next : goal.returns-then-next
-returns-then-next c =
-    each_full (id_list c.args.ids) c.loop-id.id-index c.loop-id.invariant (rest_step (id_list c.args.ids) c.loop-id.id-index 0 c.loop-id-test.true)
-    c.withdraw-next.ensures c.if-next.true
+pub returns-in_err-out : goal.returns-in_err-out
+returns-in_err-out c =
+    let p = err_from_is_err_and c.from_residual.result c.from_residual.ensures.1 in
+    rw (p.1, p.2)
+    (each_undone withdraws (view c.loop-id.out.parts) c.loop-id.invariant (rest_step c.args.ids.now c.loop-id.id-index 0 c.loop-id-test.true)
+    (c.withdraw.ensures ∙ ap (outcome_by tt) c.in_err-out.was))
 
 pub loop-id-preserved : goal.loop-id-preserved
 loop-id-preserved c =
-    each_turn (id_list c.args.ids) c.loop-id.id-index c.loop-id.invariant (rest_step (id_list c.args.ids) c.loop-id.id-index 0 c.loop-id-test.true)
-    c.withdraw-next.ensures c.if-next.false
+    each_on withdraws (view c.loop-id.out.parts) c.loop-id.invariant (rest_step c.args.ids.now c.loop-id.id-index 0 c.loop-id-test.true)
+    (c.withdraw.ensures ∙ ap (outcome_by tt) c.in_ok-out.was)
 
 pub returns : goal.returns
-returns c = each_end (id_list c.args.ids) c.loop-id.id-index c.loop-id.invariant (drop_of_length-le (id_list c.args.ids) {i = c.loop-id.id-index} c.loop-id-test.false)
+returns c = each_done withdraws _ c.loop-id.invariant (drop_of_length-le c.args.ids.now {i = c.loop-id.id-index} c.loop-id-test.false)

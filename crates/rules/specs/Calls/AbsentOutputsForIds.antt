@@ -10,7 +10,7 @@ use Rattle.rules.specs.Calls.Common.{writing}
 use Rattle.rules.specs.CoinLists.{encode_coins}
 use Rattle.rules.specs.Doors.{ids_ok, among}
 use Rattle.rules.specs.Rule.{Rule, undo, ◌>>=◌, book}
-use Rattle.book.specs.Refusals as refusals
+use Rattle.book.specs.declared.refusal.Refusal.TheVariants as refusals
 
 unfoldable pub absent_outputs : List (List ℕ) → RetainedIntent → List (List ℕ)
 unfolding among expected_output_coins
@@ -22,4 +22,4 @@ absent_outputs_for_ids is absent room = cond (ids_ok is && coin_listb absent)
     (do
       b ← book
       writing room (encode_coins (flat_map (λ t. absent_outputs (coins_in absent) t.entry.intent) (filter (λ t. elemb (id_of t) is) b.submitted))))
-    (undo refusals.bad_list)
+    (undo refusals.BadList)

@@ -17,13 +17,13 @@ use Rattle.rules.specs.Calls.Plan.{Memory, with_emitted, with_removed, with_fail
 use Rattle.rules.specs.Keyed.{pick}
 use Rattle.rules.specs.Parts.{intent_of}
 use Rattle.rules.specs.Rule.{done, tighten, revise, retain, emit, Rule, stop, ◌>>=◌, ◌>>◌, book, step}
-use Rattle.book.specs.Refusals as refusals
+use Rattle.book.specs.declared.refusal.Refusal.TheVariants as refusals
 
 -- "An id is emitted once a drain"; 11: "token needed, next token 2^64 − 1"
 unfoldable pub deliver : ℕ → SubmissionDeliveryGoal → Memory → Rule Memory
 deliver i g a = cond (elemb i a.emitted) (done a) (do
   b ← book
-  cond (eqb b.next_token.0 last64) (stop refusals.no_token) (do
+  cond (eqb b.next_token.0 last64) (stop refusals.NoToken) (do
     step (emit i g)
     done (with_emitted i a)))
 

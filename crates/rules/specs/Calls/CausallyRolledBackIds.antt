@@ -12,7 +12,7 @@ use Rattle.book_coins.specs.Coins.{input_coin_ids, expected_output_coins}
 use Rattle.rules.specs.Doors.{among}
 use Rattle.rules.specs.Parts.{active_entry, is_input_spent}
 use Rattle.rules.specs.Rule.{done, Rule, undo, ◌>>=◌, book}
-use Rattle.book.specs.Refusals as refusals
+use Rattle.book.specs.declared.refusal.Refusal.TheVariants as refusals
 
 -- "Coins created and consumed inside this bundle are recreated on replay"
 unfoldable pub outer_input_ids : SpendBundle → List (List ℕ)
@@ -31,4 +31,4 @@ causally_rolled_back_ids absent inputs = cond (coin_listb absent && id_listb inp
     (do
       b ← book
       done (rising (map id_of (filter (λ t. rolled_back (coins_in absent) (ids_in inputs) t.entry) b.submitted))))
-    (undo refusals.bad_list)
+    (undo refusals.BadList)

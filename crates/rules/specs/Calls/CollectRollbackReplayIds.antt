@@ -9,7 +9,7 @@ use Rattle.book.specs.Sound.{id_of}
 use Rattle.rules.specs.Calls.Offer.{offer}
 use Rattle.rules.specs.Doors.{ids_ok}
 use Rattle.rules.specs.Rule.{done, reopen, revise, replay, Rule, undo, ◌>>=◌, ◌>>◌, book, step, end_turn}
-use Rattle.book.specs.Refusals as refusals
+use Rattle.book.specs.declared.refusal.Refusal.TheVariants as refusals
 
 unfoldable pub mark_each : Book → List ℕ → Rule (Unit {0})
 mark_each b [] = done tt
@@ -34,4 +34,4 @@ collect_rollback_replay_ids is = cond (ids_ok is)
       b ← book
       mark_each b (filter (λ i. elemb i is) (map id_of b.submitted))
       offer_again (filter (λ i. elemb i is) (map id_of b.submitted)))
-    (undo refusals.bad_list)
+    (undo refusals.BadList)

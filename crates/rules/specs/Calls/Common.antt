@@ -5,7 +5,7 @@ use Rattle.book.specs.declared.OptionalAttempt.{OptionalAttempt}
 use Rattle.book.specs.declared.SubmittedTx.{SubmittedTx}
 use Rattle.book.specs.Model.{Book}
 use Rattle.rules.specs.Rule.{done, retire, note, remove, Rule, undo, ◌>>=◌, ◌>>◌, book, step, end_turn}
-use Rattle.book.specs.Refusals as refusals
+use Rattle.book.specs.declared.refusal.Refusal.TheVariants as refusals
 
 -- ---- finding a token
 pub data Found : Type 0 where
@@ -38,7 +38,7 @@ abbrev pub by_live : {A : Type 0} → A → (SubmittedTx → Rule A) → Found �
 by_live inactive k (live s) = k s
 by_live inactive k aside = done inactive
 by_live inactive k gone = done inactive
-by_live inactive k never_issued = undo refusals.unknown_token
+by_live inactive k never_issued = undo refusals.UnknownToken
 
 unfoldable pub with_live : {A : Type 0} → ℕ → A → (SubmittedTx → Rule A) → Rule A
 unfolding find
@@ -63,4 +63,4 @@ withdraw_each (i ∷ is) = do
 -- ---- writing into a lent buffer
 -- refusal 12: "buffer shorter than needed"
 unfoldable pub writing : ℕ → List ℕ → Rule (List ℕ)
-writing room s = cond (leb (length s) room) (done s) (undo refusals.short_buffer)
+writing room s = cond (leb (length s) room) (done s) (undo refusals.ShortBuffer)

@@ -13,7 +13,7 @@ use Rattle.rules.specs.Calls.Common.{with_live}
 use Rattle.rules.specs.Calls.Finalized.{unused_fee, current_final, attached_final}
 use Rattle.rules.specs.Parts.{current_fingerprint, fee_unresolved, validate}
 use Rattle.rules.specs.Rule.{done, attach, revise, finalise, Rule, undo, ◌>>◌, step}
-use Rattle.book.specs.Refusals as refusals
+use Rattle.book.specs.declared.refusal.Refusal.TheVariants as refusals
 
 abbrev pub is_joined : SubmissionFeeSource → Bool
 is_joined NotRequested = false
@@ -41,14 +41,14 @@ finalize_with source j t =
       step (revise (id_of t) (attach j))
       finalize_as (id_of t) (attached_final j t.entry))
     (finalize_as (id_of t) (unused_fee t.slots.active_attempt.attempt.goal t.entry)))
-    (cond (is_not_requested source) (finalize_as (id_of t) (current_final t.slots.active_attempt.attempt.goal t.entry)) (undo refusals.unrequested_fee))
+    (cond (is_not_requested source) (finalize_as (id_of t) (current_final t.slots.active_attempt.attempt.goal t.entry)) (undo refusals.UnrequestedFee))
 
 unfoldable pub finalize_live : SubmissionFeeSource → SpendBundle → SubmittedTx → Rule (Option FinalizedSubmission)
 unfolding validate current_fingerprint finalize_with
 finalize_live source j t =
-    cond t.slots.active_attempt.attempt.finalized_variant_fingerprint.present (undo refusals.already_finalized)
-    (cond (not (validate t.entry)) (undo refusals.invalid_submission)
-    (cond (eqs (current_fingerprint t.entry) t.slots.active_attempt.attempt.drained_variant_fingerprint) (finalize_with source j t) (undo refusals.stale_variant)))
+    cond t.slots.active_attempt.attempt.finalized_variant_fingerprint.present (undo refusals.AlreadyFinalized)
+    (cond (not (validate t.entry)) (undo refusals.InvalidSubmission)
+    (cond (eqs (current_fingerprint t.entry) t.slots.active_attempt.attempt.drained_variant_fingerprint) (finalize_with source j t) (undo refusals.StaleVariant)))
 
 -- the joined bundle is sound; with any other source it is unused, and zero
 unfoldable pub sound_source : SubmissionFeeSource → SpendBundle → Bool
@@ -57,4 +57,4 @@ sound_source source j = cond (is_joined source) (sound_bundle j) (is_zero_bundle
 
 unfoldable pub finalize_attempt : ℕ → SubmissionFeeSource → SpendBundle → Rule (Option FinalizedSubmission)
 unfolding sound_source with_live finalize_live
-finalize_attempt t source j = cond (sound_source source j) (with_live t None (finalize_live source j)) (undo refusals.bad_value)
+finalize_attempt t source j = cond (sound_source source j) (with_live t None (finalize_live source j)) (undo refusals.BadValue)

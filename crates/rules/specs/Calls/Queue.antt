@@ -3,7 +3,7 @@ use Rattle.std.specs.Prelude.{cond}
 use Rattle.book.specs.declared.PendingDelivery.{PendingDelivery}
 use Rattle.book.specs.Sound.{sound_delivery}
 use Rattle.rules.specs.Rule.{enqueue, note, Rule, undo, ◌>>◌, step, end_turn}
-use Rattle.book.specs.Refusals as refusals
+use Rattle.book.specs.declared.refusal.Refusal.TheVariants as refusals
 
 unfoldable pub queue : PendingDelivery → Rule (Unit {0})
 unfolding sound_delivery
@@ -11,4 +11,4 @@ queue d = cond (sound_delivery d)
     (do
       step (note (enqueue d))
       end_turn)
-    (undo refusals.bad_value)
+    (undo refusals.BadValue)

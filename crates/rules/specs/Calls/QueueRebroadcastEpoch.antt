@@ -7,7 +7,7 @@ use Rattle.rules.specs.Calls.Offer.{offer, goal_for}
 use Rattle.rules.specs.Doors.{ids_ok}
 use Rattle.rules.specs.Keyed.{pick}
 use Rattle.rules.specs.Rule.{done, Rule, undo, ◌>>=◌, ◌>>◌, book, end_turn}
-use Rattle.book.specs.Refusals as refusals
+use Rattle.book.specs.declared.refusal.Refusal.TheVariants as refusals
 
 abbrev pub rebroadcast_of : DeliveryTrigger → List SubmittedTx → Rule (Unit {0})
 rebroadcast_of trigger [] = done tt
@@ -24,4 +24,4 @@ rebroadcast trigger (i ∷ is) = do
 
 unfoldable pub queue_rebroadcast_epoch : List ℕ → DeliveryTrigger → Rule (Unit {0})
 unfolding ids_ok rebroadcast
-queue_rebroadcast_epoch is trigger = cond (ids_ok is) (rebroadcast trigger is) (undo refusals.bad_list)
+queue_rebroadcast_epoch is trigger = cond (ids_ok is) (rebroadcast trigger is) (undo refusals.BadList)

@@ -14,7 +14,7 @@ use Rattle.book_coins.specs.Coins.{input_coin_ids, expected_output_coins}
 use Rattle.rules.specs.Doors.{ids_ok, among}
 use Rattle.rules.specs.Parts.{is_landed}
 use Rattle.rules.specs.Rule.{done, terminality, unqueue, retire, unreplay, note, revise, set_aside, Rule, undo, ◌>>=◌, ◌>>◌, book, step, end_turn}
-use Rattle.book.specs.Refusals as refusals
+use Rattle.book.specs.declared.refusal.Refusal.TheVariants as refusals
 
 unfoldable pub output_observed : List (List ℕ) → RetainedIntent → Bool
 unfolding among expected_output_coins
@@ -59,4 +59,4 @@ reconcile_chain_terminality observed spent reorg back = cond (coin_listb observe
     (do
       b ← book
       judge_each (coins_in observed) (ids_in spent) reorg back b.submitted)
-    (undo refusals.bad_list)
+    (undo refusals.BadList)

@@ -11,7 +11,7 @@ use Rattle.rules.specs.CoinLists.{rising_coins, encode_coins}
 use Rattle.rules.specs.Doors.{among}
 use Rattle.rules.specs.Parts.{is_landed}
 use Rattle.rules.specs.Rule.{Rule, undo, ◌>>=◌, book}
-use Rattle.book.specs.Refusals as refusals
+use Rattle.book.specs.declared.refusal.Refusal.TheVariants as refusals
 
 unfoldable pub is_reconciled : List (List ℕ) → SubmittedEntry → Bool
 unfolding among expected_output_coins
@@ -27,4 +27,4 @@ reconciliation_input_coins outputs room = cond (coin_listb outputs)
     (do
       b ← book
       writing room (encode_coins (input_coins_to_reconcile (coins_in outputs) b)))
-    (undo refusals.bad_list)
+    (undo refusals.BadList)

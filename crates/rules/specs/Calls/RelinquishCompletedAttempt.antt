@@ -4,13 +4,13 @@ use Rattle.book_answers.specs.declared.SubmissionAttemptStatus.{SubmissionAttemp
 use Rattle.book_answers.specs.declared.SubmissionAttemptStatus.TheVariants.{Applied, Stale}
 use Rattle.rules.specs.Calls.Common.{Found, live, aside, gone, never_issued, find}
 use Rattle.rules.specs.Rule.{done, Rule, undo, ◌>>=◌, book}
-use Rattle.book.specs.Refusals as refusals
+use Rattle.book.specs.declared.refusal.Refusal.TheVariants as refusals
 
 abbrev pub relinquish_by : Found → Rule SubmissionAttemptStatus
 relinquish_by (live s) = done Stale
 relinquish_by aside = done Applied
 relinquish_by gone = done Stale
-relinquish_by never_issued = undo refusals.unknown_token
+relinquish_by never_issued = undo refusals.UnknownToken
 
 unfoldable pub relinquish_completed_attempt : ℕ → Rule SubmissionAttemptStatus
 unfolding find

@@ -7,7 +7,7 @@ use Rattle.book.specs.Sound.{id_of}
 use Rattle.rules.specs.Calls.Common.{withdraw_each}
 use Rattle.rules.specs.Doors.{ids_ok}
 use Rattle.rules.specs.Rule.{done, Rule, undo, ◌>>=◌, ◌>>◌, book}
-use Rattle.book.specs.Refusals as refusals
+use Rattle.book.specs.declared.refusal.Refusal.TheVariants as refusals
 
 unfoldable pub to_remove : List ℕ → Book → List ℕ
 to_remove is b = rising (filter (λ i. elemb i is) (map id_of b.submitted))
@@ -19,4 +19,4 @@ retain_submitted is = cond (ids_ok is)
       b ← book
       withdraw_each (to_remove is b)
       done (to_remove is b))
-    (undo refusals.bad_list)
+    (undo refusals.BadList)

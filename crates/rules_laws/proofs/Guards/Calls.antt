@@ -19,6 +19,7 @@ use Rattle.rules_laws.specs.StepRule.Free.{undoes}
 use Rattle.rules_laws.specs.StepRule.Calls.{Numbered}
 use Rattle.rules_laws.proofs.StepRule.Calls.{numbered_call}
 use Rattle.book.specs.Refusals as refusals
+use Rattle.book.specs.Refusals.{refusal_number}
 use Rattle.rules_laws.specs.Guards.Calls.{Ends, all_taken}
 
 -- on a sound book every call comes to the same with steps that take whatever they are handed: the guards never turn anything away
@@ -35,5 +36,5 @@ refused_last encode c b h q =
   where
     go : (k : Outcome Book Value) → Leaves SoundLists Taken AtLast k → Numbered undoes k → answered k ≡ refused refusals.no_token → (left b k).next_token.0 ≡ last64
     go (ended d xs v) l n e = absurd (let z : ◌≡◌ {A = ℕ} 0 1 = cc in omega arith)
-    go (undone m) l n e = absurd (let z : m ≡ refusals.no_token = cc in true≢false (sym n ∙ ap undoes z))
+    go (undone m) l n e = absurd (let z : refusal_number m ≡ refusals.no_token = cc in true≢false (sym n ∙ ap undoes z))
     go (stopped d xs m) l n e = l.1

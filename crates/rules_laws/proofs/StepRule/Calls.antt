@@ -18,6 +18,7 @@ use Rattle.rules_laws.specs.Sound.Run.{SoundBook}
 use Rattle.rules_laws.specs.StepRule.Free.{run_free, books_after, is_refusal, undoes, turns_away, PacedTo, Settled}
 use Rattle.rules_laws.proofs.StepRule.Paced.{step_rule}
 use Rattle.book.specs.Refusals as refusals
+use Rattle.book.specs.Refusals.{refusal_number}
 use Rattle.rules_laws.specs.StepRule.Calls.{paced, Numbered, refused_by}
 
 -- "A call is refused as full exactly if, after some step of the unlimited rules, retained, queue or retirements exceed their limit":
@@ -49,7 +50,7 @@ never_ten n h = go (eqb n refusals.full) refl
 numbered : {A : Type 0} (P : Bool → A → Type 0) (g : Bool) (r : Rule A) (b : Book) → PacedTo P g r → Numbered undoes (run_book r b)
 unfolding run
 numbered P g (done a) b p = tt
-numbered P g (undo n) b p = (and_split (undoes n) (not (eqb n refusals.full)) p.1).0
+numbered P g (undo n) b p = (and_split (undoes (refusal_number n)) (not (eqb (refusal_number n) refusals.full)) p.1).0
 numbered P g (stop n) b p = p
 numbered P g (look k) b p = numbered P g (k b) b (p b)
 numbered P g (act q r) b p =
@@ -83,7 +84,7 @@ refused_full encode c b s = ap (λ (k : Outcome Book Value). refused_by refusals
     go : (t : Bool) (k : Outcome Book Value) → Numbered turns_away k → refused_by refusals.full (answered (guarded t k)) ≡ t
     go true k h = refl
     go false (ended b' xs v) h = refl
-    go false (undone n) h = never_ten n h
+    go false (undone n) h = never_ten (refusal_number n) h
     go false (stopped b' xs n) h = ap (λ (m : ℕ). eqb m refusals.full) h
 
 -- behind the door for 1 a call is refused by a number from 2 to 12 or not at all
@@ -93,8 +94,8 @@ refused_by_lem encode c b n e = go (run_book (rules encode c) b) (numbered_call 
   where
     go : (k : Outcome Book Value) → Numbered undoes k → answered k ≡ refused n → is_refusal n ≡ true
     go (ended b' xs v) h q = absurd (let z : ◌≡◌ {A = ℕ} 0 1 = cc in omega arith)
-    go (undone m) h q = let z : m ≡ n = cc in (and_split (is_refusal n) (not (eqb n refusals.no_token)) (rw z at h)).0
-    go (stopped b' xs m) h q = let z : m ≡ n = cc in ap is_refusal (sym z ∙ h)
+    go (undone m) h q = let z : refusal_number m ≡ n = cc in (and_split (is_refusal n) (not (eqb n refusals.no_token)) (rw z at h)).0
+    go (stopped b' xs m) h q = let z : refusal_number m ≡ n = cc in ap is_refusal (sym z ∙ h)
 
 -- "All leave book and buffers unchanged, but 11"
 pub refused_leaves : (encode : Book → List ℕ) (c : Call) (b : Book) (n : ℕ) → answer_book encode c b ≡ refused n → eqb n refusals.no_token ≡ false → call_book encode c b ≡ b
@@ -104,4 +105,4 @@ refused_leaves encode c b n e m = go (run_book (rules encode c) b) (numbered_cal
     go : (k : Outcome Book Value) → Numbered undoes k → answered k ≡ refused n → left b k ≡ b
     go (ended b' xs v) h q = absurd (let z : ◌≡◌ {A = ℕ} 0 1 = cc in omega arith)
     go (undone l) h q = refl
-    go (stopped b' xs l) h q = let z : l ≡ n = cc in absurd (true≢false (sym (ap (λ (x : ℕ). eqb x refusals.no_token) (sym z ∙ h)) ∙ m))
+    go (stopped b' xs l) h q = let z : refusal_number l ≡ n = cc in absurd (true≢false (sym (ap (λ (x : ℕ). eqb x refusals.no_token) (sym z ∙ h)) ∙ m))

@@ -2,6 +2,7 @@
 use Rattle.std.specs.Prelude.{ℕ, Bool, true, [], ◌∷◌, ◌++◌, map, ◌≡◌}
 use Rattle.book.specs.declared.SubmittedEntry.{SubmittedEntry}
 use Rattle.book.specs.Model.{Book}
+use Rattle.book.specs.declared.refusal.Refusal.{Refusal}
 use Rattle.book.specs.Sound.{sound_bundle, sound_delivery, id_of}
 use Rattle.book.specs.SoundLaws.{SoundLists}
 use Rattle.rules.specs.Calls.Plan.{last64}
@@ -80,7 +81,7 @@ run_bare = run (λ b. b) bare_step
 abbrev pub Taken : Step → Book → Type 0
 Taken p b = takes p b ≡ true
 
-abbrev pub AtLast : ℕ → Book → Type 0
+abbrev pub AtLast : Refusal → Book → Type 0
 AtLast n b = b.next_token.0 ≡ last64
 
 abbrev pub TakenTo : {A : Type 0} → (A → Type 0) → Book → Rule A → Type 0

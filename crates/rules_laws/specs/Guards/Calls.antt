@@ -72,7 +72,7 @@ use Rattle.rules.specs.Calls.Summary.{summary}
 use Rattle.rules.specs.Calls.WriteArchive.{write_archive}
 use Rattle.rules_laws.specs.Held.{Then, held_bind, held_map, held_cond}
 use Rattle.rules_laws.specs.Guards.Bare.{Taken, AtLast, TakenTo}
-use Rattle.book.specs.Refusals as refusals
+use Rattle.book.specs.declared.refusal.Refusal.TheVariants as refusals
 
 -- no demand where the rules end
 abbrev pub Ends : {A : Type 0} → A → Type 0
@@ -130,7 +130,7 @@ taken_live t v k h b s = taken_by_live v k b (λ u. h u b s) (find t b)
 
 taken_writing : (room : ℕ) (s : List ℕ) → AllTaken (writing room s)
 unfolding writing
-taken_writing room s b k = taken_cond Ends b (leb (length s) room) (done s) (undo refusals.short_buffer) (λ e. tt) (λ e. tt)
+taken_writing room s b k = taken_cond Ends b (leb (length s) room) (done s) (undo refusals.ShortBuffer) (λ e. tt) (λ e. tt)
 
 -- ---- queue
 taken_queue : (d : PendingDelivery) → AllTaken (queue d)

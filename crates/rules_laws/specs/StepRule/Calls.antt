@@ -65,6 +65,7 @@ use Rattle.rules.specs.Calls.Summary.{summary}
 use Rattle.rules.specs.Calls.WriteArchive.{write_archive}
 use Rattle.rules_laws.specs.StepRule.Free.{PacedTo, Settled}
 use Rattle.book.specs.Refusals as refusals
+use Rattle.book.specs.Refusals.{refusal_number}
 
 no_shrink : (g : Bool) → (g && false) ≡ false
 no_shrink true = refl
@@ -359,8 +360,8 @@ paced encode (Call.WriteArchive room) = paced_map written (write_archive encode 
 -- turned away by a number that `ok` allows, or stopped by 11, or neither
 abbrev pub Numbered : {A : Type 0} → (ℕ → Bool) → Outcome Book A → Type 0
 Numbered ok (ended b xs a) = Unit {0}
-Numbered ok (undone n) = ok n ≡ true
-Numbered ok (stopped b xs n) = n ≡ refusals.no_token
+Numbered ok (undone n) = ok (refusal_number n) ≡ true
+Numbered ok (stopped b xs n) = refusal_number n ≡ refusals.no_token
 
 abbrev pub refused_by : {A : Type 0} → ℕ → Answer A → Bool
 refused_by n (answer xs a) = false

@@ -4,6 +4,7 @@ use Rattle.book.specs.Model.{Book}
 use Rattle.rules.specs.Rule.{done, Note, enqueue, unqueue, retire, unreplay, unqueue_all, unretire_all, begin_epoch, end_epoch, Step, note, revise, retain, emit, remove, set_aside, finalise, replay, Rule, undo, stop, look, act, turn, Outcome, ended, undone, stopped, logged, grows}
 use Rattle.rules.specs.Steps.{on_book}
 use Rattle.book.specs.Refusals as refusals
+use Rattle.book.specs.Refusals.{refusal_number}
 
 unfoldable pub run_free : {A : Type 0} → Rule A → Book → Outcome Book A
 unfolding on_book
@@ -61,8 +62,8 @@ turns_away n = undoes n && not (eqb n refusals.full)
 -- whether a list has grown since the last such end. They say none but the paper's numbers, and never 10
 abbrev pub PacedTo : {A : Type 0} → (Bool → A → Type 0) → Bool → Rule A → Type 0
 PacedTo P g (done a) = P g a
-PacedTo P g (undo n) = (g ≡ false) × (turns_away n ≡ true)
-PacedTo P g (stop n) = n ≡ refusals.no_token
+PacedTo P g (undo n) = (g ≡ false) × (turns_away (refusal_number n) ≡ true)
+PacedTo P g (stop n) = refusal_number n ≡ refusals.no_token
 PacedTo P g (look k) = (b : Book) → PacedTo P g (k b)
 PacedTo P g (act p r) = ((g && shrinks p) ≡ false) × PacedTo P (g || grows p) r
 PacedTo P g (turn r) = PacedTo P false r

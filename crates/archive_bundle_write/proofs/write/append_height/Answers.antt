@@ -1,10 +1,9 @@
--- Each item follows the one before it (`fits_join`).
-use Rattle.codec_append.specs.Fits.{fits_join, fits_as}
-use Rattle.archive_bundle_write.specs.Laws.{height_no, height_at}
+use Rattle.std.proofs.Common.{rules}
+use Rattle.codec_append.specs.Fits.{fits_number_of}
+use Rattle.book.specs.declared.Height.{Height}
+use Rattle.archive_bundle_form.specs.Forms.{encode_height}
 use Rattle.archive_bundle_write.proofs.write.append_height.Goals as goal
 
-pub returns-in-None : goal.returns-in-None
-returns-in-None c = fits_as (height_no c.args.h c.in-None.is) c.append_byte.ensures
-
-pub returns-in-Some : goal.returns-in-Some
-returns-in-Some c = fits_as (height_at c.args.h _ c.in-Some.is) (fits_join c.append_byte-e.ensures c.append_number.ensures)
+pub returns : goal.returns
+unfolding encode_height
+returns c = fits_number_of (λ (h : Height). h.0) c.args.h (search rules) c.append_optional_number.ensures

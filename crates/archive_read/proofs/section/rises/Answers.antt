@@ -6,4 +6,4 @@ use Rattle.archive_read.proofs.section.rises.Goals as goal
 pub returns-in-Some : goal.returns-in-Some
 returns-in-Some c =
     let last = c.in-Some.ensures.item.3 in
-    ap (λ (n : ℕ). ltb n c.args.x.0) (last.1 0) ∙ above_is c.args.earlier.now c.args.x.0 (λ e. omega (arith, last.0))
+    ap (λ (n : ℕ). ltb n c.args.x) (last.1 0) ∙ above_is c.args.earlier.now c.args.x (λ e. omega (arith, last.0))

@@ -1,15 +1,12 @@
--- The door's number tells which: the refusal by it, or what the call for a sound book answers.
-use mathlib.Core.Path.{sym, ap, ◌∙◌}
-use Rattle.submission.specs.Answers.{done_from, done_given}
-use Rattle.part_door.specs.Door.{open_sound}
-use Rattle.submission.specs.Door.{refused, passed}
+-- By the door's answer: what the call for a sound book answers, or the refusal.
+use Rattle.std.proofs.Common.{ap, ◌∙◌}
+use Rattle.part_replies.specs.Reply.{reply}
+use Rattle.submission.specs.Answers.{with_book}
+use Rattle.submission.specs.Door.{opened, shut}
 use Rattle.submission.proofs.SubmissionBook.restore_runtime.Goals as goal
 
-pub returns-then-refusal-ne0 : goal.returns-then-refusal-ne0
-returns-then-refusal-ne0 c = refused c.args.self _ c.door-refusal.ensures (done_given c.args.self) c.if-refusal-ne0.true c.done_refused.ensures
+pub returns-in-Ok : goal.returns-in-Ok
+returns-in-Ok c = opened c.args.self.parts _ (λ b o. with_book (reply b o)) c.door.ensures c.in-Ok.is (c.answered.ensures ∙ ap with_book c.restore_runtime_sound.ensures)
 
-pub restore_runtime_sound-r-requires : goal.restore_runtime_sound-r-requires
-restore_runtime_sound-r-requires c = open_sound c.args.self.parts (sym c.door-refusal.ensures ∙ c.if-refusal-ne0.false)
-
-pub returns : goal.returns
-returns c = passed c.args.self _ c.door-refusal.ensures (done_given c.args.self) c.if-refusal-ne0.false (c.done_answer.ensures ∙ ap done_from c.restore_runtime_sound-r.ensures)
+pub returns-in-Err : goal.returns-in-Err
+returns-in-Err c = shut c.args.self.parts _ (λ b o. with_book (reply b o)) c.door.ensures c.in-Err.is (c.answered-in-Err.ensures ∙ ap with_book c.refused.ensures)

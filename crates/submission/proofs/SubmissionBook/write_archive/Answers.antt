@@ -1,15 +1,20 @@
--- The door's number tells which: the refusal by it, or what the call for a sound book answers.
-use mathlib.Core.Path.{sym, ap, ◌∙◌}
-use Rattle.submission.specs.Answers.{written_from}
-use Rattle.part_door.specs.Door.{open_sound}
-use Rattle.submission.specs.Door.{written_refused, written_passed}
+-- By the door's answer: what the call for a sound book answers, or the refusal.
+use Rattle.std.proofs.Common.{ap, ◌∙◌, refl}
+use Rattle.part_replies.specs.Reply.{written_reply, buffer_left}
+use Rattle.codec_forms.specs.Wire.{overlay}
+use Rattle.submission.specs.Answers.{with_book}
+use Rattle.submission.specs.Door.{opened, shut}
 use Rattle.submission.proofs.SubmissionBook.write_archive.Goals as goal
 
-pub returns-then-refusal-ne0 : goal.returns-then-refusal-ne0
-returns-then-refusal-ne0 c = written_refused c.args.self _ c.door-refusal.ensures c.args.out.now c.if-refusal-ne0.true c.written_refused.ensures
+pub returns-in-Ok : goal.returns-in-Ok
+returns-in-Ok c = (
+  opened c.args.self.parts _ (λ b o. with_book (written_reply b o)) c.door.ensures c.in-Ok.is (c.answered.ensures ∙ ap with_book c.write_archive_sound.ensures.0),
+  opened c.args.self.parts _ (λ b o. buffer_left c.args.out.now o) c.door.ensures c.in-Ok.is c.write_archive_sound.ensures.1,
+)
 
-pub write_archive_sound-r-requires : goal.write_archive_sound-r-requires
-write_archive_sound-r-requires c = open_sound c.args.self.parts (sym c.door-refusal.ensures ∙ c.if-refusal-ne0.false)
-
-pub returns : goal.returns
-returns c = written_passed c.args.self _ c.door-refusal.ensures c.args.out.now c.if-refusal-ne0.false (c.written_answer.ensures ∙ ap written_from c.write_archive_sound-r.ensures.0) c.write_archive_sound-r.ensures.1
+pub returns-in-Err : goal.returns-in-Err
+unfolding overlay
+returns-in-Err c = (
+  shut c.args.self.parts _ (λ b o. with_book (written_reply b o)) c.door.ensures c.in-Err.is (c.answered-in-Err.ensures ∙ ap with_book c.refused.ensures),
+  shut c.args.self.parts _ (λ b o. buffer_left c.args.out.now o) c.door.ensures c.in-Err.is refl,
+)

@@ -2,8 +2,5 @@
 use Prim.Native.Nat.{◌-◌}
 use Rattle.tool_archive_items.proofs.order.item_at.Given as goal
 
-abbrev pub invariant-loop-at : goal.invariant-loop-at
-invariant-loop-at l = Unit {0}
-
 abbrev pub decreases-loop-at : goal.decreases-loop-at
 decreases-loop-at l = l.place - l.at

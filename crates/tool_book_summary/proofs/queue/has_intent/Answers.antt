@@ -5,5 +5,5 @@ use Rattle.tool_book_summary.proofs.queue.has_intent.Goals as goal
 
 pub returns : goal.returns
 returns c =
-    let e : c.eq.result ≡ eqs c.args.e.intent.intent_fingerprint c.intent_of.result = search rules in
+    let e : c.eq.result ≡ eqs c.args.e.now.intent.intent_fingerprint c.intent_of.result = search rules in
     rw (e, c.intent_of.ensures)

@@ -1,4 +1,4 @@
--- Label, number and the line of the total follow one another (`fits_join`), and i below 16 keeps i + 1 in range.
+-- Label, number and the line of the total follow one another (`fits_join`).
 use Rattle.codec_append.specs.Fits.{fits_join}
 use Rattle.tool_book_text.specs.Entries.{heading_text}
 use Rattle.tool_book_text.proofs.entry.append_heading.Goals as goal

@@ -1,14 +1,14 @@
--- By the mark: an absent attempt is the label with the word none behind it, a present one what `append_attempt` promises.
+-- By the mark: what `append_attempt` promises, or the label with the word none behind it.
 use Rattle.codec_append.specs.Fits.{fits_join, fits_as}
-use Rattle.tool_book_text.specs.Entries.{attempt_text, slot_text, slot_no, slot_yes}
+use Rattle.std.proofs.Common.{sym}
+use Rattle.std.proofs.lemmas.Bool.{cond-true, cond-false}
+use Rattle.tool_book_text.specs.Entries.{slot_text}
 use Rattle.tool_book_text.proofs.entry.append_slot.Goals as goal
 
-pub returns-then-not-present : goal.returns-then-not-present
+pub returns-then-s : goal.returns-then-s
 unfolding slot_text
-returns-then-not-present c =
-    fits_as (slot_no c.args.s.present c.args.label.now (attempt_text c.args.label.now c.args.f c.args.s.attempt) c.if-not-present.true-raw)
-    (fits_join c.append_bytes-label_end.ensures c.append_bytes.ensures)
+returns-then-s c = fits_as (sym (cond-true _ _ _ c.if-s.true)) c.append_attempt.ensures
 
-pub returns : goal.returns
+pub returns-else-s : goal.returns-else-s
 unfolding slot_text
-returns c = fits_as (slot_yes c.args.s.present c.args.label.now (attempt_text c.args.label.now c.args.f c.args.s.attempt) c.if-not-present.false-raw) c.append_attempt.ensures
+returns-else-s c = fits_as (sym (cond-false _ _ _ c.if-s.false)) (fits_join c.append_bytes-label_end.ensures c.append_bytes.ensures)

@@ -9,5 +9,5 @@ pub returns : goal.returns
 unfolding submission_text
 returns c =
     fits_join (fits_join (fits_join c.append_heading-heading_end.ensures c.append_number_line-id_end.ensures)
-    (fits_as (ap (λ (f : Fingerprints). slots_text f c.args.t.slots) c.fingerprints_of-f.ensures) c.append_slots-slots_end.ensures))
-    (fits_as (ap (λ (f : Fingerprints). entry_text f c.args.t.entry) c.fingerprints_of-f.ensures) c.append_entry.ensures)
+    (fits_as (ap (λ (f : Fingerprints). slots_text f c.args.t.now.slots) c.fingerprints_of-f.ensures) c.append_slots-slots_end.ensures))
+    (fits_as (ap (λ (f : Fingerprints). entry_text f c.args.t.now.entry) c.fingerprints_of-f.ensures) c.append_entry.ensures)

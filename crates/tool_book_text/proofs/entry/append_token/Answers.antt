@@ -1,17 +1,16 @@
--- By the mark: an absent token appends nothing (`fits_none`), a present one a word, its number and the line of its fate.
+-- By the mark: a word, the token's number and the line of its fate, or nothing (`fits_none`).
 use Rattle.codec_append.specs.Fits.{fits_join, fits_as, fits_none}
-use Rattle.tool_book_text.specs.Entries.{token_text, token_no, token_yes}
-use Rattle.tool_text.specs.Ascii.{ascii}
-use Rattle.tool_text.specs.Numbers.{decimal, number_line}
-use mathlib.Core.List.{◌++◌}
+use Rattle.std.proofs.Common.{sym}
+use Rattle.std.proofs.lemmas.Bool.{cond-true, cond-false}
+use Rattle.tool_book_text.specs.Entries.{token_text}
 use Rattle.tool_book_text.proofs.entry.append_token.Goals as goal
 
-pub returns-then-not-present : goal.returns-then-not-present
+pub returns-then-s : goal.returns-then-s
 unfolding token_text
-returns-then-not-present c = fits_as (token_no c.args.s.present (ascii "  token " ++ decimal c.args.s.attempt.token.0 ++ number_line c.args.fate.now c.args.id) c.if-not-present.true-raw) (fits_none _ _)
-
-pub returns : goal.returns
-unfolding token_text
-returns c =
-    fits_as (token_yes c.args.s.present (ascii "  token " ++ decimal c.args.s.attempt.token.0 ++ number_line c.args.fate.now c.args.id) c.if-not-present.false-raw)
+returns-then-s c =
+    fits_as (sym (cond-true _ _ _ c.if-s.true))
     (fits_join (fits_join c.append_bytes-word_end.ensures c.append_decimal-token_end.ensures) c.append_number_line.ensures)
+
+pub returns-else-s : goal.returns-else-s
+unfolding token_text
+returns-else-s c = fits_as (sym (cond-false _ _ _ c.if-s.false)) (fits_none _ _)

@@ -6,4 +6,4 @@ use Rattle.std.proofs.Common.{take}
 use Rattle.tool_bundle_text.proofs.bundle.append_spends.Given as goal
 
 abbrev pub invariant-loop-i : goal.invariant-loop-i
-invariant-loop-i l = Fits (each_from spend_text 0 (take l.i l.s-items)) l.at l.initial.out l.out l.e
+invariant-loop-i l = Fits (each_from spend_text 0 (take l.i l.a)) l.at l.initial.out l.out l.e

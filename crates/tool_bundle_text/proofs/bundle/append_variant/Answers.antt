@@ -1,21 +1,16 @@
--- By the mark: one line where there is no fee bundle, else the bundle, its fee and the sentence.
+-- By the mark: the bundle, its fee and the sentence, or one line where there is no fee bundle.
 use Rattle.codec_append.specs.Fits.{fits_join, fits_as}
-use Rattle.tool_bundle_text.specs.Bundles.{bundle_text, variant_text, variant_no, variant_yes}
-use Rattle.tool_text.specs.Numbers.{number_line}
-use Rattle.tool_text.specs.Ascii.{ascii}
-use mathlib.Core.List.{◌++◌}
+use Rattle.std.proofs.Common.{sym}
+use Rattle.std.proofs.lemmas.Bool.{cond-true, cond-false}
+use Rattle.tool_bundle_text.specs.Bundles.{variant_text}
 use Rattle.tool_bundle_text.proofs.bundle.append_variant.Goals as goal
 
-pub returns-then-not-fee_bearing : goal.returns-then-not-fee_bearing
+pub returns-then-v : goal.returns-then-v
 unfolding variant_text
-returns-then-not-fee_bearing c =
-    fits_as (variant_no c.args.v.fee_bearing
-    (bundle_text (ascii "  fee bundle, spends: ") c.args.v.bundle ++ number_line (ascii "  applied fee: ") c.args.v.applied_fee ++ ascii "  the fee bundle above is to be delivered\n") c.if-not-fee_bearing.true-raw)
-    c.append_bytes.ensures
+returns-then-v c =
+    fits_as (sym (cond-true _ _ _ c.if-v.true))
+    (fits_join (fits_join c.append_bundle-bundle_end.ensures c.append_number_line-fee_end.ensures) c.append_bytes.ensures)
 
-pub returns : goal.returns
+pub returns-else-v : goal.returns-else-v
 unfolding variant_text
-returns c =
-    fits_as (variant_yes c.args.v.fee_bearing
-    (bundle_text (ascii "  fee bundle, spends: ") c.args.v.bundle ++ number_line (ascii "  applied fee: ") c.args.v.applied_fee ++ ascii "  the fee bundle above is to be delivered\n") c.if-not-fee_bearing.false-raw)
-    (fits_join (fits_join c.append_bundle-bundle_end.ensures c.append_number_line-fee_end.ensures) c.append_bytes-2.ensures)
+returns-else-v c = fits_as (sym (cond-false _ _ _ c.if-v.false)) c.append_bytes-else-v.ensures

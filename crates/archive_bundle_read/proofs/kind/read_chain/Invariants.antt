@@ -1,0 +1,5 @@
+use Rattle.archive_form.specs.Parse.{chain_of}
+use Rattle.archive_bundle_read.proofs.kind.read_chain.Given as goal
+
+abbrev pub ghost-read_kind : goal.ghost-read_kind
+ghost-read_kind a = chain_of

@@ -1,0 +1,5 @@
+use Rattle.book.specs.Zero.{is_zero_output}
+use Rattle.book.proofs.zero.zero_outputs.Given as goal
+
+abbrev pub ghost-passes_from : goal.ghost-passes_from
+ghost-passes_from a = is_zero_output

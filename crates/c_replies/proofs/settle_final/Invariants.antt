@@ -1,0 +1,5 @@
+use Rattle.codec_answers.specs.Forms.{enc_option, encode_final}
+use Rattle.c_replies.proofs.settle_final.Given as goal
+
+abbrev pub ghost-settle : goal.ghost-settle
+ghost-settle c = enc_option encode_final

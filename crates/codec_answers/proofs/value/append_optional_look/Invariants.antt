@@ -1,0 +1,5 @@
+use Rattle.codec_answers.specs.Forms.{encode_look}
+use Rattle.codec_answers.proofs.value.append_optional_look.Given as goal
+
+abbrev pub ghost-append_option : goal.ghost-append_option
+ghost-append_option c = (encode_look, 38)
