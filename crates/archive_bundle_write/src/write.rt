@@ -10,7 +10,7 @@ use crate::each::{append_each, append_list};
 use book::{CoinSpend, FeeIntentKind, Height, Output, SpendBundle, SubmissionFeeIntent};
 use codec_append::{append_byte, append_bytes, append_number, append_optional_number};
 
-fn append_output(out: &mut [u8], at: usize, o: &Output) -> usize
+pub fn append_output(out: &mut [u8], at: usize, o: &Output) -> usize
     ensures { Fits (encode_output o.now) at out.old out.new result }
 {
     let e = append_bytes(&mut *out, at, &o.puzzle_hash);
@@ -45,7 +45,7 @@ fn append_coin(out: &mut [u8], at: usize, coin: &[u8; 73], n: u8) -> usize
     append_bytes(out, e, &coin[..k])
 }
 
-fn append_spend(out: &mut [u8], at: usize, s: &CoinSpend) -> usize
+pub fn append_spend(out: &mut [u8], at: usize, s: &CoinSpend) -> usize
     ensures { Fits (encode_spend s.now) at out.old out.new result }
 {
     let a = append_coin(&mut *out, at, &s.coin, s.coin_len);

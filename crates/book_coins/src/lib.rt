@@ -47,7 +47,7 @@ pub fn input_coin_ids(b: SpendBundle) -> [[u8; 32]; 4]
 }
 
 // The coin of output j, whose parent is the spent coin's id.
-fn output_coin(s: CoinSpend, parent: [u8; 32], j: usize) -> CoinString
+pub fn output_coin(s: CoinSpend, parent: [u8; 32], j: usize) -> CoinString
     requires { j < 4 }
     ensures { FromParts parent (output_at s j).puzzle_hash (output_at s j).amount result }
 {

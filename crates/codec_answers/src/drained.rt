@@ -61,7 +61,7 @@ fn append_first<T, F: Fn(&mut [u8], usize, &T) -> usize>(
 }
 
 // One call, as `append_failures` is: each names the writer of its parts, and its contract their form.
-fn append_submissions(out: &mut [u8], at: usize, a: &[DrainedSubmission; 16], n: usize) -> usize
+pub fn append_submissions(out: &mut [u8], at: usize, a: &[DrainedSubmission; 16], n: usize) -> usize
     ensures { FitsWithin 18385 (encode_submissions n a.now) at out.old out.new result }
 {
     append_first(out, at, a, n, append_drained)
@@ -80,7 +80,12 @@ fn append_drain_failure(out: &mut [u8], at: usize, f: &SubmissionDrainFailure) -
     append_byte(out, fingerprint_end, stage as u8)
 }
 
-fn append_failures(out: &mut [u8], at: usize, a: &[SubmissionDrainFailure; 16], n: usize) -> usize
+pub fn append_failures(
+    out: &mut [u8],
+    at: usize,
+    a: &[SubmissionDrainFailure; 16],
+    n: usize,
+) -> usize
     ensures { FitsWithin 945 (encode_failures n a.now) at out.old out.new result }
 {
     append_first(out, at, a, n, append_drain_failure)

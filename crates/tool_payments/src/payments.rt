@@ -41,7 +41,7 @@ fn undecided_state(t: &SubmittedTx, queued: bool) -> PaymentState
 }
 
 #[tactic(auto, unfolding(crate::specs::Payments::state_of))]
-fn state_of(t: &SubmittedTx, queued: bool) -> PaymentState
+pub fn state_of(t: &SubmittedTx, queued: bool) -> PaymentState
     ensures { result ≡ state_of queued t.now }
 {
     let entry = t.entry;
@@ -55,7 +55,7 @@ fn state_of(t: &SubmittedTx, queued: bool) -> PaymentState
 
 // A fee bundle has its fee applied; without one the fee is still asked for, or there is none.
 #[tactic(auto, unfolding(crate::specs::Payments::fee_of))]
-fn fee_of(e: SubmittedEntry) -> PaymentFee
+pub fn fee_of(e: SubmittedEntry) -> PaymentFee
     ensures { result ≡ fee_of e }
 {
     if e.state.current_variant.fee_bearing {
