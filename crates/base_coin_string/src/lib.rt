@@ -102,6 +102,14 @@ fn part(s: &[u8], from: usize, to: usize) -> &[u8]
     s.get(from..to.min(s.len())).unwrap_or(&[])
 }
 
+// The first 73 bytes of a slice in a cell.
+pub fn from_bytes(s: &[u8]) -> CoinString
+    ensures { result ≡ cell_of (take 73 s.now) }
+{
+    let n = s.len().min(73);
+    push_all(empty(), &s[..n])
+}
+
 // How many coins a list says it has.
 pub fn list_count(s: &[u8]) -> usize
     ensures { result ≡ count_of s.now }
