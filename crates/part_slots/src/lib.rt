@@ -3,6 +3,7 @@
 
 ghost use Rattle.std.specs.Prelude.{◌≡◌};
 ghost use Rattle.rules.specs.Steps.Slots.{present, issue_attempt, taken as taken_of, slots_issued, slots_aside, slots_final, resolved, relationship_to};
+ghost use Rattle.rules.specs.Calls.Common.{has_token};
 
 use book::{
     AttemptSlots, DeliveryAttempt, OptionalAttempt, OptionalHash, SubmissionDeliveryGoal, Token,
@@ -137,6 +138,13 @@ pub fn relationship(
         };
     }
     SubmissionAttemptRelationship::Initial
+}
+
+// The slot has an attempt, and the token is its own.
+pub fn holds_token(a: OptionalAttempt, t: Token) -> bool
+    ensures { result ≡ has_token t.0 a }
+{
+    a.present && a.attempt.token == t
 }
 
 // The same as `stopped`, of the slots behind a borrow: these two slots and nothing else.
