@@ -20,11 +20,11 @@ use Rattle.book.specs.declared.Height.{Height}
 use Rattle.book.specs.declared.Ids.{Ids}
 use Rattle.archive_bundle_form.specs.Forms.{encode_height}
 use Rattle.archive_form.specs.Encode.{encode_submitted, encode_delivery}
-use Rattle.archive_form.specs.Parse.{Numbers, parse_numbers, parse_retired, parse_height, parse_replayed, parse_model, parse_whole, read_archive, archive_read, book}
+use Rattle.archive_form.specs.Parse.{Numbers, parse_numbers, parse_retired, parse_height, parse_replayed, parse_model, parse_whole, read_archive, archive_read, book, broken}
 use Rattle.archive_laws.specs.Entries.{GoodSubmitted, submitted_lawful}
 use Rattle.archive_laws.specs.Parts.{height_lawful}
 use Rattle.archive_laws.specs.Books.{enc_numbers, numbers_lawful, queue_lawful, GoodRetired, retired_lawful}
-use Rattle.archive_read.specs.Archive.{archive_answer}
+use Rattle.archive_read.specs.Archive.{archive_answer, zero_book}
 use Rattle.archive_read.specs.declared.ReadArchive.{ReadArchive}
 use Rattle.archive_walk.specs.declared.Walk.{Walk}
 use Rattle.archive_walk.specs.Skips.{reads_before}
@@ -165,9 +165,14 @@ pub record AgreesBook (w : Walk) (r : ReadArchive) : Type 0 where
   pub submitted : w.submitted_count ≡ r.book.submitted_count
   pub pending : w.pending_count ≡ r.book.pending_count
 
+-- the walk of a refusal has no numbers and counts, and the reader's are 0
 pub record AgreesPlace (e : ℕ) (r : ReadArchive) : Type 0 where
   pub ok : false ≡ r.ok
   pub place : e ≡ r.place
+  pub token : record { 0 = 0 } ≡ r.book.next_delivery_attempt_token
+  pub id : record { 0 = 0 } ≡ r.book.next_submission_id
+  pub submitted : 0 ≡ r.book.submitted_count
+  pub pending : 0 ≡ r.book.pending_count
 
 abbrev pub Agrees : Result Walk ℕ → ReadArchive → Type 0
 Agrees (Ok w) r = AgreesBook w r
@@ -177,10 +182,14 @@ of_book : (m : Book) → AgreesBook (walk_of m) (archive_answer (book (back m)))
 unfolding back
 of_book m = record { ok = refl; place = refl; token = refl; id = refl; submitted = refl; pending = refl }
 
+of_none : (e : ℕ) → AgreesPlace e (archive_answer (broken e))
+unfolding zero_book back
+of_none e = record { ok = refl; place = refl; token = refl; id = refl; submitted = refl; pending = refl }
+
 pub walk_agrees : (s : List ℕ) → Agrees (walked (parse_whole s 0)) (archive_answer (read_archive s))
 unfolding read_archive
 walk_agrees s = go (parse_whole s 0)
   where
     go : (x : Ans Book) → Agrees (walked x) (archive_answer (archive_read x))
     go (got m e) = of_book m
-    go (bad e) = record { ok = refl; place = refl }
+    go (bad e) = of_none e
