@@ -38,9 +38,15 @@ module _ (i : ℕ) (m : Book) (f : Fits m) where
     unfolding retiring
     turned = refused_when refusals.Full _ over (sym e)
 
+    pub retire_over : full (note_book (retire i) m) ≡ true
+    retire_over = full_retire m f i ∙ turned.0
+
+    pub retire_refused : n ≡ refusals.Full
+    retire_refused = turned.1
+
     pub run_full : {A : Type 0} (r : Rule A) → run_book (act (note (retire i)) r) m ≡ undone n
     unfolding on_book
-    run_full r = act_full (note (retire i)) r m (full_retire m f i ∙ turned.0) ∙ ap undone (sym turned.1)
+    run_full r = act_full (note (retire i)) r m retire_over ∙ ap undone (sym retire_refused)
 
   module _ {q : BookData} (e : Ok q ≡ retiring i m) where
     kept : (over ≡ false) × (q ≡ back (note_book (retire i) m))
