@@ -14,7 +14,7 @@ ghost use Rattle.c_boundary.specs.Looks.{told_by};
 use book::refusal::Refusal;
 use book::{BookData, Height, Ids, OptionalAttempt, SubmissionFeeIntent};
 use book_answers::{BookSummary, FinalizedSubmission, SubmissionAttemptStatus, SubmissionLook};
-use c_write::{settle, tell};
+use c_write::{settle_value, tell_value};
 use codec_answers::drained::append_handed_out;
 use codec_answers::part::append_flag;
 use codec_answers::value::{
@@ -24,11 +24,11 @@ use codec_answers::value::{
 use part_drain_answers::Drained;
 use part_replies::Reply;
 
-// Each is one call of `settle` or `tell`, told the form and the room of a kind of value; what it answers is the exported function's number.
+// Each is one call of `settle_value` or `tell_value`, told the form and the room of a kind of value; what it answers is the exported function's number.
 pub fn settle_flag(r: Reply<bool, BookData>, book: &mut [u8], answer: &mut [u8]) -> u8
     ensures { Gives (finish (coded (λ t. be 1 (flag_number t)) r.answer) r.book book.old answer.old) result book.new answer.new }
 {
-    settle(r, &mut [0; 1], append_flag, book, answer)
+    settle_value(r, &mut [0; 1], append_flag, book, answer)
 }
 
 pub fn settle_status(
@@ -38,13 +38,13 @@ pub fn settle_status(
 ) -> u8
     ensures { Gives (finish (coded (λ s. be 1 (status_number s)) r.answer) r.book book.old answer.old) result book.new answer.new }
 {
-    settle(r, &mut [0; 1], append_status, book, answer)
+    settle_value(r, &mut [0; 1], append_status, book, answer)
 }
 
 pub fn settle_ids(r: Reply<Ids<64>, BookData>, book: &mut [u8], answer: &mut [u8]) -> u8
     ensures { Gives (finish (coded encode_ids r.answer) r.book book.old answer.old) result book.new answer.new }
 {
-    settle(r, &mut [0; 513], append_ids, book, answer)
+    settle_value(r, &mut [0; 513], append_ids, book, answer)
 }
 
 pub fn settle_final(
@@ -54,51 +54,51 @@ pub fn settle_final(
 ) -> u8
     ensures { Gives (finish (coded (enc_option encode_final) r.answer) r.book book.old answer.old) result book.new answer.new }
 {
-    settle(r, &mut [0; 1117], append_optional_finalized, book, answer)
+    settle_value(r, &mut [0; 1117], append_optional_finalized, book, answer)
 }
 
 // 19330 bytes are always enough: 1 + 16 * 1149 for the submissions, 1 + 16 * 59 for the failures.
 pub fn settle_drain(r: Reply<Drained, BookData>, book: &mut [u8], answer: &mut [u8]) -> u8
     ensures { DrainGiven r book.old answer.old result book.new answer.new }
 {
-    settle(r, &mut [0; 19330], append_handed_out, book, answer)
+    settle_value(r, &mut [0; 19330], append_handed_out, book, answer)
 }
 
 // ---- calls that only look
 pub fn tell_status(said: &Result<SubmissionAttemptStatus, Refusal>, answer: &mut [u8]) -> u8
     ensures { GivesAnswer (told_by (coded (λ s. be 1 (status_number s)) said.now) answer.old) result answer.new }
 {
-    tell(said, &mut [0; 1], append_status, answer)
+    tell_value(said, &mut [0; 1], append_status, answer)
 }
 
 pub fn tell_height(said: &Result<Option<Height>, Refusal>, answer: &mut [u8]) -> u8
     ensures { GivesAnswer (told_by (coded encode_height said.now) answer.old) result answer.new }
 {
-    tell(said, &mut [0; 9], append_rollback_height, answer)
+    tell_value(said, &mut [0; 9], append_rollback_height, answer)
 }
 
 pub fn tell_ids(said: &Result<Ids<64>, Refusal>, answer: &mut [u8]) -> u8
     ensures { GivesAnswer (told_by (coded encode_ids said.now) answer.old) result answer.new }
 {
-    tell(said, &mut [0; 513], append_ids, answer)
+    tell_value(said, &mut [0; 513], append_ids, answer)
 }
 
 pub fn tell_look(said: &Result<Option<SubmissionLook>, Refusal>, answer: &mut [u8]) -> u8
     ensures { GivesAnswer (told_by (coded (enc_option encode_look) said.now) answer.old) result answer.new }
 {
-    tell(said, &mut [0; 39], append_optional_look, answer)
+    tell_value(said, &mut [0; 39], append_optional_look, answer)
 }
 
 pub fn tell_summary(said: &Result<BookSummary, Refusal>, answer: &mut [u8]) -> u8
     ensures { GivesAnswer (told_by (coded encode_summary said.now) answer.old) result answer.new }
 {
-    tell(said, &mut [0; 57], append_summary, answer)
+    tell_value(said, &mut [0; 57], append_summary, answer)
 }
 
 pub fn tell_attempt(said: &Result<OptionalAttempt, Refusal>, answer: &mut [u8]) -> u8
     ensures { GivesAnswer (told_by (coded encode_slot said.now) answer.old) result answer.new }
 {
-    tell(
+    tell_value(
         said,
         &mut [0; 75],
         |out, at, a| append_attempt(out, at, *a),
@@ -109,5 +109,5 @@ pub fn tell_attempt(said: &Result<OptionalAttempt, Refusal>, answer: &mut [u8]) 
 pub fn tell_fee_intent(said: &Result<Option<SubmissionFeeIntent>, Refusal>, answer: &mut [u8]) -> u8
     ensures { GivesAnswer (told_by (coded (enc_option encode_fee_intent) said.now) answer.old) result answer.new }
 {
-    tell(said, &mut [0; 42], append_optional_fee_intent, answer)
+    tell_value(said, &mut [0; 42], append_optional_fee_intent, answer)
 }

@@ -48,10 +48,37 @@ pub fn put_both(number: u8, next: BookData, l: &[u8], book: &mut [u8], answer: &
     number
 }
 
+// An answer with the bytes of its value, and the book.
+pub fn settle(
+    said: Result<(), Refusal>,
+    next: BookData,
+    l: &[u8],
+    book: &mut [u8],
+    answer: &mut [u8],
+) -> u8
+    ensures { Gives (finish (coded (λ _. l.now) said) next book.old answer.old) result book.new answer.new }
+{
+    match said {
+        Ok(()) => put_both(0, next, l, book, answer),
+        Err(refusal) => put_both(refusal as u8, next, &[], book, answer),
+    }
+}
+
+// The answer of a call that only looks, with the bytes of its value, and no book.
+pub fn tell(said: Result<(), Refusal>, l: &[u8], answer: &mut [u8]) -> u8
+    ensures { GivesAnswer (told_by (coded (λ _. l.now) said) answer.old) result answer.new }
+{
+    match said {
+        Ok(()) => put_answer(l, answer),
+        Err(refusal) => refusal as u8,
+    }
+}
+
 // A reply. The bytes of its value are made first, by the function that the caller names, in room that is enough for any value: so a call
 // whose answer or book does not fit leaves every lent byte. The ghost value is the form of a value.
-// The clause with `IsAlwaysCallable` is std's form for a function that is lent, here and in `tell`.
-pub fn settle<T: Copy, F: Fn(&mut [u8], usize, &T) -> usize>(
+// The clause with `IsAlwaysCallable` is std's form for a function that is lent, here and in `tell_value`. `put_both` is called here and not through
+// `settle`, which would cost every call a copy of the book.
+pub fn settle_value<T: Copy, F: Fn(&mut [u8], usize, &T) -> usize>(
     r: Reply<T, BookData>,
     room: &mut [u8],
     append: F,
@@ -73,7 +100,7 @@ pub fn settle<T: Copy, F: Fn(&mut [u8], usize, &T) -> usize>(
 }
 
 // The reply of a call that only looks: the bytes of its value, and no book.
-pub fn tell<T, F: Fn(&mut [u8], usize, &T) -> usize>(
+pub fn tell_value<T, F: Fn(&mut [u8], usize, &T) -> usize>(
     said: &Result<T, Refusal>,
     room: &mut [u8],
     append: F,

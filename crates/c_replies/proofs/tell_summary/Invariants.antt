@@ -1,5 +1,5 @@
 use Rattle.codec_answers.specs.Forms.{encode_summary}
 use Rattle.c_replies.proofs.tell_summary.Given as goal
 
-abbrev pub ghost-tell : goal.ghost-tell
-ghost-tell c = encode_summary
+abbrev pub ghost-tell_value : goal.ghost-tell_value
+ghost-tell_value c = encode_summary
