@@ -25,6 +25,21 @@ pub fn write_sound(b: SoundBook, out: &mut [u8]) -> Result<usize, Refusal>
     Ok(e)
 }
 
+// Writes the archive of b at the start of out, if the book is sound, which `sound` says, and if out is long enough. No type says that the
+// book is sound, so this doesn't go through `write_sound`.
+pub fn write_if_sound(b: BookData, sound: bool, out: &mut [u8]) -> Result<usize, Refusal>
+    ensures { (result ≡ write_answer sound out.old (encode_book b)) × (out.new ≡ left_in sound out.old (encode_book b)) }
+{
+    if sound {
+        let n = size_archive(b);
+        if n <= out.len() {
+            return Ok(write_book(out, b));
+        }
+        return Err(Refusal::ShortBuffer);
+    }
+    Err(Refusal::NoBook)
+}
+
 // Writes the archive of a book: refused 1 where it is not sound and 12 where out is shorter than needed, and then out stays as it was.
 pub fn write_archive(b: BookData, out: &mut [u8]) -> Result<usize, Refusal>
     ensures { (result ≡ write_answer (soundb b) out.old (encode_book b)) × (out.new ≡ left_in (soundb b) out.old (encode_book b)) }
