@@ -4,11 +4,11 @@
 ghost use Rattle.std.specs.Prelude.{◌≡◌};
 ghost use Rattle.book.specs.Model.{view};
 ghost use Rattle.part_replies.specs.Reply.{reply};
+ghost use Rattle.part_lookup.specs.Normal.{Normal};
 ghost use Rattle.part_attempt_answers.specs.Live.{live_place, is_never_issued, inactive};
 
 use book::BookData;
 use book::refusal::Refusal;
-use book::sound::SoundBook;
 use part_lookup::AttemptPlace;
 use part_replies::{Reply, done, refused};
 
@@ -28,11 +28,12 @@ pub fn is_never_issued(p: AttemptPlace) -> bool
 }
 
 // A token that is not live: the value of an inactive one, or refusal 4.
-pub fn inactive<T: Copy>(b: SoundBook, place: AttemptPlace, value: T) -> Reply<T, BookData>
-    ensures { result ≡ reply b.parts (inactive (view b.parts) value place) }
+pub fn inactive<T: Copy>(b: BookData, place: AttemptPlace, value: T) -> Reply<T, BookData>
+    requires { Normal b }
+    ensures { result ≡ reply b (inactive (view b) value place) }
 {
     if is_never_issued(place) {
-        return refused(b.parts, Refusal::UnknownToken);
+        return refused(b, Refusal::UnknownToken);
     }
-    done(b.parts, value)
+    done(b, value)
 }
