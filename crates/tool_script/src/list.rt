@@ -61,6 +61,7 @@ pub fn read_length(s: &[u8], at: usize) -> Option<Read<usize>>
 // The bytes are a part of the script that ends where they were read to.
 pub fn read_bytes<'a>(s: &'a [u8], at: usize) -> Option<Read<&'a [u8]>>
     ensures onward { IfSome result (λ r. Onward s.now at r.at) }
+    ensures before { IfSome result (λ r. length r.value.now ≤ r.at) }
     ensures part { IfSome result (λ r. r.value.now ≡ take (length r.value.now) (drop (r.at - length r.value.now) s.now)) }
 {
     let n = read_length(s, at)?;
