@@ -114,17 +114,12 @@ fn show_entries(
     queue: &[PendingDelivery],
 ) -> io::Result<()> {
     for (i, t) in submitted.iter().enumerate() {
-        let number = i + 1;
         println!(rt; "")?;
-        show_text(
-            rt,
-            |out| append_submission(out, 0, number, submitted.len(), t),
-        )?;
+        show_text(rt, |out| append_submission(out, 0, i, submitted.len(), t))?;
     }
     for (i, d) in queue.iter().enumerate() {
-        let number = i + 1;
         println!(rt; "")?;
-        show_text(rt, |out| append_delivery(out, 0, number, queue.len(), d))?;
+        show_text(rt, |out| append_delivery(out, 0, i, queue.len(), d))?;
     }
     Ok(())
 }

@@ -1,5 +1,5 @@
 -- Attempts, retained submissions, queue entries, tokens and lists of ids as text.
-use Rattle.std.specs.Prelude.{◌≡◌, refl, cond, List, [], ◌∷◌, ◌++◌, ℕ, length}
+use Rattle.std.specs.Prelude.{◌≡◌, refl, cond, List, [], ◌∷◌, ◌++◌, ℕ, ◌+◌, length}
 use Rattle.codec_forms.specs.Wire.{enc_many}
 use Rattle.tool_text.specs.Ascii.{ascii}
 use Rattle.tool_text.specs.Numbers.{decimal, number_line}
@@ -51,15 +51,15 @@ entry_text f e =
     ++ variant_text e.state.current_variant
     ++ facts_text f e
 
--- the k-th of n, from 1 on
+-- the i-th of n, from 1 on
 unfoldable pub heading_text : List ℕ → ℕ → ℕ → List ℕ
 unfolding decimal number_line
-heading_text label k n = label ++ decimal k ++ number_line (ascii " of ") n
+heading_text label i n = label ++ decimal (i + 1) ++ number_line (ascii " of ") n
 
 unfoldable pub submission_text : ℕ → ℕ → SubmittedTx → List ℕ
 unfolding heading_text number_line slots_text entry_text fingerprints_of
-submission_text k n t =
-    heading_text (ascii "retained submission ") k n
+submission_text i n t =
+    heading_text (ascii "retained submission ") i n
     ++ number_line (ascii "  id: ") t.entry.id.0
     ++ slots_text (fingerprints_of t.entry) t.slots
     ++ entry_text (fingerprints_of t.entry) t.entry
@@ -74,8 +74,8 @@ intent_text p =
 
 unfoldable pub delivery_text : ℕ → ℕ → PendingDelivery → List ℕ
 unfolding heading_text intent_text trigger_text goal_text
-delivery_text k n d =
-    heading_text (ascii "queue entry ") k n
+delivery_text i n d =
+    heading_text (ascii "queue entry ") i n
     ++ intent_text d.intent
     ++ trigger_text d.trigger
     ++ ascii "  goal: "
