@@ -13,13 +13,17 @@ use tool_payments::text::{append_payment, append_totals};
 use tool_text::append_hex_line;
 
 // A room with the place behind what is written, as `codec_append` has them. The clause is std's form for a function that is lent.
-// Prints what `append` writes into an empty room.
-fn show_text<F: FnOnce(&mut [u8]) -> usize>(rt: &impl Print, append: F) -> io::Result<()>
+// Prints what `append` writes from the start of the room on. Each caller lends a room for its texts: the largest for all would stand
+// on the stack for each.
+fn show_text<F: FnOnce(&mut [u8]) -> usize>(
+    rt: &impl Print,
+    room: &mut [u8],
+    append: F,
+) -> io::Result<()>
     requires { F.IsAlwaysCallable append }
 {
-    let mut room = [0u8; 65536];
-    let end = append(&mut room);
-    rt.write_all(&room[..end.min(65536)])
+    let end = append(&mut *room);
+    rt.write_all(&room[..end.min(room.len())])
 }
 
 // Submissions and queue as two slices, here and below: functions that hand a whole book on are slow to check.
@@ -50,7 +54,7 @@ fn show_totals(
 fn show_ids(rt: &impl Print, what: &str, ids: &[u64]) -> io::Result<()> {
     let n = ids.len();
     println!(rt; "{what} ids, number: {n}")?;
-    show_text(rt, |out| append_ids(out, 0, b"  ids:", ids))
+    show_text(rt, &mut [0; 4096], |out| append_ids(out, 0, b"  ids:", ids))
 }
 
 // The rollback height and the ids replayed since.
@@ -58,6 +62,7 @@ fn show_replay(rt: &impl Print, epoch: &ReplayEpoch) -> io::Result<()> {
     let height = epoch.rollback_height;
     show_text(
         rt,
+        &mut [0; 256],
         |out| append_height(out, 0, b"\nrollback height: ", height),
     )?;
     let ids = &epoch.replayed_submission_ids;
@@ -67,8 +72,9 @@ fn show_replay(rt: &impl Print, epoch: &ReplayEpoch) -> io::Result<()> {
 // The tokens that slots hold; what became of the others a book does not say.
 fn show_fates(rt: &impl Print, submitted: &[SubmittedTx], next: u64) -> io::Result<()> {
     println!(rt; "\ntokens and their fates")?;
+    let mut room = [0; 256];
     for t in submitted {
-        show_text(rt, |out| append_tokens(out, 0, t))?;
+        show_text(rt, &mut room, |out| append_tokens(out, 0, t))?;
     }
     println!(rt;
         "  all other tokens issued below the next token are gone (displaced or struck out; a book does not keep the two apart), next token: {next}"
@@ -76,7 +82,7 @@ fn show_fates(rt: &impl Print, submitted: &[SubmittedTx], next: u64) -> io::Resu
 }
 
 fn show_payment(rt: &impl Print, p: Payment) -> io::Result<()> {
-    show_text(rt, |out| append_payment(out, 0, p))
+    show_text(rt, &mut [0; 256], |out| append_payment(out, 0, p))
 }
 
 // The payments, one to a line, and their totals. A book without submissions and queue entries has no payment.
@@ -99,12 +105,16 @@ fn show_payments(
     }
     println!(rt; "\npayments in all")?;
     let totals = totals(submitted, queue);
-    show_text(rt, |out| append_totals(out, 0, totals))
+    show_text(rt, &mut [0; 512], |out| append_totals(out, 0, totals))
 }
 
 fn show_digest(rt: &impl Print, digest: &[u8; 32]) -> io::Result<()> {
     let label = b"SHA-256 of these bytes, to be kept beside the archive: ";
-    show_text(rt, |out| append_hex_line(out, 0, label, digest))
+    show_text(
+        rt,
+        &mut [0; 256],
+        |out| append_hex_line(out, 0, label, digest),
+    )
 }
 
 // The retained submissions and the queue, entry by entry.
@@ -113,13 +123,23 @@ fn show_entries(
     submitted: &[SubmittedTx],
     queue: &[PendingDelivery],
 ) -> io::Result<()> {
+    // The longest text is below 12,500 bytes.
+    let mut room = [0; 16384];
     for (i, t) in submitted.iter().enumerate() {
         println!(rt; "")?;
-        show_text(rt, |out| append_submission(out, 0, i, submitted.len(), t))?;
+        show_text(
+            rt,
+            &mut room,
+            |out| append_submission(out, 0, i, submitted.len(), t),
+        )?;
     }
     for (i, d) in queue.iter().enumerate() {
         println!(rt; "")?;
-        show_text(rt, |out| append_delivery(out, 0, i, queue.len(), d))?;
+        show_text(
+            rt,
+            &mut room,
+            |out| append_delivery(out, 0, i, queue.len(), d),
+        )?;
     }
     Ok(())
 }
