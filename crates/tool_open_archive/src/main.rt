@@ -3,13 +3,18 @@
 
 use book::{SubmissionId, Token};
 use codec_cursor::read_number;
-use std::io;
 use std::io::Read;
 
-fn main(rt: HostRuntime) -> io::Result<()> {
+// A write that fails is dropped, here and in `main`: the status is 0 all the same.
+fn refuse(rt: &impl Eprint, text: &str) {
+    let _ = rt.eprintln(text);
+}
+
+fn main(rt: HostRuntime) {
     let mut numbers = [0u8; 16];
     if rt.reader().read_exact(&mut numbers).is_err() {
-        return rt.eprintln("open_archive: two numbers of 8 bytes are wanted");
+        refuse(&rt, "open_archive: two numbers of 8 bytes are wanted");
+        return;
     }
     let mut at: usize = 0;
     let token = read_number(&numbers, &mut at);
@@ -17,7 +22,8 @@ fn main(rt: HostRuntime) -> io::Result<()> {
     let book = call_open::open(Token(token), SubmissionId(id));
     let mut out = [0u8; 22];
     if archive_write_checked::write_archive(book, &mut out).is_err() {
-        return rt.eprintln("open_archive: the archive does not fit");
+        refuse(&rt, "open_archive: the archive does not fit");
+        return;
     }
-    rt.write_all(&out)
+    let _ = rt.write_all(&out);
 }
