@@ -1,8 +1,9 @@
 // Writes the amount atom, the coin string and the coin id of coins made of their parts, a coin to a line.
 #![tactic(auto)]
 
+ghost use Rattle.std.specs.Prelude.{◌≤◌, length};
+
 use base_coin_string::{from_parts, to_coin_id};
-use std::io;
 
 const AMOUNTS: [u64; 35] = [
     0,
@@ -42,11 +43,18 @@ const AMOUNTS: [u64; 35] = [
     18446744073709551615,
 ];
 
-fn show(rt: &impl Print, s: &[u8]) -> io::Result<()> {
-    for b in s {
-        print!(rt; "{b:02x}")?;
+const DIGITS: [u8; 16] = *b"0123456789abcdef";
+
+// The bytes and `end` behind them. A write that fails is dropped, and the next is tried: the status is 0 all the same.
+fn show(rt: &impl Print, s: &[u8], end: u8)
+    requires { length s.now ≤ 73 }
+{
+    let mut text = [end; 147];
+    for (i, b) in s.iter().enumerate() {
+        text[2 * i] = DIGITS[usize::from(b / 16)];
+        text[2 * i + 1] = DIGITS[usize::from(b % 16)];
     }
-    Ok(())
+    let _ = rt.write_all(&text[..2 * s.len() + 1]);
 }
 
 // 32 bytes, of which byte i is step times i + k modulo 256.
@@ -60,21 +68,17 @@ fn filled(step: u8, k: u8) -> [u8; 32] {
     a
 }
 
-fn show_coin(rt: &impl Print, amount: u64, k: u8) -> io::Result<()> {
+fn show_coin(rt: &impl Print, amount: u64, k: u8) {
     let coin = from_parts(filled(3, k), filled(5, k), amount);
     // At least the 64 bytes of the two hashes.
     let n = usize::from(coin.len).clamp(64, 73);
-    show(rt, &coin.bytes[64..n])?;
-    rt.print(" ")?;
-    show(rt, &coin.bytes[..n])?;
-    rt.print(" ")?;
-    show(rt, &to_coin_id(coin.bytes, coin.len))?;
-    rt.println("")
+    show(rt, &coin.bytes[64..n], b' ');
+    show(rt, &coin.bytes[..n], b' ');
+    show(rt, &to_coin_id(coin.bytes, coin.len), b'\n');
 }
 
-fn main(rt: HostRuntime) -> io::Result<()> {
+fn main(rt: HostRuntime) {
     for (k, amount) in AMOUNTS.iter().enumerate() {
-        show_coin(&rt, *amount, k as u8)?;
+        show_coin(&rt, *amount, k as u8);
     }
-    Ok(())
 }
