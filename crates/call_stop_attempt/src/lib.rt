@@ -5,6 +5,7 @@ ghost use Rattle.std.specs.Prelude.{◌<◌, ◌≡◌, length};
 ghost use Rattle.book.specs.Model.{view};
 ghost use Rattle.rules.specs.Steps.{run_book};
 ghost use Rattle.rules.specs.Calls.StopAttempt.{stop_live, stop_attempt};
+ghost use Rattle.part_lookup.specs.Lookup.{attempt_place};
 ghost use Rattle.part_replies.specs.Reply.{reply};
 ghost use Rattle.part_attempt_answers.specs.Live.{at};
 
@@ -12,8 +13,7 @@ use book::sound::SoundBook;
 use book::{BookData, Token};
 use book_answers::SubmissionAttemptStatus;
 use part_attempt_answers::{inactive, live_place};
-use part_change::store_submitted;
-use part_lookup::{find_attempt, submitted_at};
+use part_lookup::{AttemptPlace, find_attempt};
 use part_replies::{Reply, done};
 use part_slots::stop_in_place;
 
@@ -21,20 +21,28 @@ use part_slots::stop_in_place;
 pub fn stop_attempt_sound(b: SoundBook, t: Token) -> Reply<SubmissionAttemptStatus, BookData>
     ensures { result ≡ reply b.parts (run_book (stop_attempt t.0) (view b.parts)) }
 {
-    let place = find_attempt(&b.parts, t);
+    let place = attempt_place(b, t);
     let Some(k) = live_place(place) else {
         return inactive(b, place, SubmissionAttemptStatus::Stale);
     };
     stop_live(b, k)
 }
 
+// By value: a book that is lent is first copied onto the stack, and a copy made here is gone before the rest of the call.
+fn attempt_place(b: SoundBook, t: Token) -> AttemptPlace
+    ensures { result ≡ attempt_place t.0 (view b.parts) }
+{
+    find_attempt(&b.parts, t)
+}
+
 // A place is one of this book only: a struct of both would lend or copy the book.
-fn stop_live(b: SoundBook, k: usize) -> Reply<SubmissionAttemptStatus, BookData>
+fn stop_live(mut b: SoundBook, k: usize) -> Reply<SubmissionAttemptStatus, BookData>
     requires { k < length (view b.parts).submitted }
     ensures { result ≡ reply b.parts (run_book (stop_live (at (view b.parts) k)) (view b.parts)) }
 {
-    let mut next = submitted_at(&b.parts, k);
+    let s = b.parts.submitted[k];
+    let mut next = s;
     stop_in_place(&mut next.slots);
-    let out = store_submitted(b.parts, k, next);
-    done(out, SubmissionAttemptStatus::Applied)
+    b.parts.submitted[k] = next;
+    done(b.parts, SubmissionAttemptStatus::Applied)
 }
