@@ -6,19 +6,16 @@ use Rattle.part_withdraw.specs.WithdrawLaws.{kept_normal}
 use Rattle.call_abandon_attempt.specs.Abandoning.{abandon_full, abandon_answer}
 use Rattle.call_abandon_attempt.proofs.abandon_live.Goals as goal
 
-pub submitted_at-requires : goal.submitted_at-requires
-submitted_at-requires c = (sound_normal c.args.b.parts c.args.b.sound, c.requires)
-
 pub remove_submitted-rest-requires : goal.remove_submitted-rest-requires
 remove_submitted-rest-requires c = sound_normal c.args.b.parts c.args.b.sound
 
 pub retire-requires : goal.retire-requires
-retire-requires c = kept_normal c.args.b.parts c.args.b.sound (id_of c.submitted_at.result) c.remove_submitted-rest.ensures
+retire-requires c = kept_normal c.args.b.parts c.args.b.sound (id_of c.submission_at.result) c.remove_submitted-rest.ensures
 
 pub returns-in-Ok : goal.returns-in-Ok
 returns-in-Ok c =
-    c.done.ensures ∙ abandon_answer c.args.b.parts c.args.b.sound c.args.k c.submitted_at.ensures c.remove_submitted-rest.ensures (sym c.in-Ok.is ∙ c.retire.ensures)
+    c.done.ensures ∙ abandon_answer c.args.b.parts c.args.b.sound c.args.k c.submission_at.ensures c.remove_submitted-rest.ensures (sym c.in-Ok.is ∙ c.retire.ensures)
 
 pub returns-in-Err : goal.returns-in-Err
 returns-in-Err c =
-    c.refused.ensures ∙ abandon_full c.args.b.parts c.args.b.sound c.args.k c.submitted_at.ensures c.remove_submitted-rest.ensures (sym c.in-Err.is ∙ c.retire.ensures)
+    c.refused.ensures ∙ abandon_full c.args.b.parts c.args.b.sound c.args.k c.submission_at.ensures c.remove_submitted-rest.ensures (sym c.in-Err.is ∙ c.retire.ensures)
