@@ -8,6 +8,7 @@ ghost use Rattle.rules.specs.Steps.{with_entry, with_slots, run_book};
 ghost use Rattle.rules.specs.Steps.Entry.{revised};
 ghost use Rattle.rules.specs.Steps.Slots.{slots_aside};
 ghost use Rattle.rules.specs.Calls.AcknowledgeAttempt.{acknowledge_live, acknowledge_attempt};
+ghost use Rattle.part_lookup.specs.Lookup.{attempt_place};
 ghost use Rattle.part_replies.specs.Reply.{reply};
 ghost use Rattle.part_attempt_answers.specs.Live.{at};
 
@@ -17,7 +18,7 @@ use book::{BookData, SubmittedTx, Token};
 use book_answers::SubmissionAttemptStatus;
 use part_attempt_answers::{inactive, live_place};
 use part_change::unqueue;
-use part_lookup::find_attempt;
+use part_lookup::{AttemptPlace, find_attempt};
 use part_replies::{Reply, done, refused};
 use part_slots::{resolved_variant_fingerprint, stopped};
 use part_submitted::fingerprint::current_variant_fingerprint;
@@ -27,11 +28,18 @@ use part_submitted::revise::acknowledge;
 pub fn acknowledge_attempt_sound(b: SoundBook, t: Token) -> Reply<SubmissionAttemptStatus, BookData>
     ensures { result ≡ reply b.parts (run_book (acknowledge_attempt t.0) (view b.parts)) }
 {
-    let place = find_attempt(&b.parts, t);
+    let place = attempt_place(b, t);
     let Some(k) = live_place(place) else {
         return inactive(b, place, SubmissionAttemptStatus::Stale);
     };
     acknowledge_live(b, k)
+}
+
+// By value: a book that is lent is first copied onto the stack, and a copy made here is gone before the rest of the call.
+fn attempt_place(b: SoundBook, t: Token) -> AttemptPlace
+    ensures { result ≡ attempt_place t.0 (view b.parts) }
+{
+    find_attempt(&b.parts, t)
 }
 
 // A place is one of this book only: a struct of both would lend or copy the book.
