@@ -72,7 +72,8 @@ fn read_book(s: &[u8], at: &mut usize) -> BookData
     let q = section::read_queue(s, &mut *at);
     let retired_submission_ids = section::read_retirements(s, &mut *at);
     let rollback_height = read_height(s, &mut *at);
-    let replayed_submission_ids = section::read_replays(s, at, &t.ids[..t.count]);
+    let ids = t.ids;
+    let replayed_submission_ids = section::read_replays(s, at, &ids[..t.count]);
     let submitted = t.items;
     let pending_deliveries = q.items;
     let replay_epoch = ReplayEpoch {

@@ -32,6 +32,9 @@ fn write_ids(out: &mut [u8], ids: &[u64]) -> usize
 fn write_front(out: &mut [u8], b: BookData) -> usize
     ensures { Fits (front_of b) 0 out.old out.new result }
 {
+    // Arrays of their own: a slice lent from a book by value keeps a copy of the whole book on the stack.
+    let submitted = b.submitted;
+    let pending = b.pending_deliveries;
     let n = b.submitted_count.min(16);
     let q = b.pending_count.min(16);
     let at = write_numbers(
@@ -39,12 +42,12 @@ fn write_front(out: &mut [u8], b: BookData) -> usize
         b.next_delivery_attempt_token,
         b.next_submission_id,
     );
-    let retained = append_list(&mut out[at..], 0, &b.submitted[..n], append_submitted);
+    let retained = append_list(&mut out[at..], 0, &submitted[..n], append_submitted);
     let next = at + retained;
     let queue = append_list(
         &mut out[next..],
         0,
-        &b.pending_deliveries[..q],
+        &pending[..q],
         append_delivery,
     );
     next + queue

@@ -5,16 +5,15 @@ ghost use Rattle.std.specs.Prelude.{◌<◌, ◌≡◌, length};
 ghost use Rattle.book.specs.Model.{view};
 ghost use Rattle.rules.specs.Steps.{run_book};
 ghost use Rattle.rules.specs.Calls.AbandonAttempt.{abandon_live, abandon_attempt};
-ghost use Rattle.part_lookup.specs.Lookup.{attempt_place};
 ghost use Rattle.part_replies.specs.Reply.{reply};
 ghost use Rattle.part_attempt_answers.specs.Live.{at};
 
 use book::sound::SoundBook;
 use book::{BookData, SubmittedTx, Token};
 use book_answers::SubmissionAttemptStatus;
-use part_attempt_answers::{inactive, live_place};
+use part_attempt_answers::{attempt_place, inactive, live_place};
 use part_change::{remove_submitted, retire};
-use part_lookup::{AttemptPlace, find_attempt, submitted_at};
+use part_lookup::submitted_at;
 use part_replies::{Reply, done, refused};
 
 // The look-up of the token is that of the other attempt calls: a shared one would be told the rest of the call, with its contract.
@@ -23,19 +22,12 @@ pub fn abandon_attempt_sound(b: SoundBook, t: Token) -> Reply<SubmissionAttemptS
 {
     let place = attempt_place(b, t);
     let Some(k) = live_place(place) else {
-        return inactive(b, place, SubmissionAttemptStatus::Stale);
+        return inactive(b.parts, place, SubmissionAttemptStatus::Stale);
     };
     abandon_live(b, k)
 }
 
-// By value: a book that is lent is first copied onto the stack, and a copy made here is gone before the rest of the call.
-fn attempt_place(b: SoundBook, t: Token) -> AttemptPlace
-    ensures { result ≡ attempt_place t.0 (view b.parts) }
-{
-    find_attempt(&b.parts, t)
-}
-
-// By value, as `attempt_place` is.
+// By value, as `part_attempt_answers::attempt_place` is.
 fn submission_at(b: SoundBook, k: usize) -> SubmittedTx
     requires { k < length (view b.parts).submitted }
     ensures { result ≡ at (view b.parts) k }

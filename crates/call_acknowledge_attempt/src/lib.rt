@@ -8,7 +8,6 @@ ghost use Rattle.rules.specs.Steps.{with_entry, with_slots, run_book};
 ghost use Rattle.rules.specs.Steps.Entry.{revised};
 ghost use Rattle.rules.specs.Steps.Slots.{slots_aside};
 ghost use Rattle.rules.specs.Calls.AcknowledgeAttempt.{acknowledge_live, acknowledge_attempt};
-ghost use Rattle.part_lookup.specs.Lookup.{attempt_place};
 ghost use Rattle.part_replies.specs.Reply.{reply};
 ghost use Rattle.part_attempt_answers.specs.Live.{at};
 
@@ -16,9 +15,8 @@ use book::refusal::Refusal;
 use book::sound::SoundBook;
 use book::{BookData, SubmittedTx, Token};
 use book_answers::SubmissionAttemptStatus;
-use part_attempt_answers::{inactive, live_place};
+use part_attempt_answers::{attempt_place, inactive, live_place};
 use part_change::unqueue;
-use part_lookup::{AttemptPlace, find_attempt};
 use part_replies::{Reply, done, refused};
 use part_slots::{resolved_variant_fingerprint, stopped};
 use part_submitted::fingerprint::current_variant_fingerprint;
@@ -30,16 +28,9 @@ pub fn acknowledge_attempt_sound(b: SoundBook, t: Token) -> Reply<SubmissionAtte
 {
     let place = attempt_place(b, t);
     let Some(k) = live_place(place) else {
-        return inactive(b, place, SubmissionAttemptStatus::Stale);
+        return inactive(b.parts, place, SubmissionAttemptStatus::Stale);
     };
     acknowledge_live(b, k)
-}
-
-// By value: a book that is lent is first copied onto the stack, and a copy made here is gone before the rest of the call.
-fn attempt_place(b: SoundBook, t: Token) -> AttemptPlace
-    ensures { result ≡ attempt_place t.0 (view b.parts) }
-{
-    find_attempt(&b.parts, t)
 }
 
 // A place is one of this book only: a struct of both would lend or copy the book.

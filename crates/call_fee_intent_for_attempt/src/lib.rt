@@ -23,7 +23,7 @@ pub fn fee_intent_for_attempt_sound(
 {
     let place = find_attempt(&b.parts, t);
     let Some(k) = live_place(place) else {
-        return inactive(b, place, None);
+        return inactive(b.parts, place, None);
     };
     let s = submitted_at(&b.parts, k);
     done(b.parts, Some(open_fee_intent(s.entry)))

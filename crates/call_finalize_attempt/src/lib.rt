@@ -181,13 +181,15 @@ pub fn finalize_attempt_sound(
     }
     let place = find_attempt(&b.parts, t);
     let Some(k) = live_place(place) else {
-        return inactive(b, place, None);
+        return inactive(b.parts, place, None);
     };
     finalize_live(b, k, source, joined)
 }
 
 // A place is one of this book only: a struct of both would lend or copy the book.
 // Refusals 5, 7 and 8, and 9 where the fee says so; else the submission is stored as decided.
+// Not inlined: its copies of the book would lie below the frame of the reader, which takes the most stack of a call through C.
+#[inline(never)]
 fn finalize_live(
     mut b: SoundBook,
     k: usize,

@@ -22,7 +22,7 @@ pub fn relinquish_completed_attempt_sound(
     ensures { result ≡ reply b.parts (run_book (relinquish_completed_attempt t.0) (view b.parts)) }
 {
     let place = find_attempt(&b.parts, t);
-    inactive(b, place, relinquished(place))
+    inactive(b.parts, place, relinquished(place))
 }
 
 // The status of a token that was issued.

@@ -5,15 +5,13 @@ ghost use Rattle.std.specs.Prelude.{◌<◌, ◌≡◌, length};
 ghost use Rattle.book.specs.Model.{view};
 ghost use Rattle.rules.specs.Steps.{run_book};
 ghost use Rattle.rules.specs.Calls.StopAttempt.{stop_live, stop_attempt};
-ghost use Rattle.part_lookup.specs.Lookup.{attempt_place};
 ghost use Rattle.part_replies.specs.Reply.{reply};
 ghost use Rattle.part_attempt_answers.specs.Live.{at};
 
 use book::sound::SoundBook;
 use book::{BookData, Token};
 use book_answers::SubmissionAttemptStatus;
-use part_attempt_answers::{inactive, live_place};
-use part_lookup::{AttemptPlace, find_attempt};
+use part_attempt_answers::{attempt_place, inactive, live_place};
 use part_replies::{Reply, done};
 use part_slots::stop_in_place;
 
@@ -23,16 +21,9 @@ pub fn stop_attempt_sound(b: SoundBook, t: Token) -> Reply<SubmissionAttemptStat
 {
     let place = attempt_place(b, t);
     let Some(k) = live_place(place) else {
-        return inactive(b, place, SubmissionAttemptStatus::Stale);
+        return inactive(b.parts, place, SubmissionAttemptStatus::Stale);
     };
     stop_live(b, k)
-}
-
-// By value: a book that is lent is first copied onto the stack, and a copy made here is gone before the rest of the call.
-fn attempt_place(b: SoundBook, t: Token) -> AttemptPlace
-    ensures { result ≡ attempt_place t.0 (view b.parts) }
-{
-    find_attempt(&b.parts, t)
 }
 
 // A place is one of this book only: a struct of both would lend or copy the book.

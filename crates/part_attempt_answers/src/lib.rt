@@ -4,13 +4,22 @@
 ghost use Rattle.std.specs.Prelude.{◌≡◌};
 ghost use Rattle.book.specs.Model.{view};
 ghost use Rattle.part_replies.specs.Reply.{reply};
+ghost use Rattle.part_lookup.specs.Lookup.{attempt_place};
 ghost use Rattle.part_lookup.specs.Normal.{Normal};
 ghost use Rattle.part_attempt_answers.specs.Live.{live_place, is_never_issued, inactive};
 
-use book::BookData;
 use book::refusal::Refusal;
-use part_lookup::AttemptPlace;
+use book::sound::SoundBook;
+use book::{BookData, Token};
+use part_lookup::{AttemptPlace, find_attempt};
 use part_replies::{Reply, done, refused};
+
+// By value: a book that is lent is first copied onto the stack, and a copy made here is gone before the rest of the call.
+pub fn attempt_place(b: SoundBook, t: Token) -> AttemptPlace
+    ensures { result ≡ attempt_place t.0 (view b.parts) }
+{
+    find_attempt(&b.parts, t)
+}
 
 pub fn live_place(p: AttemptPlace) -> Option<usize>
     ensures { result ≡ live_place p }

@@ -22,6 +22,7 @@ fn say_place(place: usize) {
 }
 
 // 1c: an accepted archive becomes the book. `ReadArchive` marks with `ok` whether there is one: a Result of a book costs a copy.
+#[inline(never)]
 fn read_call(s: &[u8], at: usize, b: SubmissionBook) -> Option<Step> {
     let archive = read_bytes(s, at)?;
     let r = read_archive(archive.value);
@@ -33,12 +34,14 @@ fn read_call(s: &[u8], at: usize, b: SubmissionBook) -> Option<Step> {
 }
 
 // 1d
+#[inline(never)]
 fn sound_call(at: usize, book: SubmissionBook) -> Step {
     let answer = Ok(is_sound(&book.parts));
     finish_reply(Reply { answer, book }, append_flag, at)
 }
 
 // 1c and 1d. A match on the script's byte: an enum of the calls would be one match more.
+#[inline(never)]
 pub fn play(op: u8, s: &[u8], at: usize, b: SubmissionBook) -> Option<Step> {
     match op {
         0x1c => read_call(s, at, b),

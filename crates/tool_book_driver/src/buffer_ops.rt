@@ -16,6 +16,7 @@ fn finish_written(r: Reply<usize, SubmissionBook>, lent: &[u8], at: usize) -> St
 }
 
 // 0f
+#[inline(never)]
 fn reconciliation_input_coins(s: &[u8], at: usize, b: SubmissionBook) -> Option<Step> {
     let outputs = read_bytes(s, at)?;
     let length = read_length(s, outputs.at)?;
@@ -26,6 +27,7 @@ fn reconciliation_input_coins(s: &[u8], at: usize, b: SubmissionBook) -> Option<
 }
 
 // 16
+#[inline(never)]
 fn absent_outputs_for_ids(s: &[u8], at: usize, b: SubmissionBook) -> Option<Step> {
     let ids = read_ids(s, at)?;
     let absent = read_bytes(s, ids.at)?;
@@ -37,6 +39,7 @@ fn absent_outputs_for_ids(s: &[u8], at: usize, b: SubmissionBook) -> Option<Step
 }
 
 // 1b
+#[inline(never)]
 fn write_archive(s: &[u8], at: usize, b: SubmissionBook) -> Option<Step> {
     let length = read_length(s, at)?;
     let mut room = [FILL; 65536];
@@ -46,6 +49,7 @@ fn write_archive(s: &[u8], at: usize, b: SubmissionBook) -> Option<Step> {
 }
 
 // 0f, 16 and 1b. A match on the script's byte: an enum of the calls would be one match more.
+#[inline(never)]
 pub fn play(op: u8, s: &[u8], at: usize, b: SubmissionBook) -> Option<Step> {
     match op {
         0x0f => reconciliation_input_coins(s, at, b),

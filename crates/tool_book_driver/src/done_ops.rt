@@ -9,6 +9,7 @@ use tool_script::kind::{read_flag, read_goal, read_number, read_trigger};
 use tool_script::list::{as_slice, read_bytes, read_ids};
 
 // 01
+#[inline(never)]
 fn queue(s: &[u8], at: usize, b: SubmissionBook) -> Option<Step> {
     let delivery = read_delivery(s, at)?;
     Some(match delivery.value {
@@ -26,6 +27,7 @@ fn unfit(r: Reply<(), SubmissionBook>) -> Refusal {
 }
 
 // 02
+#[inline(never)]
 fn queue_rebroadcast_epoch(s: &[u8], at: usize, b: SubmissionBook) -> Option<Step> {
     let ids = read_ids(s, at)?;
     let trigger = read_trigger(s, ids.at)?;
@@ -38,6 +40,7 @@ fn queue_rebroadcast_epoch(s: &[u8], at: usize, b: SubmissionBook) -> Option<Ste
 }
 
 // 04
+#[inline(never)]
 fn queue_retained_delivery(s: &[u8], at: usize, b: SubmissionBook) -> Option<Step> {
     let id = read_number(s, at)?;
     let trigger = read_trigger(s, id.at)?;
@@ -52,6 +55,7 @@ fn queue_retained_delivery(s: &[u8], at: usize, b: SubmissionBook) -> Option<Ste
 }
 
 // 0d and 12: a number. A match on `op`: a byte of the script is read and its call made.
+#[inline(never)]
 fn play_number(op: u8, s: &[u8], at: usize, b: SubmissionBook) -> Option<Step> {
     let n = read_number(s, at)?;
     let r = match op {
@@ -62,6 +66,7 @@ fn play_number(op: u8, s: &[u8], at: usize, b: SubmissionBook) -> Option<Step> {
 }
 
 // 14
+#[inline(never)]
 fn reconcile_chain_terminality(s: &[u8], at: usize, b: SubmissionBook) -> Option<Step> {
     let observed = read_bytes(s, at)?;
     let spent = read_bytes(s, observed.at)?;
@@ -80,6 +85,7 @@ fn reconcile_chain_terminality(s: &[u8], at: usize, b: SubmissionBook) -> Option
 }
 
 // 17
+#[inline(never)]
 fn collect_rollback_replay_ids(s: &[u8], at: usize, b: SubmissionBook) -> Option<Step> {
     let ids = read_ids(s, at)?;
     let r = b.collect_rollback_replay_ids(as_slice(&ids.value));
@@ -88,6 +94,7 @@ fn collect_rollback_replay_ids(s: &[u8], at: usize, b: SubmissionBook) -> Option
 
 // 01, 02, 04, 14 and 17 have arguments of their own, 0d and 12 a number, 03, 18 and 19 none. A match on the script's byte: an enum of
 // the calls would be one match more.
+#[inline(never)]
 pub fn play(op: u8, s: &[u8], at: usize, b: SubmissionBook) -> Option<Step> {
     match op {
         0x01 => queue(s, at, b),

@@ -5,6 +5,7 @@ use submission::SubmissionBook;
 use tool_script::list::{as_slice, read_bytes, read_ids};
 
 // 0c
+#[inline(never)]
 fn retain_submitted(s: &[u8], at: usize, b: SubmissionBook) -> Option<Step> {
     let ids = read_ids(s, at)?;
     let r = b.retain_submitted(as_slice(&ids.value));
@@ -12,6 +13,7 @@ fn retain_submitted(s: &[u8], at: usize, b: SubmissionBook) -> Option<Step> {
 }
 
 // 15
+#[inline(never)]
 fn causally_rolled_back_ids(s: &[u8], at: usize, b: SubmissionBook) -> Option<Step> {
     let absent = read_bytes(s, at)?;
     let live = read_bytes(s, absent.at)?;
@@ -20,6 +22,7 @@ fn causally_rolled_back_ids(s: &[u8], at: usize, b: SubmissionBook) -> Option<St
 }
 
 // 0c, 0e, 10 and 15. A match on the script's byte: an enum of the calls would be one match more.
+#[inline(never)]
 pub fn play(op: u8, s: &[u8], at: usize, b: SubmissionBook) -> Option<Step> {
     match op {
         0x0c => retain_submitted(s, at, b),

@@ -6,6 +6,7 @@ use submission::SubmissionBook;
 use tool_script::kind::read_number;
 
 // 08, 09, 0a and 0b. A match on the script's byte: an enum of the calls would be one match more.
+#[inline(never)]
 pub fn play(op: u8, s: &[u8], at: usize, b: SubmissionBook) -> Option<Step> {
     let n = read_number(s, at)?;
     let token = Token(n.value);

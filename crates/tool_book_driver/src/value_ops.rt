@@ -12,6 +12,7 @@ use tool_script::cells::read_bundle;
 use tool_script::kind::{read_number, read_source};
 
 // 06
+#[inline(never)]
 fn finalize_attempt(s: &[u8], at: usize, b: SubmissionBook) -> Option<Step> {
     let token = read_number(s, at)?;
     let source = read_source(s, token.at)?;
@@ -27,6 +28,7 @@ fn finalize_attempt(s: &[u8], at: usize, b: SubmissionBook) -> Option<Step> {
 
 // This and the two below are one call of the interface each: each has a type of its own for its argument and its answer.
 // 07
+#[inline(never)]
 fn fee_intent_for_attempt(s: &[u8], at: usize, b: SubmissionBook) -> Option<Step> {
     let token = read_number(s, at)?;
     let r = b.fee_intent_for_attempt(Token(token.value));
@@ -34,6 +36,7 @@ fn fee_intent_for_attempt(s: &[u8], at: usize, b: SubmissionBook) -> Option<Step
 }
 
 // 11
+#[inline(never)]
 fn begin_replay(s: &[u8], at: usize, b: SubmissionBook) -> Option<Step> {
     let height = read_number(s, at)?;
     let r = b.begin_replay(Height(height.value));
@@ -41,6 +44,7 @@ fn begin_replay(s: &[u8], at: usize, b: SubmissionBook) -> Option<Step> {
 }
 
 // 1a
+#[inline(never)]
 fn attempt(s: &[u8], at: usize, b: SubmissionBook) -> Option<Step> {
     let token = read_number(s, at)?;
     let r = b.attempt(Token(token.value));
@@ -48,6 +52,7 @@ fn attempt(s: &[u8], at: usize, b: SubmissionBook) -> Option<Step> {
 }
 
 // 05, 06, 07, 11, 13 and 1a. A match on the script's byte: an enum of the calls would be one match more.
+#[inline(never)]
 pub fn play(op: u8, s: &[u8], at: usize, b: SubmissionBook) -> Option<Step> {
     match op {
         0x05 => Some(finish_reply(b.drain(), append_handed_out, at)),

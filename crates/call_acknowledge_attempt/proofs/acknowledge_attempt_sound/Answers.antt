@@ -4,8 +4,12 @@ use Rattle.book.specs.Model.{view}
 use Rattle.book_answers.specs.declared.SubmissionAttemptStatus.TheVariants.{Stale}
 use Rattle.rules.specs.Calls.AcknowledgeAttempt.{acknowledge_live, acknowledge_attempt}
 use Rattle.part_replies.specs.Reply.{reply}
+use Rattle.part_lookup.specs.Normal.{sound_normal}
 use Rattle.part_attempt_answers.specs.Live.{live_within, with_live_lem, with_inactive}
 use Rattle.call_acknowledge_attempt.proofs.acknowledge_attempt_sound.Goals as goal
+
+pub inactive-requires : goal.inactive-requires
+inactive-requires c = sound_normal c.args.b.parts c.args.b.sound
 
 pub returns-in_default : goal.returns-in_default
 unfolding acknowledge_attempt

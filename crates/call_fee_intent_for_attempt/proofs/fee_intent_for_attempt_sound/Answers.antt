@@ -16,6 +16,9 @@ use Rattle.call_fee_intent_for_attempt.proofs.fee_intent_for_attempt_sound.Goals
 pub find_attempt-place-requires : goal.find_attempt-place-requires
 find_attempt-place-requires c = sound_normal c.args.b.parts c.args.b.sound
 
+pub inactive-requires : goal.inactive-requires
+inactive-requires c = sound_normal c.args.b.parts c.args.b.sound
+
 pub returns-in_default : goal.returns-in_default
 unfolding fee_intent_for_attempt
 returns-in_default c =

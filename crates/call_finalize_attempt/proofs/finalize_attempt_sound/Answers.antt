@@ -18,6 +18,9 @@ returns-then-not-sound c =
 pub find_attempt-place-requires : goal.find_attempt-place-requires
 find_attempt-place-requires c = sound_normal c.args.b.parts c.args.b.sound
 
+pub inactive-requires : goal.inactive-requires
+inactive-requires c = sound_normal c.args.b.parts c.args.b.sound
+
 pub returns-in_default : goal.returns-in_default
 returns-in_default c =
     c.inactive.ensures ∙ ap (reply c.args.b.parts)

@@ -9,5 +9,8 @@ use Rattle.call_relinquish_completed_attempt.proofs.relinquish_completed_attempt
 pub find_attempt-place-requires : goal.find_attempt-place-requires
 find_attempt-place-requires c = sound_normal c.args.b.parts c.args.b.sound
 
+pub inactive-requires : goal.inactive-requires
+inactive-requires c = sound_normal c.args.b.parts c.args.b.sound
+
 pub returns : goal.returns
 returns c = c.inactive.ensures ∙ ap (reply c.args.b.parts) (relinquish_run c.args.t.0 (view c.args.b.parts) c.find_attempt-place.ensures c.relinquished.ensures)
