@@ -13,7 +13,7 @@ use book::sound::SoundBook;
 use book::{BookData, DeliveryTrigger, SubmittedTx};
 use part_lookup::submitted;
 use part_offer::{goal_for, offer};
-use part_replies::{Reply, settled};
+use part_replies::{Reply, done, refused};
 use part_submitted::entry::{active_entry, fee_unresolved};
 
 // One submission: Active and with an unresolved fee, or left alone.
@@ -29,20 +29,17 @@ fn offer_ready(b: SoundBook, t: SubmittedTx) -> Result<SoundBook, Refusal>
     Ok(b)
 }
 
-// The submissions of b in their order.
-fn offer_all_ready(b: SoundBook) -> Result<SoundBook, Refusal>
-    ensures { run_book queue_fee_readiness (view b.parts) ≡ outcome_by tt result }
+// The submissions of b in their order. The loop stands here, and without `?`: a function of its own would hand the book on in one more `Result`, by copies of it.
+pub fn queue_fee_readiness_sound(b: SoundBook) -> Reply<(), BookData>
+    ensures { result ≡ reply b.parts (run_book queue_fee_readiness (view b.parts)) }
 {
     let mut out = b;
     let retained = submitted(&b.parts);
     for t in retained {
-        out = offer_ready(out, *t)?;
+        match offer_ready(out, *t) {
+            Ok(next) => out = next,
+            Err(refusal) => return refused(b.parts, refusal),
+        }
     }
-    Ok(out)
-}
-
-pub fn queue_fee_readiness_sound(b: SoundBook) -> Reply<(), BookData>
-    ensures { result ≡ reply b.parts (run_book queue_fee_readiness (view b.parts)) }
-{
-    settled(b.parts, offer_all_ready(b), ())
+    done(out.parts, ())
 }
