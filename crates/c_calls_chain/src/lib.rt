@@ -37,7 +37,9 @@ pub fn causally_rolled_back_ids(book: &[u8], absent: &[u8], inputs: &[u8], answe
         return Refusal::NoBook as u8;
     }
     let r = causally_rolled_back_ids_sound(SoundBook { parts: h.book }, absent, inputs);
-    tell_ids(&r.answer, answer)
+    // Out of the reply, so that its book isn't made.
+    let said = r.answer;
+    tell_ids(&said, answer)
 }
 
 pub fn reconcile_chain_terminality(

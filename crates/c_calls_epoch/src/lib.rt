@@ -93,7 +93,9 @@ pub fn active_ids(book: &[u8], answer: &mut [u8]) -> u8
         return Refusal::NoBook as u8;
     }
     let r = active_ids_sound(SoundBook { parts: h.book });
-    tell_ids(&r.answer, answer)
+    // Out of the reply, so that its book isn't made.
+    let said = r.answer;
+    tell_ids(&said, answer)
 }
 
 pub fn retain_submitted(book: &mut [u8], removed: &[u64], answer: &mut [u8]) -> u8
