@@ -6,6 +6,7 @@ ghost use Rattle.rules.specs.Opened.{opened};
 ghost use Rattle.archive_form.specs.Parse.{read_archive};
 ghost use Rattle.c_boundary.specs.Held.{held_in};
 ghost use Rattle.c_boundary.specs.Settle.{GivesBook, written};
+ghost use Rattle.codec_forms.specs.Puts.{Room, Puts};
 ghost use Rattle.c_whole.specs.Whole.{GivesPlace, read_into, GivesLength, write_from};
 
 use archive_size::size_archive;
@@ -16,7 +17,7 @@ use book::{SubmissionId, Token};
 use c_read::held;
 use c_write::put_back;
 use call_open::open;
-use codec_forms::write::{put_bytes, put_number};
+use codec_forms::write::put_number;
 
 // An empty book with these two numbers.
 // Each function is one of the C interface: its parameters, and a refusal as a number, are what that has.
@@ -43,10 +44,21 @@ pub fn read_into(book: &mut [u8], archive: &[u8], place: &mut u64) -> u8
                 return Refusal::ShortBuffer as u8;
             }
             let at = put_number(&mut *book, 0, n as u64);
-            put_bytes(book, at, archive);
+            put_archive(book, at, archive);
             0
         }
     }
+}
+
+// By index: with `put_bytes`, a slice's own copy, the library for C would need memmove from outside too, and not just memcpy and memset.
+fn put_archive(out: &mut [u8], at: usize, src: &[u8]) -> usize
+    requires { Room src.now at out.old }
+    ensures { Puts src.now at out.old out.new result }
+{
+    for i in 0..src.len() {
+        out[at + i] = src[i];
+    }
+    at + src.len()
 }
 
 // The archive of the book, and its length.

@@ -12,10 +12,10 @@ returns-then-book-n c = read_short _ _ _ c.walk_archive.ensures (every_byte _ c.
 pub put_number-at-requires : goal.put_number-at-requires
 put_number-at-requires c = number_room _ _ 0 c.walk_archive.ensures (every_byte _ c.type_inv.archive) c.in-Ok.is c.if-book-n.false
 
-pub put_bytes-requires : goal.put_bytes-requires
-put_bytes-requires c = archive_room _ _ 0 c.walk_archive.ensures (every_byte _ c.type_inv.archive) c.in-Ok.is c.if-book-n.false c.put_number-at.ensures
+pub put_archive-requires : goal.put_archive-requires
+put_archive-requires c = archive_room _ _ 0 c.walk_archive.ensures (every_byte _ c.type_inv.archive) c.in-Ok.is c.if-book-n.false c.put_number-at.ensures
 
 pub returns-else-book-n : goal.returns-else-book-n
 returns-else-book-n c =
     read_whole _ _ _ c.walk_archive.ensures (every_byte _ c.type_inv.archive) c.in-Ok.is c.if-book-n.false c.put_number-at.ensures
-    c.put_bytes.ensures
+    c.put_archive.ensures
