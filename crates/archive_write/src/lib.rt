@@ -44,12 +44,7 @@ fn write_front(out: &mut [u8], b: BookData) -> usize
     );
     let retained = append_list(&mut out[at..], 0, &submitted[..n], append_submitted);
     let next = at + retained;
-    let queue = append_list(
-        &mut out[next..],
-        0,
-        &pending[..q],
-        append_delivery,
-    );
+    let queue = append_list(&mut out[next..], 0, &pending[..q], append_delivery);
     next + queue
 }
 
