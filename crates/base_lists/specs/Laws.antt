@@ -2,6 +2,7 @@
 use Rattle.std.specs.Prelude.{◌≡◌, refl, Bool, true, false, cond, not, ◌&&◌, ◌||◌, List, [], ◌∷◌, ◌++◌, map, ℕ, zero, suc, ◌+◌, ◌-◌, ◌<◌, ◌≤◌, min, eqb, ltb, leb, length, get_or, take, drop, set, replicate}
 use Rattle.std.proofs.Common.{sym, ap, ◌∙◌, append_assoc, append-nil, le_refl, add-one, arith, eqb-true, eq-eqb, ne_eqb, lt-ltb, ltb-true, leb-true, leb-false, length-append, length-take, length-set, length-drop, drop_of_length-le, take-append-drop, drop-cons, take-suc-set, get_or-take, length-take-le, take_at, drop_at, take_all}
 use Rattle.std.proofs.lemmas.Bool.{false≢true}
+use Rattle.std.proofs.Math.Bool.{and_assoc}
 use Rattle.std.proofs.Math.Dec.{leb-suc-suc}
 use Rattle.std.proofs.lemmas.List.{length-replicate, set-append_left}
 use Rattle.std.proofs.Math.Seq.{set-append_seam}
@@ -331,3 +332,9 @@ rising_above x z (y ∷ ys) h l =
 pub rising_distinct : (xs : List ℕ) → risingb xs ≡ true → distinctb xs ≡ true
 rising_distinct [] h = refl
 rising_distinct (x ∷ xs) h = and_both (ap not (rising_above x x xs h (le_refl _))) (rising_distinct xs (rising_rest x xs h))
+
+-- ---- a test of every element that does not leave early
+pub all_folded : {A : Type 0} (p : A → Bool) (b : Bool) (xs : List A) → fold (λ (ok : Bool) (x : A). ok && p x) b xs ≡ (b && list_all p xs)
+all_folded p true [] = refl
+all_folded p false [] = refl
+all_folded p b (x ∷ xs) = all_folded p (b && p x) xs ∙ and_assoc b (p x) (list_all p xs)

@@ -1,9 +1,9 @@
 // Tests over slices of numbers, each equal to a function of plain lists.
 #![tactic(auto)]
 
-ghost use Rattle.std.specs.Prelude.{◌≡◌, ltb};
+ghost use Rattle.std.specs.Prelude.{◌≡◌, ◌&&◌, Bool, ℕ, true, eqb, ltb};
 ghost use Rattle.base_lists.specs.Lists.{elemb, distinctb, risingb, is_zero, full_of};
-ghost use Rattle.std.specs.List.{list_all};
+ghost use Rattle.std.specs.List.{list_all, fold};
 
 pub fn contains(s: &[u64], x: u64) -> bool
     ensures { result ≡ elemb x s.now }
@@ -40,11 +40,17 @@ pub fn is_rising(s: &[u64]) -> bool
     true
 }
 
-// A chain and no `==` with an array of zeros: the definition asks each byte in the same way.
+// A fold and no `all`, which leaves at the first byte that fails and so goes byte by byte: this one is compiled to wide steps.
+fn zero_bytes_folded(a: &[u8]) -> bool
+    ensures { result ≡ fold (λ (ok : Bool) (x : ℕ). ok && eqb x 0) true a.now }
+{
+    a.iter().fold(true, |ok, x| ok & (*x == 0))
+}
+
 pub fn zero_bytes(a: &[u8]) -> bool
     ensures { result ≡ list_all is_zero a.now }
 {
-    a.iter().all(|x| *x == 0)
+    zero_bytes_folded(a)
 }
 
 pub fn zero_array<const N: usize>(a: &[u8; N]) -> bool
