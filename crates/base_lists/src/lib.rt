@@ -1,7 +1,7 @@
 // Tests over slices of numbers, each equal to a function of plain lists.
 #![tactic(auto)]
 
-ghost use Rattle.std.specs.Prelude.{◌≡◌, ◌&&◌, Bool, ℕ, true, eqb, ltb};
+ghost use Rattle.std.specs.Prelude.{◌≡◌, ◌&&◌, true, ltb};
 ghost use Rattle.base_lists.specs.Lists.{elemb, distinctb, risingb, is_zero, full_of};
 ghost use Rattle.std.specs.List.{list_all, fold};
 
@@ -41,8 +41,9 @@ pub fn is_rising(s: &[u64]) -> bool
 }
 
 // A fold and no `all`, which leaves at the first byte that fails and so goes byte by byte: this one is compiled to wide steps.
+// A function of its own, since the check finds this form alone, and `zero_bytes` what it amounts to by a law.
 fn zero_bytes_folded(a: &[u8]) -> bool
-    ensures { result ≡ fold (λ (ok : Bool) (x : ℕ). ok && eqb x 0) true a.now }
+    ensures { result ≡ fold (λ ok x. ok && is_zero x) true a.now }
 {
     a.iter().fold(true, |ok, x| ok & (*x == 0))
 }
