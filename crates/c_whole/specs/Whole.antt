@@ -1,5 +1,5 @@
 -- Opening a book from an archive, and writing its archive.
-use Rattle.std.specs.Prelude.{ℕ, ◌+◌, ◌≤◌, ◌<◌, ◌≡◌, Bool, List, [], ◌++◌, leb}
+use Rattle.std.specs.Prelude.{ℕ, ◌+◌, ◌≤◌, ◌<◌, ◌≡◌, Bool, false, List, [], ◌++◌, leb}
 use Rattle.std.proofs.Math.Path.{refl, ap}
 use Rattle.std.proofs.Common.{sym, ◌∙◌, subst, arith, length-append, le-leb}
 use Rattle.std.proofs.Math.Bool.{cond}
@@ -49,11 +49,11 @@ into_book : (d : List ℕ) (p : ℕ) {b : BookData} {x : ArchiveRead} {n : ℕ} 
 unfolding read_into
 into_book d p {b} {x} {n} {d'} q g = subst (λ (y : ArchiveRead). GivesPlace (read_into y d p) n d' p) (sym q) (record { number = g.number; book = g.book; place = refl })
 
--- where the walk agrees with the reader
-walk_broken : (d : List ℕ) (p at : ℕ) (x : ArchiveRead) → Agrees (Err at) (archive_answer x) → GivesPlace (read_into x d p) refusals.no_archive d at
+-- where the walk agrees with the reader; of a refusal its place is all that is asked
+walk_broken : (d : List ℕ) (p at : ℕ) (x : ArchiveRead) → false ≡ (archive_answer x).ok → at ≡ (archive_answer x).place → GivesPlace (read_into x d p) refusals.no_archive d at
 unfolding read_into
-walk_broken d p at (book b) a = absurd (false≢true a.ok)
-walk_broken d p at (broken k) a = record { number = refl; book = refl; place = a.place }
+walk_broken d p at (book b) e q = absurd (false≢true e)
+walk_broken d p at (broken k) e q = record { number = refl; book = refl; place = q }
 
 walk_book : (w : Walk) (x : ArchiveRead) → Agrees (Ok w) (archive_answer x) → (b : BookData) × (x ≡ book b)
 walk_book w (book b) a = (b, refl)
@@ -64,7 +64,7 @@ module _ (s d : List ℕ) (p : ℕ) {r : Result Walk ℕ} (e : r ≡ walked (par
   agrees q = subst (λ (v : Result Walk ℕ). Agrees v (archive_answer (read_archive s))) (sym e ∙ q) (walk_agrees s)
 
   pub read_broken : {at : ℕ} → r ≡ Err at → GivesPlace (read_into (read_archive s) d p) refusals.no_archive d at
-  read_broken {at} h = walk_broken d p at (read_archive s) (agrees h)
+  read_broken {at} h = let a = agrees h in walk_broken d p at (read_archive s) a.ok a.place
 
   -- an archive is what its book is written as
   module _ (t : Every U8 s) {w : Walk} (h : r ≡ Ok w) where

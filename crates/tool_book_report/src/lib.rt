@@ -5,7 +5,9 @@ use book::{BookData, PendingDelivery, ReplayEpoch, SubmittedTx};
 use std::io;
 use tool_book_summary::queue::is_new;
 use tool_book_summary::tally::{payment_of, totals};
-use tool_book_text::entry::{append_delivery, append_ids, append_submission, append_tokens};
+use tool_book_text::entry::{
+    append_delivery_by_index, append_ids, append_submission_by_index, append_tokens,
+};
 use tool_bundle_text::words::append_height;
 use tool_payments::Payment;
 use tool_payments::payments::queued_payment;
@@ -130,7 +132,7 @@ fn show_entries(
         show_text(
             rt,
             &mut room,
-            |out| append_submission(out, 0, i, submitted.len(), t),
+            |out| append_submission_by_index(out, 0, i, submitted.len(), t),
         )?;
     }
     for (i, d) in queue.iter().enumerate() {
@@ -138,7 +140,7 @@ fn show_entries(
         show_text(
             rt,
             &mut room,
-            |out| append_delivery(out, 0, i, queue.len(), d),
+            |out| append_delivery_by_index(out, 0, i, queue.len(), d),
         )?;
     }
     Ok(())

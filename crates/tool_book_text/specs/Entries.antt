@@ -51,15 +51,28 @@ entry_text f e =
     ++ variant_text e.state.current_variant
     ++ facts_text f e
 
--- the i-th of n, from 1 on
+-- the k-th of n
 unfoldable pub heading_text : List ℕ → ℕ → ℕ → List ℕ
 unfolding decimal number_line
-heading_text label i n = label ++ decimal (i + 1) ++ number_line (ascii " of ") n
+heading_text label k n = label ++ decimal k ++ number_line (ascii " of ") n
+
+-- the i-th of n, from 1 on: i is an index, and the number is the one behind it
+unfoldable pub heading_text_by_index : List ℕ → ℕ → ℕ → List ℕ
+unfolding decimal number_line
+heading_text_by_index label i n = label ++ decimal (i + 1) ++ number_line (ascii " of ") n
 
 unfoldable pub submission_text : ℕ → ℕ → SubmittedTx → List ℕ
 unfolding heading_text number_line slots_text entry_text fingerprints_of
-submission_text i n t =
-    heading_text (ascii "retained submission ") i n
+submission_text k n t =
+    heading_text (ascii "retained submission ") k n
+    ++ number_line (ascii "  id: ") t.entry.id.0
+    ++ slots_text (fingerprints_of t.entry) t.slots
+    ++ entry_text (fingerprints_of t.entry) t.entry
+
+unfoldable pub submission_text_by_index : ℕ → ℕ → SubmittedTx → List ℕ
+unfolding heading_text_by_index number_line slots_text entry_text fingerprints_of
+submission_text_by_index i n t =
+    heading_text_by_index (ascii "retained submission ") i n
     ++ number_line (ascii "  id: ") t.entry.id.0
     ++ slots_text (fingerprints_of t.entry) t.slots
     ++ entry_text (fingerprints_of t.entry) t.entry
@@ -74,8 +87,17 @@ intent_text p =
 
 unfoldable pub delivery_text : ℕ → ℕ → PendingDelivery → List ℕ
 unfolding heading_text intent_text trigger_text goal_text
-delivery_text i n d =
-    heading_text (ascii "queue entry ") i n
+delivery_text k n d =
+    heading_text (ascii "queue entry ") k n
+    ++ intent_text d.intent
+    ++ trigger_text d.trigger
+    ++ ascii "  goal: "
+    ++ goal_text d.goal
+
+unfoldable pub delivery_text_by_index : ℕ → ℕ → PendingDelivery → List ℕ
+unfolding heading_text_by_index intent_text trigger_text goal_text
+delivery_text_by_index i n d =
+    heading_text_by_index (ascii "queue entry ") i n
     ++ intent_text d.intent
     ++ trigger_text d.trigger
     ++ ascii "  goal: "

@@ -3,7 +3,7 @@ ghost use Rattle.std.specs.Prelude.{◌+◌};
 ghost use Rattle.codec_append.specs.Fits.{Fits};
 ghost use Rattle.codec_forms.specs.Wire.{enc_many};
 ghost use Rattle.tool_text.specs.Numbers.{decimal};
-ghost use Rattle.tool_book_text.specs.Entries.{attempt_text, slot_text, slots_text, facts_text, entry_text, heading_text, submission_text, intent_text, delivery_text, token_text, tokens_text, id_after_space, none_of, ids_text};
+ghost use Rattle.tool_book_text.specs.Entries.{attempt_text, slot_text, slots_text, facts_text, entry_text, heading_text, heading_text_by_index, submission_text, submission_text_by_index, intent_text, delivery_text, delivery_text_by_index, token_text, tokens_text, id_after_space, none_of, ids_text};
 
 use crate::Fingerprints;
 use crate::checked::{
@@ -118,23 +118,51 @@ fn append_next(out: &mut [u8], at: usize, i: usize) -> usize
     }
 }
 
+// The k-th of n, counted from 1, as a heading.
+fn append_heading(out: &mut [u8], at: usize, label: &[u8], k: usize, n: usize) -> usize
+    ensures { Fits (heading_text label.now k n) at out.old out.new result }
+{
+    let label_end = append_bytes(&mut *out, at, label);
+    let number_end = append_decimal(&mut *out, label_end, k as u64);
+    append_number_line(out, number_end, b" of ", n as u64)
+}
+
 // The i-th of n, counted from 0, as a heading that counts from 1.
-fn append_heading(out: &mut [u8], at: usize, label: &[u8], i: usize, n: usize) -> usize
-    ensures { Fits (heading_text label.now i n) at out.old out.new result }
+fn append_heading_by_index(out: &mut [u8], at: usize, label: &[u8], i: usize, n: usize) -> usize
+    ensures { Fits (heading_text_by_index label.now i n) at out.old out.new result }
 {
     let label_end = append_bytes(&mut *out, at, label);
     let number_end = append_next(&mut *out, label_end, i);
     append_number_line(out, number_end, b" of ", n as u64)
 }
 
-// A retained submission, the i-th of n.
-pub fn append_submission(out: &mut [u8], at: usize, i: usize, n: usize, t: &SubmittedTx) -> usize
-    ensures { Fits (submission_text i n t.now) at out.old out.new result }
+// A retained submission, the k-th of n.
+pub fn append_submission(out: &mut [u8], at: usize, k: usize, n: usize, t: &SubmittedTx) -> usize
+    ensures { Fits (submission_text k n t.now) at out.old out.new result }
 {
     let slots = t.slots;
     let entry = t.entry;
     let f = fingerprints_of(entry);
-    let heading_end = append_heading(&mut *out, at, b"retained submission ", i, n);
+    let heading_end = append_heading(&mut *out, at, b"retained submission ", k, n);
+    let id_end = append_number_line(&mut *out, heading_end, b"  id: ", t.entry.id.0);
+    let slots_end = append_slots(&mut *out, id_end, f, slots);
+    append_entry(out, slots_end, f, entry)
+}
+
+// A retained submission, the i-th of n.
+pub fn append_submission_by_index(
+    out: &mut [u8],
+    at: usize,
+    i: usize,
+    n: usize,
+    t: &SubmittedTx,
+) -> usize
+    ensures { Fits (submission_text_by_index i n t.now) at out.old out.new result }
+{
+    let slots = t.slots;
+    let entry = t.entry;
+    let f = fingerprints_of(entry);
+    let heading_end = append_heading_by_index(&mut *out, at, b"retained submission ", i, n);
     let id_end = append_number_line(&mut *out, heading_end, b"  id: ", t.entry.id.0);
     let slots_end = append_slots(&mut *out, id_end, f, slots);
     append_entry(out, slots_end, f, entry)
@@ -154,14 +182,34 @@ fn append_intent(out: &mut [u8], at: usize, p: PendingSubmissionIntent) -> usize
     append_fee_intent(out, expiry_end, fee_intent)
 }
 
-// A queue entry, the i-th of n.
-pub fn append_delivery(out: &mut [u8], at: usize, i: usize, n: usize, d: &PendingDelivery) -> usize
-    ensures { Fits (delivery_text i n d.now) at out.old out.new result }
+// A queue entry, the k-th of n.
+pub fn append_delivery(out: &mut [u8], at: usize, k: usize, n: usize, d: &PendingDelivery) -> usize
+    ensures { Fits (delivery_text k n d.now) at out.old out.new result }
 {
     let intent = d.intent;
     let trigger = d.trigger;
     let goal = d.goal;
-    let heading_end = append_heading(&mut *out, at, b"queue entry ", i, n);
+    let heading_end = append_heading(&mut *out, at, b"queue entry ", k, n);
+    let intent_end = append_intent(&mut *out, heading_end, intent);
+    let trigger_end = append_trigger(&mut *out, intent_end, trigger);
+    let word_end = append_bytes(&mut *out, trigger_end, b"  goal: ");
+    append_goal(out, word_end, goal)
+}
+
+// A queue entry, the i-th of n.
+pub fn append_delivery_by_index(
+    out: &mut [u8],
+    at: usize,
+    i: usize,
+    n: usize,
+    d: &PendingDelivery,
+) -> usize
+    ensures { Fits (delivery_text_by_index i n d.now) at out.old out.new result }
+{
+    let intent = d.intent;
+    let trigger = d.trigger;
+    let goal = d.goal;
+    let heading_end = append_heading_by_index(&mut *out, at, b"queue entry ", i, n);
     let intent_end = append_intent(&mut *out, heading_end, intent);
     let trigger_end = append_trigger(&mut *out, intent_end, trigger);
     let word_end = append_bytes(&mut *out, trigger_end, b"  goal: ");

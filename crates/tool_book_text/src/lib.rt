@@ -5,6 +5,8 @@
 
 pub mod checked;
 pub mod entry;
+#[cfg(test)]
+mod tests;
 
 // The variant fingerprints of a submission, recomputed.
 #[derive(Clone, Copy)]

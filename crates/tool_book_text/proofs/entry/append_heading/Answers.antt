@@ -6,5 +6,5 @@ use Rattle.tool_book_text.proofs.entry.append_heading.Goals as goal
 pub returns : goal.returns
 unfolding heading_text
 returns c =
-    fits_join (fits_join c.append_bytes-label_end.ensures c.append_next-number_end.ensures)
+    fits_join (fits_join c.append_bytes-label_end.ensures c.append_decimal-number_end.ensures)
     c.append_number_line.ensures
