@@ -49,7 +49,7 @@ into_book : (d : List ℕ) (p : ℕ) {b : BookData} {x : ArchiveRead} {n : ℕ} 
 unfolding read_into
 into_book d p {b} {x} {n} {d'} q g = subst (λ (y : ArchiveRead). GivesPlace (read_into y d p) n d' p) (sym q) (record { number = g.number; book = g.book; place = refl })
 
--- where the walk agrees with the reader; of a refusal its place is all that is asked
+-- where the walk agrees with the reader, of a refusal in mark and place
 walk_broken : (d : List ℕ) (p at : ℕ) (x : ArchiveRead) → false ≡ (archive_answer x).ok → at ≡ (archive_answer x).place → GivesPlace (read_into x d p) refusals.no_archive d at
 unfolding read_into
 walk_broken d p at (book b) e q = absurd (false≢true e)

@@ -127,6 +127,15 @@ unfoldable pub ids_text : List ℕ → List ℕ → List ℕ
 unfolding enc_many id_after_space
 ids_text label l = label ++ none_of l ++ enc_many id_after_space l ++ ascii "\n"
 
+-- ---- the text at an index is that of the number behind it
+pub submission_numbered : (i n : ℕ) (t : SubmittedTx) → submission_text_by_index i n t ≡ submission_text (i + 1) n t
+unfolding submission_text_by_index submission_text heading_text_by_index heading_text
+submission_numbered i n t = refl
+
+pub delivery_numbered : (i n : ℕ) (d : PendingDelivery) → delivery_text_by_index i n d ≡ delivery_text (i + 1) n d
+unfolding delivery_text_by_index delivery_text heading_text_by_index heading_text
+delivery_numbered i n d = refl
+
 -- ---- by the length
 pub none_some : (l : List ℕ) → (length l ≡ 0 → ⊥) → [] ≡ none_of l
 none_some [] h = absurd (h refl)

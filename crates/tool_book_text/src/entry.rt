@@ -149,7 +149,7 @@ pub fn append_submission(out: &mut [u8], at: usize, k: usize, n: usize, t: &Subm
     append_entry(out, slots_end, f, entry)
 }
 
-// A retained submission, the i-th of n.
+// A retained submission, the i-th of n counted from 0.
 pub fn append_submission_by_index(
     out: &mut [u8],
     at: usize,
@@ -196,7 +196,7 @@ pub fn append_delivery(out: &mut [u8], at: usize, k: usize, n: usize, d: &Pendin
     append_goal(out, word_end, goal)
 }
 
-// A queue entry, the i-th of n.
+// A queue entry, the i-th of n counted from 0.
 pub fn append_delivery_by_index(
     out: &mut [u8],
     at: usize,
